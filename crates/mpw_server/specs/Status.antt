@@ -1,5 +1,6 @@
 -- The exit status of a service by how it ended.
 use Rattle.std.specs.Prelude.{◌≡◌, ℕ, Result, Ok, Err}
+use Rattle.mpw_stored_script.specs.Status as stored
 use Rattle.mpw_server.specs.declared.fault.ServeFault.{ServeFault}
 use Rattle.mpw_server.specs.declared.fault.ServeFault.TheVariants as serving
 use Rattle.mpw_server.specs.declared.fault.ServiceFault.{ServiceFault}
@@ -12,8 +13,9 @@ status_of_serving serving.Full = 3
 status_of_serving serving.Thread = 5
 status_of_serving serving.Memory = 5
 
--- 3 where a device failed, 4 where the passes don't account for every call, 5 where memory is wanting
+-- 3 where a store or a device failed, 4 where the passes don't account for every call, 5 where memory is wanting
 abbrev pub status_of : ServiceFault → ℕ
+status_of (service.Store fault) = stored.status_of fault
 status_of service.Memory = 5
 status_of service.Log = 3
 status_of service.Bind = 3

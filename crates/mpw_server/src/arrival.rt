@@ -66,15 +66,15 @@ impl<N: Room> Arrival<N> {
         }
     }
 
-    /// Serves the connection until it ends, closes it, and gives its pass back. Where there is no room for its buffers it is closed at
-    /// once.
+    /// Serves the connection until it ends, closes it, and gives its pass back with whether it was told that the desk is closed. Where there is no room
+    /// for its buffers it is closed at once.
     pub(crate) fn serve<H: Handler + Drop, K: Keeper + Drop, R: Wait + Clock>(
         self,
         rt: &R,
         alloc: Global,
         shared: &Shared<H, K, N>,
         log: &Log,
-    ) -> Pass<N> {
+    ) -> (Pass<N>, bool) {
         let peer = self.peer();
         log.note_connection(rt, alloc, "begin", peer, shared.calls(rt));
         let (stream, pass) = self.into_parts();
@@ -82,7 +82,7 @@ impl<N: Room> Arrival<N> {
         let pass = serve_taken_down(rt, alloc, shared, &scribe, (&stream, pass));
         drop(stream);
         log.note_connection(rt, alloc, "end", peer, shared.calls(rt));
-        pass
+        (pass, scribe.was_told_closed())
     }
 
     /// The socket and the pass.

@@ -5,6 +5,7 @@ ghost use Rattle.mpw_server.specs.declared.fault.ServeFault.TheVariants.{Memory}
 ghost use Rattle.mpw_server.specs.declared.fault.ServiceFault.TheVariants as service;
 
 use mpw_desk::Mismatch;
+use mpw_stored_script::StoredFault;
 use std::alloc::AllocError;
 use thiserror::Error;
 
@@ -45,9 +46,12 @@ impl ServeFault {
     }
 }
 
-/// Why a service gives no number of calls, in the order in which the faults are found.
-#[derive(Clone, Copy, PartialEq, Eq, Debug, Error)]
+/// Why a service doesn't end well. That a change could not be kept is told before each other fault; the others stand in the order in which they are found.
+#[derive(Clone, Copy, Debug, Error)]
 pub enum ServiceFault {
+    /// The store isn't opened, its rows lead to no desk, or a change could not be kept, which closed the desk.
+    #[error("{0}")]
+    Store(StoredFault),
     /// There is no room for the new desk.
     #[error("error: out of memory")]
     Memory,
@@ -76,6 +80,14 @@ impl From<AllocError> for ServiceFault {
     }
 }
 
+impl From<StoredFault> for ServiceFault {
+    ghost from_gives = { λ stored fault. fault ≡ service.Store stored };
+
+    fn from(fault: StoredFault) -> ServiceFault {
+        ServiceFault::Store(fault)
+    }
+}
+
 impl From<ServeFault> for ServiceFault {
     ghost from_gives = { λ serving fault. fault ≡ service.Serve serving };
 
@@ -93,12 +105,13 @@ impl From<Mismatch> for ServiceFault {
 }
 
 impl ServiceFault {
-    /// The exit status: 3 where the log can't be opened, the address can't be bound, the standard output failed, a connection can't be accepted or no pass is left; 4
-    /// where the passes don't account for every call; 5 where memory or a thread is wanting.
+    /// The exit status: 3 where a store or a device failed, the address can't be bound, a connection can't be accepted or no pass is left; 4 where the passes
+    /// don't account for every call; 5 where memory or a thread is wanting.
     pub fn status(self) -> u8
         ensures { result ≡ status_of self }
     {
         match self {
+            ServiceFault::Store(fault) => fault.status(),
             ServiceFault::Log | ServiceFault::Bind | ServiceFault::Print => 3,
             ServiceFault::Serve(fault) => fault.status(),
             ServiceFault::Mismatch => 4,

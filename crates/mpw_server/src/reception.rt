@@ -237,8 +237,12 @@ impl<N: Room> Reception<N> {
         self.waiting.lock(rt).is_closed
     }
 
-    /// What a thread lacked, where one did.
-    pub(crate) fn fault<R: Wait>(&self, rt: &R) -> Option<ServeFault> {
-        self.waiting.lock(rt).fault
+    /// How the service ended, as its threads tell it: what one of them lacked, or memory, where there was no room for all passes.
+    pub(crate) fn outcome<R: Wait>(&self, rt: &R, has_all_passes: bool) -> Result<(), ServeFault> {
+        match self.waiting.lock(rt).fault {
+            Some(fault) => Err(fault),
+            None if has_all_passes => Ok(()),
+            None => Err(ServeFault::Memory),
+        }
     }
 }

@@ -6,8 +6,10 @@ use crate::log::Log;
 use crate::reception::Reception;
 use mpw_core::Core;
 use mpw_desk::{Pass, Room, Shared};
-use mpw_events::{Handler, Keeper, NoKeeper};
+use mpw_events::{Handler, Keeper};
 use mpw_job::Gate;
+use mpw_keeper::OptionalKeeper;
+use sqlite::{FileFrom, FileStore, Wary};
 use std::alloc::Global;
 use std::io::{self, ErrorKind};
 use std::net::{Net, TcpListener, TcpStream};
@@ -17,6 +19,12 @@ use std::time::{Clock, Duration};
 
 /// How often a call of the system that was broken off is made in all.
 const TRIES: u32 = 16;
+
+/// How the file of a service's store is held.
+pub type ServedFile = FileStore<FileFrom<Wary>>;
+
+/// What keeps the changes of a service's desk: the store, where there is one.
+pub type ServedKeeper = OptionalKeeper<ServedFile>;
 
 /// How many serve and work, and how long.
 #[derive(Clone, Copy)]
@@ -64,6 +72,15 @@ impl<'a> Opening<'a> {
         } = self;
         (listener, staff, log)
     }
+}
+
+/// The passes that came back from a service, and whether it ended well.
+#[derive(Drop)]
+pub struct Gathered<N: Room> {
+    /// Those of its connections and its workers; where memory was wanting for them, some are missing.
+    pub passes: Vec<Pass<N>>,
+    /// Why it ended early, where it did.
+    pub ended: Result<(), ServeFault>,
 }
 
 /// Accepts a connection, again where the call was broken off.
@@ -141,7 +158,7 @@ where
 }
 
 /// Serves connections, one after the other, until none arrives any more, and gives their passes. Where the desk has answered all its calls, or
-/// there is no room for a further pass, the service is ended.
+/// a connection was told that it is closed, or there is no room for a further pass, the service is ended.
 fn serve_arrivals<H, K, N, R>(
     rt: &R,
     alloc: Global,
@@ -164,12 +181,12 @@ where
             return passes;
         };
         let connection = arrival.connection();
-        let pass = arrival.serve(rt, alloc, shared, log);
+        let (pass, was_closed) = arrival.serve(rt, alloc, shared, log);
         reception.note_end(rt, connection);
         if passes.push(pass).is_err() {
             reception.end(rt, Some(ServeFault::Memory));
         }
-        if shared.calls(rt) >= reception.calls() {
+        if was_closed || shared.calls(rt) >= reception.calls() {
             reception.end(rt, None);
         }
     }
@@ -244,28 +261,36 @@ fn add_all<N: Room>(passes: &mut Vec<Pass<N>>, more: Vec<Pass<N>>) -> bool {
 }
 
 /// Serves the connections that the listener accepts, and works runs off, each in threads of their own, until as many connections ended
-/// as are served in all, or, where the service is ongoing, until the desk has answered all its calls. Then the workers work off what is left,
-/// and the passes are given back for [`Shared::finish`]. The listener is closed after the last connection was accepted.
+/// as are served in all, or, where the service is ongoing, until the desk has answered all its calls. It ends as well behind a connection that was told
+/// that the desk is closed. Then the workers work off what is left, and the passes are given back for [`Shared::finish`]. The listener is closed after
+/// the last connection was accepted.
 ///
-/// # Errors
-/// Where a connection can't be accepted, no pass is left, a thread can't be started, or memory is wanting. Connections are then ended, the
-/// workers are stopped, all threads are joined, and no pass is given back.
+/// It ends early where a connection can't be accepted, no pass is left, a thread can't be started, or memory is wanting. Connections are then ended, the
+/// workers are stopped, and all threads are joined.
 pub fn serve<N, R>(
     rt: &R,
     alloc: Global,
-    shared: &Shared<Core, NoKeeper, N>,
+    shared: &Shared<Core, ServedKeeper, N>,
     opening: Opening<'_>,
-) -> Result<Vec<Pass<N>>, ServeFault>
+) -> Gathered<N>
 where
     N: Room + Send + Sync,
     R: Threads + Wait + Clock + Net<Listener = TcpListener, Stream = TcpStream> + Sync,
 {
     let (listener, staff, log) = opening.into_parts();
     let Ok(address) = listener.local_addr() else {
-        return Err(ServeFault::Accept);
+        return Gathered {
+            passes: Vec::new(alloc),
+            ended: Err(ServeFault::Accept),
+        };
     };
-    let reception: Reception<N> = Reception::new(alloc, address, staff)?;
-    let reception = &reception;
+    let Ok(reception) = Reception::new(alloc, address, staff) else {
+        return Gathered {
+            passes: Vec::new(alloc),
+            ended: Err(ServeFault::Memory),
+        };
+    };
+    let reception: &Reception<N> = &reception;
     thread::scope(thread::scope_env(), rt, |scope| {
         let mut threads = Vec::new(alloc);
         let mut ended = Ok(());
@@ -298,14 +323,9 @@ where
         for handle in threads {
             is_whole &= add_all(&mut passes, handle.join(rt));
         }
-        ended?;
-        if let Some(fault) = reception.fault(rt) {
-            return Err(fault);
+        if ended.is_ok() {
+            ended = reception.outcome(rt, is_whole);
         }
-        if is_whole {
-            Ok(passes)
-        } else {
-            Err(ServeFault::Memory)
-        }
+        Gathered { passes, ended }
     })
 }

@@ -1,0 +1,138 @@
+-- How a service over a store ends, and what the store's rows tell then.
+use Rattle.std.proofs.Common.{◌≡◌, ◌↔◌, ◌∙◌, ℕ, List, [], ◌++◌, Option, None, Some, Result, Ok, Err, IsTrue, refl, sym, ap, subst, append-nil}
+use Rattle.sqlite.specs.State.{HasCleanDisk, State}
+use Rattle.mpw_events.specs.declared.keeper.KeptChange.{KeptChange}
+use Rattle.mpw_events.specs.GoingOn.{GoesOnTo, changes_of}
+use Rattle.mpw_events.specs.History.{Desk, KeptDesk, kept_desk, state_of}
+use Rattle.mpw_events.specs.Keeping.{Grows}
+use Rattle.mpw_keeper.specs.Kept.{IsKeptIn, Keeping, changes_in, failures_of, kept_by}
+use Rattle.mpw_settings.specs.declared.officer.Officer.{Officer}
+use Rattle.mpw_store.specs.declared.fault.StoreFault.{StoreFault}
+use Rattle.mpw_stored_script.specs.declared.fault.StoredFault.TheVariants.{Closed}
+use Rattle.mpw_server.specs.Stored.{BeginsOver, Ends, GoesOnStored, HasStored, Leaves, StoresItsChanges}
+use Rattle.mpw_server.specs.declared.fault.ServiceFault.{ServiceFault}
+use Rattle.mpw_server.specs.declared.fault.ServiceFault.TheVariants as service
+
+-- ---- the rows at the end
+
+same-list : (a b : List KeptChange) → Some a ≡ Some b → a ≡ b
+same-list a b e = cc
+
+-- a list that is known at the end was known before, and has just the further changes behind it
+known-before : (old new : Option (List KeptChange)) (now more : List KeptChange) → new ≡ Some now
+    → Grows old new more → (known : List KeptChange) × (old ≡ Some known) × (now ≡ known ++ more)
+known-before None None now more is grows = absurd (cc)
+known-before None (Some new) now more is grows = absurd grows
+known-before (Some old) None now more is grows = absurd (cc)
+known-before (Some old) (Some new) now more is grows =
+    (old, refl, sym (same-list new now is) ∙ grows)
+
+goes_on : (officer : Officer) (s s' : State) (begun left : KeptDesk) → BeginsOver officer s begun
+    → GoesOnTo begun left → IsKeptIn s' left.kept → GoesOnStored officer s s'
+goes_on officer s s' begun left begins goes is_kept =
+    let before = known-before begun.kept left.kept (changes_in is_kept.entries)
+    (changes_of (state_of begun.desk) goes.calls) is_kept.is goes.grows in
+    record {
+      desk = begun.desk;
+      known = before.0;
+      begins = begins.begins before.0 before.1;
+      calls = goes.calls;
+      ready = is_kept.ready;
+      entries = is_kept.entries;
+      rows = is_kept.rows;
+      told = before.2;
+    }
+
+pub stores_its_changes : (s s' : State) → StoresItsChanges s s'
+stores_its_changes s s' officer begun ended begins ends clean is_open =
+    goes_on officer s s' begun ends.left begins ends.goes (ends.comes.stored clean is_open)
+
+-- ---- a keeper's store
+
+pub told_by : (keeper : Option Keeping) (keeping : Keeping) (fault : Option StoreFault)
+    → Some keeping ≡ keeper → (fault ≡ None) ↔ (keeping.failures ≡ 0)
+    → (fault ≡ None) ↔ (failures_of keeper ≡ 0)
+told_by keeper keeping fault is told =
+    subst (λ k. (fault ≡ None) ↔ (failures_of k ≡ 0)) is told
+
+pub told_of_none : (keeper : Option Keeping) (fault : Option StoreFault) → fault ≡ None
+    → None ≡ keeper → (fault ≡ None) ↔ (failures_of keeper ≡ 0)
+told_of_none keeper fault none is =
+    subst (λ k. (fault ≡ None) ↔ (failures_of k ≡ 0)) is (λ _. refl, λ _. none)
+
+pub stored_by : (keeper : Option Keeping) (keeping : Keeping) (s : State) (fault : Option StoreFault)
+    → Some keeping ≡ keeper → (HasCleanDisk s → IsTrue s.is_open → IsKeptIn s keeping.kept)
+    → (HasCleanDisk s → keeping.fault ≡ None → IsTrue s.is_open) → fault ≡ keeping.fault
+    → HasStored s (kept_by keeper) fault
+stored_by keeper keeping s fault is rows opens same =
+    subst (λ k. HasStored s (kept_by k) fault) is
+    (record { stored = rows; is_open = λ clean none. opens clean (sym same ∙ none) })
+
+pub nothing_kept : (keeper : Option Keeping) → None ≡ keeper → kept_by keeper ≡ None
+nothing_kept keeper is = sym (ap kept_by is)
+
+-- ---- the ends
+
+stays : (desk : Desk) → desk ≡ record desk { history = desk.history ++ [] }
+stays desk = ap (λ calls. record desk { history = calls }) (sym (append-nil desk.history))
+
+grows-to-itself : (kept : Option (List KeptChange)) → Grows kept kept []
+grows-to-itself None = tt
+grows-to-itself (Some known) = sym (append-nil known)
+
+grows-to-none : (kept : Option (List KeptChange)) → Grows kept None []
+grows-to-none None = tt
+grows-to-none (Some known) = tt
+
+none-is-some : (why : StoreFault) → None ≡ Some why → ⊥
+none-is-some why is = cc
+
+err-is-ok : (ended : Result (Unit {0}) ServiceFault) (told : ServiceFault) → ended ≡ Err told
+    → ended ≡ Ok tt → ⊥
+err-is-ok ended told is well = cc
+
+-- a desk that wasn't shared, of which each change was kept
+pub ends_unshared : (desk : Desk) (kept : Option (List KeptChange)) (failures : ℕ)
+    (fault : Option StoreFault) (Comes : Option (List KeptChange) → Option StoreFault → Type 0)
+    (told : ServiceFault) → failures ≡ 0 → (fault ≡ None) ↔ (failures ≡ 0) → Comes kept fault
+    → Ends (kept_desk desk kept failures) (Err told) Comes
+ends_unshared desk kept failures fault Comes told whole tells comes = record {
+  left = kept_desk desk kept failures;
+  goes = record { calls = []; added = stays desk; grows = grows-to-itself kept };
+  fault = fault;
+  told = tells;
+  comes = comes;
+  well = λ is. absurd (err-is-ok (Err told) told refl is);
+  closed = λ why is. absurd (none-is-some why (sym (tells.1 whole) ∙ is));
+}
+
+-- a desk that didn't come back
+pub ends_lost : (desk : Desk) (kept : Option (List KeptChange)) (failures : ℕ)
+    (Comes : Option (List KeptChange) → Option StoreFault → Type 0) (told : ServiceFault)
+    → Comes None None → Ends (kept_desk desk kept failures) (Err told) Comes
+ends_lost desk kept failures Comes told comes = record {
+  left = kept_desk desk None 0;
+  goes = record { calls = []; added = stays desk; grows = grows-to-none kept };
+  fault = None;
+  told = (λ _. refl, λ _. refl);
+  comes = comes;
+  well = λ _. refl;
+  closed = λ why is. absurd (none-is-some why is);
+}
+
+-- a desk that came back
+pub ends_by : (begun : KeptDesk) (calls : ℕ) (fault : Option StoreFault)
+    (Comes : Option (List KeptChange) → Option StoreFault → Type 0)
+    (ended : Result (Unit {0}) ServiceFault) → Leaves begun calls fault Comes
+    → (ended ≡ Ok tt → fault ≡ None)
+    → ((why : StoreFault) → fault ≡ Some why → ended ≡ Err (service.Store (Closed why)))
+    → Ends begun ended Comes
+ends_by begun calls fault Comes ended leaves well closed = record {
+  left = leaves.left;
+  goes = leaves.goes;
+  fault = fault;
+  told = leaves.told;
+  comes = leaves.comes;
+  well = well;
+  closed = closed;
+}

@@ -1,0 +1,41 @@
+use Rattle.std.proofs.Common.{◌≡◌, ◌∙◌, ap, subst, sym}
+use Rattle.sqlite.specs.Held.{state}
+use Rattle.mpw_keeper.specs.Kept.{failures_of, kept_by, kept_in}
+use Rattle.mpw_reopen.proofs.ClosingLemmas.{clean-before}
+use Rattle.mpw_stored_script.proofs.ServingLemmas.{begins, holds, known_clean, unopened_by}
+use Rattle.mpw_stored_script.specs.Serving.{IsUnopened}
+use Rattle.mpw_stored_script.specs.declared.fault.StoredFault.TheVariants.{File}
+use Rattle.mpw_server.proofs.desk.begin_over.Goals as goal
+
+pub new-requires : goal.new-requires
+new-requires g c clean =
+    let old = state g.S.Store c.args.conn in
+    let opened = state g.S.Store c.reopen.new.conn in
+    let idle = c.requires (clean-before old opened c.in-Ok.ensures.clean clean) in
+    holds c.args.officer.name c.args.officer.digest old opened
+    (g.H.Handler.desk c.in-Ok.reopened.core.value) c.in-Ok.reopened.rows (c.in-Ok.ensures.ok clean idle)
+
+pub returns-in-Some-clause-begins : goal.returns-in-Some-clause-begins
+returns-in-Some-clause-begins g c =
+    let old = state g.S.Store c.args.conn in
+    let opened = state g.S.Store c.reopen.new.conn in
+    let rows = c.in-Ok.reopened.rows in
+    let desk = g.H.Handler.desk c.in-Ok.reopened.core.value in
+    let kept : kept_by c.of-keeper.result ≡ kept_in opened rows =
+    ap kept_by c.of-keeper.ensures ∙ c.new.ensures.kept in
+    record {
+      begins = λ known is.
+          let now = sym kept ∙ is in
+          let clean = known_clean opened rows known now in
+          let idle = c.requires (clean-before old opened c.in-Ok.ensures.clean clean) in
+          begins c.args.officer old opened desk rows known clean (c.in-Ok.ensures.ok clean idle) now;
+      whole = ap failures_of c.of-keeper.ensures ∙ c.new.ensures.failures;
+    }
+
+pub returns-in-Err-clause-unopened : goal.returns-in-Err-clause-unopened
+returns-in-Err-clause-unopened g c =
+    let old = state g.S.Store c.args.conn in
+    let new = state g.S.Store c.reopen.new.conn in
+    subst (IsUnopened c.args.officer old new) (sym (c.from-in-Err.ensures ∙ ap File c.from.ensures))
+    (unopened_by c.args.officer old new c.in-Err.fault (λ clean.
+    c.in-Err.ensures.rows clean (c.requires (clean-before old new c.in-Err.ensures.clean clean))))

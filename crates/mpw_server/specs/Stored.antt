@@ -1,0 +1,86 @@
+-- A service over the desk of a store.
+use Rattle.std.specs.Prelude.{◌≡◌, ◌↔◌, ℕ, List, ◌++◌, length, Option, None, Some, Result, Ok, Err, IsTrue}
+use Rattle.sqlite.specs.State.{HasCleanDisk, State}
+use Rattle.mpw_events.specs.declared.event.Call.{Call}
+use Rattle.mpw_events.specs.declared.keeper.KeptChange.{KeptChange}
+use Rattle.mpw_events.specs.GoingOn.{GoesOnTo, changes_of}
+use Rattle.mpw_events.specs.History.{Desk, KeptDesk, state_of}
+use Rattle.mpw_keeper.specs.Kept.{IsKeptIn, changes_in}
+use Rattle.mpw_settings.specs.declared.officer.Officer.{Officer}
+use Rattle.mpw_store.specs.Changes.{HasRows, IsReady}
+use Rattle.mpw_store.specs.declared.fault.StoreFault.{StoreFault}
+use Rattle.mpw_stored_rows.specs.Rows.{Entry}
+use Rattle.mpw_stored_script.specs.Serving.{BeginsWith}
+use Rattle.mpw_stored_script.specs.declared.fault.StoredFault.{StoredFault}
+use Rattle.mpw_stored_script.specs.declared.fault.StoredFault.TheVariants.{Closed}
+use Rattle.mpw_server.specs.declared.fault.ServiceFault.{ServiceFault}
+use Rattle.mpw_server.specs.declared.fault.ServiceFault.TheVariants as service
+
+-- a desk that is shared is what the store's rows lead to; where its keeper's list is known, it begins with their changes, and nothing has
+-- failed to be kept
+pub record BeginsOver (officer : Officer) (s : State) (begun : KeptDesk) : Type 0 where
+  pub begins : (known : List KeptChange) → begun.kept ≡ Some known
+      → BeginsWith officer s begun.desk known
+  pub whole : begun.failures ≡ 0
+
+-- a store has just the changes that are kept, while the disk is clean and the database open, as it is where each change could be kept
+pub record HasStored (s : State) (kept : Option (List KeptChange)) (fault : Option StoreFault) :
+    Type 0 where
+  pub stored : HasCleanDisk s → IsTrue s.is_open → IsKeptIn s kept
+  pub is_open : HasCleanDisk s → fault ≡ None → IsTrue s.is_open
+
+-- so has the store that a desk comes back with; where it comes back with none, nothing is known to be kept
+abbrev pub ComesBack : {A : Type 0} → Option A → (A → State) → Option (List KeptChange)
+    → Option StoreFault → Type 0
+ComesBack None shown kept fault = kept ≡ None
+ComesBack (Some conn) shown kept fault = HasStored (shown conn) kept fault
+
+-- a desk that was shared comes back with so many calls, and with such a store: it went on by calls, and its keeper has just their changes
+-- behind those before; there is a fault just where a change could not be kept
+pub record Leaves (begun : KeptDesk) (calls : ℕ) (fault : Option StoreFault)
+    (Comes : Option (List KeptChange) → Option StoreFault → Type 0) : Type 0 where
+  pub left : KeptDesk
+  pub goes : GoesOnTo begun left
+  pub counted : calls ≡ length left.desk.history
+  pub told : (fault ≡ None) ↔ (left.failures ≡ 0)
+  pub comes : Comes left.kept fault
+
+-- how a service ends that began with a desk: that went on by calls, and such a store is given back. Where it ends well each change was kept; and
+-- where one could not be, that is what is told
+pub record Ends (begun : KeptDesk) (ended : Result (Unit {0}) ServiceFault)
+    (Comes : Option (List KeptChange) → Option StoreFault → Type 0) : Type 0 where
+  pub left : KeptDesk
+  pub goes : GoesOnTo begun left
+  pub fault : Option StoreFault
+  pub told : (fault ≡ None) ↔ (left.failures ≡ 0)
+  pub comes : Comes left.kept fault
+  pub well : ended ≡ Ok tt → fault ≡ None
+  pub closed : (why : StoreFault) → fault ≡ Some why → ended ≡ Err (service.Store (Closed why))
+
+-- a service over a store: its rows lead to no desk, which is told with such a reason; or the service begins with the desk that they lead to, and
+-- ends
+pub data EndsOver (officer : Officer) (s : State) (IsReason : StoredFault → Type 0)
+    (Comes : Option (List KeptChange) → Option StoreFault → Type 0) :
+    Result (Unit {0}) ServiceFault → Type 0 where
+  unopened : (fault : StoredFault) → IsReason fault
+      → EndsOver officer s IsReason Comes (Err (service.Store fault))
+  opened : (begun : KeptDesk) (ended : Result (Unit {0}) ServiceFault) → BeginsOver officer s begun
+      → Ends begun ended Comes → EndsOver officer s IsReason Comes ended
+
+-- the rows that a service over a store leaves tell, in order, the changes that its store had, with the ends of the sessions that were open, and
+-- then those that the service's calls had kept
+pub record GoesOnStored (officer : Officer) (s s' : State) : Type 0 where
+  pub desk : Desk
+  pub known : List KeptChange
+  pub begins : BeginsWith officer s desk known
+  pub calls : List Call
+  pub ready : IsReady s'
+  pub entries : List Entry
+  pub rows : HasRows s'.now.trees entries
+  pub told : changes_in entries ≡ known ++ changes_of (state_of desk) calls
+
+abbrev pub StoresItsChanges : State → State → Type 0
+StoresItsChanges s s' = (officer : Officer) (begun : KeptDesk)
+    (ended : Result (Unit {0}) ServiceFault) → BeginsOver officer s begun
+    → Ends begun ended (HasStored s') → HasCleanDisk s' → IsTrue s'.is_open
+    → GoesOnStored officer s s'
