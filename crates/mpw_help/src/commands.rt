@@ -19,13 +19,15 @@ static COMMANDS: [Entry; 5] = [
         word: "serve",
         form: "mpw serve --listen ADDRESS:PORT --connections N --workers W --officer NAME --digest HEX",
         meaning: "serves connections that share a new desk, N in all, or with --ongoing N at a time; \
-            --idle SECONDS ends one that sends nothing for so long, and --log FILE keeps a line for \
-            each connection and each request",
+            --idle SECONDS ends one that sends nothing for so long, --log FILE keeps a line for each \
+            connection and each request, and --store FILE keeps each change in a database, and goes \
+            on from those that it has",
         detail: Detail::Command {
             statuses: "0 the connections ended, the desk's history is full, or help was asked for; 2 \
-                the command line isn't one; 3 the log can't be opened, the address can't be bound, \
-                the output failed, a connection can't be accepted or no number is left for one; 4 \
-                the desk has a call that nobody made; 5 want of memory, or a thread can't be started",
+                the command line isn't one; 3 the store or the log can't be opened, a change could \
+                not be kept, the address can't be bound, the output failed, a connection can't be \
+                accepted or no number is left for one; 4 the desk has a call that nobody made; 5 \
+                want of memory, or a thread can't be started",
         },
     },
     Entry {
