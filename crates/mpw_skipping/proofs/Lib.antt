@@ -1,2 +1,4 @@
 -- The lemmas of the parts that are left out.
+mod Finding
 mod Passing
+pub mod Reaching

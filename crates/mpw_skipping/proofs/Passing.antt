@@ -1,14 +1,10 @@
--- One step further in a list of cuts, and in the records of a text.
-use Rattle.std.proofs.Common.{◌≡◌, ◌∙◌, ◌<◌, ◌≤◌, ◌+◌, ◌-◌, ◌^◌, ℕ, List, [], ◌∷◌, ◌++◌, drop, take, length, get_or, refl, Option, Ok, Err}
+-- One step further in a list of cuts.
+use Rattle.std.proofs.Common.{◌≡◌, ◌∙◌, ◌<◌, ◌≤◌, ◌+◌, ◌-◌, ◌^◌, ℕ, List, ◌++◌, drop, take, length, get_or, refl}
 use Rattle.std.specs.Prelude.{min}
 use Rattle.std.proofs.lemmas.Bool.{lt-ltb, le-ltb}
 use Rattle.std.proofs.lemmas.List.{at_drop_all, at_drop_more}
-use Rattle.mpw_records.specs.declared.fault.ReadFault.{ReadFault}
-use Rattle.mpw_records.specs.Records.{RawRecord, RecordOutcome}
 use Rattle.mpw_skipping.specs.Cuts.{left_from, original_from}
-use Rattle.mpw_skipping.specs.Elements.{behind, closed, elements_in, listed}
 use Rattle.mpw_skipping.specs.declared.cut.Cut.{Cut}
-use Rattle.mpw_skipping.specs.declared.span.ElementSpan.{ElementSpan}
 
 -- ---- what is left
 
@@ -50,21 +46,3 @@ unfolding original_from
 original_more reached cuts i d at h there =
     at_drop_more (λ cs. original_from reached cs at) cuts i d h
     ∙ rw (le-ltb at ((get_or cuts i d).start - reached) there) refl
-
--- ---- the elements of records
-
-pub in_end : (so_far : Option ElementSpan) (rs : List RecordOutcome) → rs ≡ []
-    → elements_in so_far rs ≡ []
-unfolding elements_in
-in_end so_far rs e = rw e refl
-
-pub in_fault : (so_far : Option ElementSpan) (rs rest : List RecordOutcome) (f : ReadFault)
-    → rs ≡ Err f ∷ rest → elements_in so_far rs ≡ []
-unfolding elements_in
-in_fault so_far rs rest f e = rw e refl
-
-pub in_more : (so_far : Option ElementSpan) (rs rest : List RecordOutcome) (r : RawRecord)
-    → rs ≡ Ok r ∷ rest
-    → elements_in so_far rs ≡ listed (closed r so_far) ++ elements_in (behind r so_far) rest
-unfolding elements_in
-in_more so_far rs rest r e = rw e refl

@@ -1,2 +1,5 @@
-pub mod Elements
 pub mod Cuts
+pub mod Elements
+pub mod Found
+pub mod Structures
+pub mod Internal

@@ -14,7 +14,7 @@ pub struct Cut {
 }
 
 /// The bytes of a text from one on.
-fn from(text: &[u8], at: usize) -> &[u8]
+pub(crate) fn from(text: &[u8], at: usize) -> &[u8]
     ensures { result.now ≡ drop at text.now }
 {
     match text.get(at..) {

@@ -1,19 +1,26 @@
-//! Parts of a GDSII text left out before it is read: its elements on some layers, with their faults.
+//! Parts of a GDSII text left out before it is read: its elements on some layers, and the structures that aren't reached, with their faults.
 //!
 //! [`elements_of`] finds the elements of a text: from the record that begins one through its ENDEL. [`without`] copies a text but
 //! for some cuts, and [`original`] tells where a byte of the copy stands in the text, so that what is told of the copy can be told of
-//! the text. [`cuts_of_layers`] are the cuts of the elements whose layer and type are named.
+//! the text. [`cuts_of_layers`] are the cuts of the elements whose layer and type are named, [`cuts_of_unreached`] those of the
+//! structures to which one doesn't lead.
 //!
 //! Nothing here judges a text: what is no element, and an element that doesn't end, stay where they are, and so does what stands
-//! behind the first record that isn't one.
+//! behind a record whose length isn't sound.
 #![tactic(auto)]
 
 mod cut;
 mod elements;
+mod found;
 mod layers;
+mod link;
 mod span;
+mod standing;
+mod unreached;
 
 pub use cut::{Cut, original, without};
 pub use elements::elements_of;
+pub use found::record_at;
 pub use layers::{cuts_of_layers, is_named};
 pub use span::{ElementSpan, NODETYPE, TEXTTYPE};
+pub use unreached::cuts_of_unreached;

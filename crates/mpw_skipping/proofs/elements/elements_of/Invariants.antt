@@ -2,9 +2,9 @@ use Rattle.std.proofs.Common.{◌≡◌, ◌++◌, length}
 use Rattle.mpw_skipping.specs.Elements.{elements_in, elements_of}
 use Rattle.mpw_skipping.proofs.elements.elements_of.Given as goal
 
--- with those in the records that are left these are all
-abbrev pub invariant-loop-outcome : goal.invariant-loop-outcome
-invariant-loop-outcome l = l.spans.items ++ elements_in l.so_far l.records ≡ elements_of l.text
+-- with those in what is left these are all
+abbrev pub invariant-loop-found : goal.invariant-loop-found
+invariant-loop-found l = l.spans.items ++ elements_in l.opened l.finds ≡ elements_of l.text
 
-abbrev pub decreases-loop-outcome : goal.decreases-loop-outcome
-decreases-loop-outcome l = length l.records
+abbrev pub decreases-loop-found : goal.decreases-loop-found
+decreases-loop-found l = length l.finds

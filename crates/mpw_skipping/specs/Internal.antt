@@ -1,0 +1,2 @@
+-- What private functions and proofs alone need: no public contract speaks of it.
+pub mod Passes
