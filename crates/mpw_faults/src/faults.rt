@@ -1,66 +1,102 @@
 //! All faults of a text.
-ghost use Rattle.std.specs.Prelude.{◌≡◌, ◌∷◌, map, List, IfOk};
-ghost use Rattle.mpw_library.specs.Grammar.{library_of};
-ghost use Rattle.mpw_records.specs.declared.fault.ReadFault.{ReadFault};
-ghost use Rattle.mpw_faults.specs.Faults.{BeginsWith};
+ghost use Rattle.std.specs.Prelude.{◌≡◌, ◌≤◌, ◌++◌, IfOk};
+ghost use Rattle.mpw_faults.specs.Faults.{begun_by, by_unit, faults_of, of_elements, told, unit_of};
 
-use crate::found::{Details, FaultFound};
-use crate::pass::Pass;
+use crate::found::FaultFound;
+use crate::own::own_fault;
 use crate::unit::unit_of;
 use mpw_elements::ReadError;
 use mpw_library::read_library;
 use mpw_records::ReadFault;
+use mpw_skipping::{ElementSpan, elements_of};
 use std::alloc::{AllocError, Global};
 
-/// A fault with its details, and further ones.
-fn listed(
-    alloc: Global,
-    fault: ReadFault,
-    at: Details,
-    more: Vec<FaultFound>,
-) -> Result<Vec<FaultFound>, AllocError>
-    ensures { IfOk result (λ found. (rest : List ReadFault) × (map (λ f. f.fault) found.items ≡ fault ∷ rest)) }
+/// Adds the fault of an element, if it has one.
+fn add(
+    found: &mut Vec<FaultFound>,
+    span: ElementSpan,
+    fault: Option<ReadFault>,
+) -> Result<(), AllocError>
+    ensures { IfOk result (λ _. found.new.items ≡ found.old.items ++ told span fault) }
 {
-    let mut more = more;
+    if let Some(fault) = fault {
+        let element = Some(span);
+        found.push(FaultFound { fault, element })?;
+    }
+    Ok(())
+}
+
+/// The faults of a text's elements, of that unit.
+fn of_elements(alloc: Global, unit: u16, text: &[u8]) -> Result<Vec<FaultFound>, AllocError>
+    requires { unit ≤ 1000 }
+    ensures { IfOk result (λ found. found.items ≡ of_elements unit text.now) }
+{
+    let spans = elements_of(alloc, text)?;
     let mut found = Vec::new(alloc);
-    found.push(FaultFound { fault, at })?;
-    found.append(&mut more)?;
+    for span in spans.as_slice() {
+        add(&mut found, *span, own_fault(alloc, unit, text, span.start)?)?;
+    }
     Ok(found)
 }
 
-/// The first fault of a text, and those of the elements behind it.
-fn faults_behind(
-    alloc: Global,
-    text: &[u8],
-    first: ReadFault,
-) -> Result<Vec<FaultFound>, AllocError>
-    ensures { IfOk result (λ found. (rest : List ReadFault) × (map (λ f. f.fault) found.items ≡ first ∷ rest)) }
+/// The same, where the unit is read.
+fn by_unit(alloc: Global, text: &[u8]) -> Result<Vec<FaultFound>, AllocError>
+    ensures { IfOk result (λ found. found.items ≡ by_unit (unit_of text.now) text.now) }
 {
-    let Some(unit) = unit_of(text) else {
-        return listed(alloc, first, Details::none(), Vec::new(alloc));
-    };
-    let mut pass = Pass::new(alloc, text, unit, first);
-    pass.run(alloc)?;
-    let Pass { head, more, .. } = pass;
-    listed(alloc, first, head, more)
+    match unit_of(text) {
+        Some(unit) => of_elements(alloc, unit, text),
+        None => Ok(Vec::new(alloc)),
+    }
 }
 
-/// The faults of a library's text: none where it is one; else the fault that reading it tells, and behind it one for each element that stands
-/// behind that fault and has one of its own, in the order in which they stand. An element goes from the record that begins it
-/// through its ENDEL; each is read by itself. Nothing more is found where the database unit isn't read, and behind a record whose
-/// length isn't sound.
+/// Those faults with the one that reading the library tells first.
+fn begun_by(
+    alloc: Global,
+    first: ReadFault,
+    found: &[FaultFound],
+) -> Result<Vec<FaultFound>, AllocError>
+    ensures { IfOk result (λ all. all.items ≡ begun_by first found.now) }
+{
+    let mut all = Vec::new(alloc);
+    match found {
+        [head, rest @ ..] if head.fault.offset == first.offset => {
+            let element = head.element;
+            all.push(FaultFound {
+                fault: first,
+                element,
+            })?;
+            all.extend_from_slice(rest)?;
+        }
+        found => {
+            all.push(FaultFound {
+                fault: first,
+                element: None,
+            })?;
+            all.extend_from_slice(found)?;
+        }
+    }
+    Ok(all)
+}
+
+/// The faults of a library's text: none where it is one; else those of its elements, a fault for each that has one when it is read by itself,
+/// from its first record on, in the order in which they stand. The first is the one that reading the library tells: where it isn't
+/// that of the first of these, it stands before them, without an element. Which elements a text has, [`elements_of`] says. Nothing
+/// but the first is told where the database unit isn't read.
 ///
-/// The text is read once, and gone over once more, in which each element behind the first fault is read once: linear in the text, whatever
-/// it is. It takes memory for the library, and then for the faults.
+/// The text is read once, and gone over once more, in which each element is read once: linear in the text, whatever it is. It takes
+/// memory for the library, and then for the elements and the faults.
 ///
 /// # Errors
 /// Want of memory.
 pub fn all_faults(alloc: Global, text: &[u8]) -> Result<Vec<FaultFound>, AllocError>
-    ensures { IfOk result (λ found. BeginsWith (library_of text.now) (map (λ f. f.fault) found.items)) }
+    ensures { IfOk result (λ found. found.items ≡ faults_of text.now) }
 {
     match read_library(alloc, text) {
         Ok(_) => Ok(Vec::new(alloc)),
-        Err(ReadError::Fault(fault)) => faults_behind(alloc, text, fault),
+        Err(ReadError::Fault(fault)) => {
+            let found = by_unit(alloc, text)?;
+            begun_by(alloc, fault, found.as_slice())
+        }
         Err(ReadError::Memory) => Err(AllocError),
     }
 }

@@ -1,14 +1,17 @@
 //! All faults of a library's elements.
 //!
-//! Reading a library ends at its first fault. [`all_faults`] goes on behind each element that has one: it finds the elements of a text
-//! again at their ENDEL, and reads each by itself. The first of the list is the fault that reading the library tells.
+//! Reading a library ends at its first fault. [`all_faults`] goes on behind each element that has one: it reads each element of the text by
+//! itself, from its first record on. The first of the list is the fault that reading the library tells. [`structure_of`] and [`first_point`] tell where an
+//! element stands.
 #![tactic(auto)]
 
+mod details;
 mod faults;
 mod found;
-mod open;
-mod pass;
+mod own;
 mod unit;
 
+pub use details::{first_point, structure_of};
 pub use faults::all_faults;
-pub use found::{Details, FaultFound};
+pub use found::FaultFound;
+pub use unit::unit_of;

@@ -1,14 +1,26 @@
-//! The database unit of a text, and points by it.
-ghost use Rattle.std.specs.Prelude.{◌≤◌, IfSome};
+//! The database unit of a text.
+ghost use Rattle.std.specs.Prelude.{◌≡◌, ◌≤◌, drop, length, IfSome};
+ghost use Rattle.mpw_faults.specs.Faults.{unit_of};
+ghost use Rattle.mpw_records.specs.Real.{nanometres, real_value};
 
-use byteorder::{BigEndian, ByteOrder};
-use mpw_geom::Point;
 use mpw_records::kind::UNITS;
 use mpw_records::{Real8, Records};
 
-/// The number of nm that a text's first UNITS tells, if it is one that is read.
-pub(crate) fn unit_of(text: &[u8]) -> Option<u16>
-    ensures { IfSome result (λ unit. unit ≤ 1000) }
+/// The number of nm that the data of UNITS tells, if it is a whole one.
+fn read_unit(bytes: &[u8]) -> Option<u16>
+    requires { 16 ≤ length bytes.now }
+    ensures unit { result ≡ nanometres (real_value (drop 8 bytes.now)) }
+    ensures most { IfSome result (λ unit. unit ≤ 1000) }
+{
+    Real8::read(&bytes[8..]).nanometres()
+}
+
+/// The number of nm that a text's first UNITS tells, if it is a whole one, and none of the records before it has a fault. It looks at
+/// each record up to there.
+#[tactic(auto, unfolding(crate::specs::Faults::unit_in, mpw_records::specs::Format::least_size))]
+pub fn unit_of(text: &[u8]) -> Option<u16>
+    ensures unit { result ≡ unit_of text.now }
+    ensures most { IfSome result (λ unit. unit ≤ 1000) }
 {
     let mut records = Records::new(text);
     while let Some(outcome) = records.next() {
@@ -19,27 +31,4 @@ pub(crate) fn unit_of(text: &[u8]) -> Option<u16>
         }
     }
     None
-}
-
-/// The number of nm that the data of UNITS tells.
-fn read_unit(bytes: &[u8]) -> Option<u16>
-    ensures { IfSome result (λ unit. unit ≤ 1000) }
-{
-    let metres = bytes.get(8..)?;
-    if metres.len() < 8 {
-        return None;
-    }
-    Real8::read(metres).nanometres()
-}
-
-/// The first point of the data of XY, in nm.
-pub(crate) fn first_point(unit: u16, bytes: &[u8]) -> Option<Point> {
-    if bytes.len() < 8 {
-        return None;
-    }
-    let (x, y) = (BigEndian::read_i32(bytes), BigEndian::read_i32(&bytes[4..]));
-    Some(Point {
-        x: i64::from(x).saturating_mul(i64::from(unit)),
-        y: i64::from(y).saturating_mul(i64::from(unit)),
-    })
 }

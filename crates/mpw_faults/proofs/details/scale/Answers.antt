@@ -1,0 +1,25 @@
+use Rattle.std.proofs.Common.{◌^◌, pos, ◌*ℤ◌, refl, arith, rules}
+use mir.Syntax.{w32, w64}
+use mir.Val.{SFits}
+use Rattle.std.proofs.lemmas.Int.{ints, to_z-of_z, fits_signed_mul}
+use Rattle.mpw_elements.specs.Values.{scaled}
+use Rattle.mpw_faults.proofs.details.scale.Goals as goal
+
+pub returns : goal.returns
+unfolding scaled
+returns c =
+    let x = c.read_i32.result in
+    let narrow : SFits w32 x = search rules in
+    let wide : SFits w64 x = search rules in
+    let unit : SFits w64 (pos c.args.unit) = search rules in
+    let product = fits_signed_mul w64 x (pos c.args.unit) (2 ^ 31) 1000 (omega (arith, ints))
+    (omega arith) (omega arith) in
+    rw (
+      c.from.ensures,
+      c.from-2.ensures,
+      to_z-of_z w32 x narrow,
+      to_z-of_z w64 x wide,
+      to_z-of_z w64 (pos c.args.unit) unit,
+      to_z-of_z w64 (x *ℤ pos c.args.unit) product,
+      c.read_i32.ensures,
+    ) refl

@@ -1,0 +1,74 @@
+//! Where an element stands.
+ghost use Rattle.std.specs.Prelude.{◌≡◌, ◌≤◌, length, IfOk};
+ghost use Rattle.mpw_elements.specs.Values.{point_at, scaled};
+ghost use Rattle.mpw_faults.specs.Details.{first_point, pointed, structure_of};
+ghost use Rattle.mpw_records.specs.Records.{front};
+
+use byteorder::{BigEndian, ByteOrder};
+use mpw_elements::{ReadError, read_name};
+use mpw_geom::{Name, Point};
+use mpw_records::kind::XY;
+use mpw_skipping::record_at;
+use std::alloc::{AllocError, Global};
+
+/// The structure whose STRNAME stands at a place of a text, where its name is one. Constant time but for the name.
+///
+/// # Errors
+/// Want of memory.
+pub fn structure_of(alloc: Global, text: &[u8], at: usize) -> Result<Option<Name>, AllocError>
+    ensures { IfOk result (λ name. name ≡ structure_of text.now at) }
+{
+    let Ok(found) = record_at(text, at) else {
+        return Ok(None);
+    };
+    match read_name(alloc, found) {
+        Ok(name) => Ok(Some(name)),
+        Err(ReadError::Fault(_)) => Ok(None),
+        Err(ReadError::Memory) => Err(AllocError),
+    }
+}
+
+/// A four-byte signed number of database units, in nm.
+#[tactic(auto, unfolding(mpw_elements::specs::Values::scaled))]
+fn scale(unit: u16, bytes: &[u8]) -> i64
+    requires unit { unit ≤ 1000 }
+    requires bytes { 4 ≤ length bytes.now }
+    ensures { result ≡ scaled unit bytes.now }
+{
+    i64::from(BigEndian::read_i32(bytes)) * i64::from(unit)
+}
+
+/// The first of points.
+fn point(unit: u16, bytes: &[u8]) -> Point
+    requires unit { unit ≤ 1000 }
+    requires bytes { 8 ≤ length bytes.now }
+    ensures { result ≡ point_at unit bytes.now 0 }
+{
+    Point {
+        x: scale(unit, &bytes[0..]),
+        y: scale(unit, &bytes[4..]),
+    }
+}
+
+/// The first point of the XY that stands at a place of a text of that unit.
+#[tactic(auto, unfolding(mpw_records::specs::Format::least_size))]
+fn point_at(unit: u16, text: &[u8], at: usize) -> Option<Point>
+    requires { unit ≤ 1000 }
+    ensures { result ≡ pointed unit (front text.now at) }
+{
+    match record_at(text, at) {
+        Ok(found) if found.kind == XY => Some(point(unit, found.bytes)),
+        _ => None,
+    }
+}
+
+/// The first point of the XY that stands at that place of a text of that unit, if it does, in nm. Constant time.
+pub fn first_point(unit: u16, text: &[u8], place: Option<usize>) -> Option<Point>
+    requires { unit ≤ 1000 }
+    ensures { result ≡ first_point unit text.now place }
+{
+    match place {
+        Some(at) => point_at(unit, text, at),
+        None => None,
+    }
+}

@@ -1,0 +1,64 @@
+//! The fault of an element that is read by itself.
+ghost use Rattle.std.specs.Prelude.{◌≡◌, ◌≤◌, drop, option_map, IfOk};
+ghost use Rattle.mpw_faults.specs.Faults.{fault_in, moved, own_fault};
+ghost use Rattle.mpw_records.specs.Records.{outcomes_of};
+
+use mpw_elements::{ReadError, read_element};
+use mpw_records::{ReadFault, Records};
+use std::alloc::{AllocError, Global};
+
+/// A fault in the text from a place on, with its place in the whole, up to 2^64 - 1.
+fn moved(at: usize, fault: ReadFault) -> ReadFault
+    ensures { result ≡ moved at fault }
+{
+    ReadFault {
+        code: fault.code,
+        offset: fault.offset.saturating_add(at),
+    }
+}
+
+/// The fault of the element that a text begins with.
+fn fault_in(alloc: Global, text: &[u8], unit: u16) -> Result<Option<ReadFault>, AllocError>
+    requires { unit ≤ 1000 }
+    ensures { IfOk result (λ fault. fault ≡ fault_in unit (outcomes_of text.now)) }
+{
+    let mut records = Records::new(text);
+    match records.next() {
+        None => Ok(None),
+        Some(Err(fault)) => Ok(Some(fault)),
+        Some(Ok(first)) => match read_element(alloc, &mut records, first, unit) {
+            Ok(_) => Ok(None),
+            Err(ReadError::Fault(fault)) => Ok(Some(fault)),
+            Err(ReadError::Memory) => Err(AllocError),
+        },
+    }
+}
+
+/// The bytes of a text from one on.
+fn from(text: &[u8], at: usize) -> &[u8]
+    ensures { result.now ≡ drop at text.now }
+{
+    match text.get(at..) {
+        Some(rest) => rest,
+        None => &[],
+    }
+}
+
+/// The fault of the element that begins at a place of a text of that unit, if it has one when it is read by itself.
+///
+/// # Errors
+/// Want of memory.
+pub(crate) fn own_fault(
+    alloc: Global,
+    unit: u16,
+    text: &[u8],
+    at: usize,
+) -> Result<Option<ReadFault>, AllocError>
+    requires { unit ≤ 1000 }
+    ensures { IfOk result (λ fault. fault ≡ own_fault unit text.now at) }
+{
+    match fault_in(alloc, from(text, at), unit)? {
+        Some(fault) => Ok(Some(moved(at, fault))),
+        None => Ok(None),
+    }
+}
