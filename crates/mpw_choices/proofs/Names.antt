@@ -6,7 +6,7 @@ use Rattle.std.proofs.lemmas.List.{length-map}
 use Rattle.mpw_geom.specs.Names.{name_eq}
 use Rattle.mpw_records.specs.declared.fault.ReadFault.{ReadFault}
 use Rattle.mpw_records.specs.Records.{RawRecord, RecordOutcome}
-use Rattle.mpw_choices.specs.Tops.{is_placed, names_in, only_in, only_of, unplaced}
+use Rattle.mpw_choices.specs.Tops.{is_placed, names_in, only_in, only_of, unplaced, unplaced_in}
 
 -- ---- in the records of a text
 
@@ -53,6 +53,15 @@ filter_seen h f (x ∷ xs) =
     ap (λ more. cond (h (f x)) (f x ∷ more) more) (filter_seen h f xs)
     ∙ if_seen f (h (f x)) x (filter (λ x. h (f x)) xs)
 
+-- Those that aren't placed, by what they are seen as.
+pub unplaced_seen : {N P : Type 0} (f : N → List ℕ) (g : P → List ℕ) (names : List N)
+    (placed : List P)
+    → unplaced (λ n. n) (λ p. p) (map f names) (map g placed) ≡ map f (unplaced f g names placed)
+unplaced_seen f g names placed =
+    filter_seen (λ n. not (is_placed (λ p. p) (map g placed) n)) f names
+    ∙ ap (map f) (filter_same _ _ names
+    (λ n. ap not (any_seen (λ p. name_eq p (f n)) g placed)))
+
 only_seen : {N : Type 0} (f : N → List ℕ) (xs : List N)
     → only_of (λ n. n) (map f xs) ≡ only_of f xs
 only_seen f [] = refl
@@ -63,9 +72,7 @@ pub only_by : {N P : Type 0} (f : N → List ℕ) (g : P → List ℕ) (names : 
     → only_of (λ n. n) (unplaced (λ n. n) (λ p. p) (map f names) (map g placed))
     ≡ only_of f (unplaced f g names placed)
 only_by f g names placed =
-    ap (only_of (λ n. n)) (filter_seen (λ n. not (is_placed (λ p. p) (map g placed) n)) f names
-    ∙ ap (map f) (filter_same _ _ names
-    (λ n. ap not (any_seen (λ p. name_eq p (f n)) g placed))))
+    ap (only_of (λ n. n)) (unplaced_seen f g names placed)
     ∙ only_seen f (unplaced f g names placed)
 
 -- The same where the test says that they aren't too many.
@@ -74,3 +81,17 @@ pub only_short : {N P : Type 0} (f : N → List ℕ) (g : P → List ℕ) (names
     → only_in (map f names) (map g placed) ≡ only_of f (unplaced f g names placed)
 only_short f g names placed long is isnt =
     rw (length-map names f, length-map placed g, sym is ∙ isnt) (only_by f g names placed)
+
+pub unplaced_short : {N P : Type 0} (f : N → List ℕ) (g : P → List ℕ) (names : List N)
+    (placed : List P) (long : Bool)
+    → long ≡ ltb (2 ^ 28) (length names * length placed) → long ≡ false
+    → map f (unplaced f g names placed) ≡ unplaced_in (map f names) (map g placed)
+unplaced_short f g names placed long is isnt =
+    sym (rw (length-map names f, length-map placed g, sym is ∙ isnt) (unplaced_seen f g names placed))
+
+pub unplaced_long : {N P : Type 0} (f : N → List ℕ) (g : P → List ℕ) (names : List N)
+    (placed : List P) (long : Bool)
+    → long ≡ ltb (2 ^ 28) (length names * length placed) → long ≡ true
+    → unplaced_in (map f names) (map g placed) ≡ []
+unplaced_long f g names placed long is isnt =
+    rw (length-map names f, length-map placed g, sym is ∙ isnt) refl

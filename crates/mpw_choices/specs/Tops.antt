@@ -39,6 +39,15 @@ only_of name [] = None
 only_of name (n ∷ []) = name_in (name n)
 only_of name (n ∷ m ∷ rest) = None
 
+-- Those that nothing places; none where the names are very many.
+abbrev pub unplaced_in : (names placed : List (List ℕ)) → List (List ℕ)
+unplaced_in names placed =
+    if nat_lt (2 ^ 28) (length names * length placed) then []
+    else unplaced (λ n. n) (λ p. p) names placed
+
+abbrev pub unplaced_of : List ℕ → List (List ℕ)
+unplaced_of text = unplaced_in (names_of STRNAME text) (names_of SNAME text)
+
 -- The only structure that nothing places, unless the names are very many.
 abbrev pub only_in : (names placed : List (List ℕ)) → Option (List ℕ)
 only_in names placed =

@@ -1,6 +1,6 @@
 //! The structure of a library that nothing places.
-ghost use Rattle.std.specs.Prelude.{◌≡◌, ◌*◌, ◌^◌, nat_lt, map, IfOk};
-ghost use Rattle.mpw_choices.specs.Tops.{is_placed, name_in, names_of, only_in, only_of, only_top, unplaced};
+ghost use Rattle.std.specs.Prelude.{◌≡◌, ◌*◌, ◌^◌, nat_lt, map, take, IfOk};
+ghost use Rattle.mpw_choices.specs.Tops.{is_placed, name_in, names_of, only_in, only_of, only_top, unplaced, unplaced_in, unplaced_of};
 
 use mpw_elements::{ReadError, read_name};
 use mpw_geom::Name;
@@ -113,4 +113,37 @@ pub fn only_top(alloc: Global, text: &[u8]) -> Result<Option<Name>, AllocError>
     let names = names_of(alloc, text, STRNAME)?;
     let placed = names_of(alloc, text, SNAME)?;
     only_among(alloc, names.as_slice(), placed.as_slice())
+}
+
+/// Those of the names that aren't placed, unless they are too many.
+fn unplaced_among<'a>(
+    alloc: Global,
+    names: &[&'a [u8]],
+    placed: &[&[u8]],
+) -> Result<Vec<&'a [u8]>, AllocError>
+    ensures { IfOk result (λ found. map (λ n. n.now) found.items ≡ unplaced_in (map (λ n. n.now) names.now) (map (λ p. p.now) placed.now)) }
+{
+    if is_long(names.len(), placed.len()) {
+        return Ok(Vec::new(alloc));
+    }
+    unplaced(alloc, names, placed)
+}
+
+/// The first so many of the structures of a library's text that nothing places, by the names in its records as they stand there; none
+/// where the structures and the references are so many that their product is over 2^28. It costs what [`only_top`] does.
+///
+/// # Errors
+/// Want of memory.
+pub fn unplaced_structures<'a>(
+    alloc: Global,
+    text: &'a [u8],
+    most: usize,
+) -> Result<Vec<&'a [u8]>, AllocError>
+    ensures { IfOk result (λ found. map (λ n. n.now) found.items ≡ take most (unplaced_of text.entry.now)) }
+{
+    let names = names_of(alloc, text, STRNAME)?;
+    let placed = names_of(alloc, text, SNAME)?;
+    let mut found = unplaced_among(alloc, names.as_slice(), placed.as_slice())?;
+    found.truncate(most);
+    Ok(found)
 }
