@@ -1,12 +1,12 @@
 #!/usr/bin/env python3
 """Has KLayout write a library whose elements have faults, and compares what ./mpw check tells of it with what was drawn.
 
-  bench/klayout_faults.py
+  bench/klayout_faults.py [PROGRAM]
 
-On layer 5/0 stand triangles with an edge at 45 degrees, in TOP and in a structure ARM below it, on layer 6/0 paths with round ends, and on layer 1/0
-two bars and in ARM a third. --faults has to tell each of the faulty elements once, with its code, its structure, its layer and one of its corners;
---skip-layers 5/0,6/0 has to list what KLayout finds on layer 1/0. Where KLayout isn't installed nothing is tried, which is told. The exit
-status is 0 where all is as expected, else 1."""
+On layer 5/0 stand triangles with an edge at 45 degrees, in TOP, in a structure ARM below it and in a structure LOGO that nothing places, on layer 6/0 paths with
+round ends, and on layer 1/0 two bars and in ARM a third. --faults has to tell each of the faulty elements once, with its code, its structure, its layer
+and one of its corners; --skip-unreached those of LOGO before the first of the others; --skip-layers 5/0,6/0 has to list what KLayout finds on layer 1/0, with
+--skip-unreached or without. Where KLayout isn't installed nothing is tried, which is told. The exit status is 0 where all is as expected, else 1."""
 import os
 import re
 import shutil
@@ -16,6 +16,8 @@ import tempfile
 
 HERE = os.path.dirname(os.path.abspath(__file__))
 MPW = os.path.join(os.path.dirname(HERE), "mpw")
+# Another program may be named.
+PROGRAM = sys.argv[1:2] or [MPW]
 DECK = "tile 2000\nspace s 1/0 51\n"
 FAULT = re.compile(r"fault: cell\.gds: (\w+) at byte \d+ in (\w+), layer (\d+)/0, at (-?\d+),(-?\d+)")
 SCRIPT = """
@@ -23,13 +25,13 @@ import pya
 
 layout = pya.Layout()
 layout.dbu = 0.001
-top, arm = layout.create_cell('TOP'), layout.create_cell('ARM')
+top, arm, spare = (layout.create_cell(name) for name in ('TOP', 'ARM', 'LOGO'))
 metal, logo, round_ends = (layout.layer(number, 0) for number in (1, 5, 6))
 for x in (0, 90):
     top.shapes(metal).insert(pya.Box(x, 0, x + 50, 600))
 arm.shapes(metal).insert(pya.Box(0, 0, 50, 600))
 top.insert(pya.CellInstArray(arm.cell_index(), pya.Trans(180, 0)))
-for cell, count in ((top, 20), (arm, 5)):
+for cell, count in ((top, 20), (arm, 5), (spare, 4)):
     for i in range(count):
         x = 1000 + 200 * i
         cell.shapes(logo).insert(pya.Polygon([pya.Point(x, 0), pya.Point(x + 90, 90), pya.Point(x + 90, 0)]))
@@ -45,7 +47,7 @@ print(region.merged().space_check(51, False, pya.Region.Projection, 90, 0, 2**30
 def drawn():
     """Each faulty element by its code, structure and layer, with its corners."""
     elements = []
-    for structure, count in (("TOP", 20), ("ARM", 5)):
+    for structure, count in (("TOP", 20), ("ARM", 5), ("LOGO", 4)):
         for i in range(count):
             x = 1000 + 200 * i
             elements.append(("notmanhattan", structure, 5, {(x, 0), (x + 90, 90), (x + 90, 0)}))
@@ -61,10 +63,10 @@ def told_of(lines):
     return [match and (match[1], match[2], int(match[3]), (int(match[4]), int(match[5]))) for match in found]
 
 
-def are_all(faults):
+def are_all(faults, elements):
     """Whether each element that was drawn is told once, and nothing else is. The points of different elements differ; KLayout writes no point of a path with
     round ends before its PATHTYPE, so a fault there is told with the point all the same, since the whole element is gone over."""
-    left = drawn()
+    left = list(elements)
     for fault in faults:
         match = next((element for element in left if fault and fault[:3] == element[:3] and fault[3] in element[3]), None)
         if match is None:
@@ -77,7 +79,7 @@ def are_all(faults):
 
 
 def check(folder, *words):
-    ended = subprocess.run([MPW, "check", "--deck", "deck", "--top", "TOP", *words, "cell.gds"], cwd=folder, capture_output=True, text=True)
+    ended = subprocess.run([*PROGRAM, "check", "--deck", "deck", "--top", "TOP", *words, "cell.gds"], cwd=folder, capture_output=True, text=True)
     return ended.returncode, ended.stdout.splitlines(), ended.stderr.splitlines()
 
 
@@ -94,12 +96,19 @@ def main():
         pairs = int(subprocess.run(words, cwd=folder, env=environment, stdout=subprocess.PIPE, check=True, text=True).stdout)
         status, _, lines = check(folder, "--faults")
         faults = told_of(lines)
-        same = are_all(faults)
-        print(f"--faults: {len(faults)} of {len(drawn())} faults, status {status}: {'as drawn' if same and status == 4 else 'differs'}")
-        skipped, printed, _ = check(folder, "--skip-layers", "5/0,6/0")
-        alike = skipped == 1 and len(printed) == pairs + 1
-        print(f"--skip-layers: {len(printed) - 1} markers, KLayout {pairs}, status {skipped}: {'same' if alike else 'differs'}")
-    return 0 if same and status == 4 and alike else 1
+        same = are_all(faults, drawn()) and status == 4
+        print(f"--faults: {len(faults)} of {len(drawn())} faults, status {status}: {'as drawn' if same else 'differs'}")
+        unreached, _, lines = check(folder, "--skip-unreached")
+        spare = [element for element in drawn() if element[1] == "LOGO"]
+        alone = are_all(told_of(lines), spare) and unreached == 4
+        print(f"--skip-unreached: {len(told_of(lines))} of {len(spare)} faults, status {unreached}: {'as drawn' if alone else 'differs'}")
+        alike = True
+        for words in (["--skip-layers", "5/0,6/0"], ["--skip-layers", "5/0,6/0", "--skip-unreached"]):
+            skipped, printed, _ = check(folder, *words)
+            here = skipped == 1 and len(printed) == pairs + 1
+            print(f"{' '.join(words)}: {len(printed) - 1} markers, KLayout {pairs}, status {skipped}: {'same' if here else 'differs'}")
+            alike &= here
+    return 0 if same and alone and alike else 1
 
 
 if __name__ == "__main__":

@@ -1,4 +1,4 @@
-"""What a check is given beside its files: a side for the tiles, the structure where none is named, layers that are left out, and all faults.
+"""What a check is given beside its files: a side for the tiles, the structure where none is named, layers and structures that are left out, and all faults.
 Each case gives what differs from what is expected, which is written here by hand: an element's bytes are laid out below, so where its
 records stand is known.
 """
@@ -84,6 +84,23 @@ def are_several_tops():
         return differing({"status": status, "printed": printed, "told": told}, {"status": 4, "printed": b"", "told": lines})
 
 
+def with_structure(text, name, elements):
+    """The library with a further structure of that name, of an even number of letters, and where its elements begin."""
+    place = text.rindex(record(4, 0))
+    begin = record(5, 2, bytes(24)) + record(6, 6, name)
+    return text[:place] + begin + elements + ENDSTR + text[place:], place + len(begin)
+
+
+def of_structure(elements, words, status, printed, told):
+    """What comes of a library with a structure LOGO besides, which nothing places, of these elements; told is a function of where they begin."""
+    with Folder() as folder:
+        text, place = with_structure(folder.read("two-bars.gds"), b"LOGO", elements)
+        folder.write("two-bars.gds", text)
+        ended = folder.run(*CHECK, *words, "two-bars.gds")
+        found = {"status": ended[0], "printed": ended[1], "told": summary_left_out(ended[2])}
+        return differing(found, {"status": status, "printed": printed, "told": told(place)})
+
+
 def has_times():
     """The parts of a check are told behind the summary, in their order, each with whole ms."""
     with Folder() as folder:
@@ -112,12 +129,30 @@ def of_elements(elements, words, status, printed, told):
         return differing(found, {"status": status, "printed": printed, "told": told(place)})
 
 
-def slanted(at):
-    return f"error: two-bars.gds: notmanhattan at byte {at} in TOP: {SLANTED}"
+def slanted(at, structure="TOP"):
+    return f"error: two-bars.gds: notmanhattan at byte {at} in {structure}: {SLANTED}"
 
 
-def fault(at, layer, x):
-    return f"fault: two-bars.gds: notmanhattan at byte {at} in TOP, layer {layer}/0, at {x},9000"
+def fault(at, layer, x, structure="TOP"):
+    return f"fault: two-bars.gds: notmanhattan at byte {at} in {structure}, layer {layer}/0, at {x},9000"
+
+
+def unreached(count, faults):
+    """What is told of structures that are left out."""
+    told = f"note: two-bars.gds: structures left out, which the checked one doesn't reach: {count}"
+    return told + (f", with faults: {faults}; the desk reads them, and refuses the file as it stands" if faults else "; the desk reads them")
+
+
+def is_colon(word):
+    """A rule whose name has a colon is told as that, and another line isn't."""
+    with Folder() as folder:
+        folder.write("bars.deck", f"tile 256\n{word} a:b 1/0 50\n".encode())
+        status, printed, told = folder.run(*CHECK, "two-bars.gds")
+        colon = "a rule's name has a colon, which parts the words of a marker's key: take another sign for it, as _"
+        line = "a line is 'tile SIDE', or 'CHECK NAME LAYER.. DISTANCE' with width, space, separation or enclosing; no line is empty or a comment"
+        sentence = colon if word == "width" else line
+        lines = [f"error: bars.deck: line 2: word: {sentence}"]
+        return differing({"status": status, "printed": printed, "told": told}, {"status": 4, "printed": b"", "told": lines})
 
 
 # A triangle's XY begins 16 bytes behind its front, and it has 56 bytes: 4, 6, 6, 4 and 32 of four points, and 4.
@@ -125,6 +160,8 @@ ONE = triangle(5, 0)
 TWO = triangle(5, 0) + boundary(1, [(0, 5000), (90, 5000), (90, 5090), (0, 5090), (0, 5000)]) + triangle(6, 300)
 # The square between them has five points: 64 bytes.
 BEHIND = 56 + 64 + 16
+# A square whose LAYER has no data, before a triangle: its BOUNDARY takes 4 bytes, LAYER as many, DATATYPE 6, XY 4 and 40 of five points, ENDEL 4.
+DAMAGED = boundary(1, [(0, 5000), (90, 5000), (90, 5090), (0, 5090), (0, 5000)]).replace(record(13, 2, struct.pack(">H", 1)), record(13, 2)) + ONE
 
 CASES = {
     "tiles of other sides": by_sides,
@@ -152,4 +189,28 @@ CASES = {
         TWO, ["--faults", "--skip-layers", "5/0"], 4, b"", lambda at: [LEFT_OUT, fault(at + BEHIND, 6, 300), slanted(at + BEHIND)]
     ),
     "all faults of a library without one": lambda: of_elements(b"", ["--faults"], 1, LISTING, lambda at: []),
+    "all faults behind a record without its data": lambda: of_elements(
+        DAMAGED, ["--faults"], 4, b"", lambda at: [
+            f"fault: two-bars.gds: badsize at byte {at + 4} in TOP, at 0,5000",
+            fault(at + 62 + 16, 5, 0),
+            f"error: two-bars.gds: badsize at byte {at + 4} in TOP: a record has too much or too little data: polygons of more than 8191 points have to be split"
+            " (gdspy: .fracture(max_points=8190))",
+        ]
+    ),
+    "a structure that isn't reached": lambda: of_structure(ONE, [], 4, b"", lambda at: [slanted(at + 16, "LOGO")]),
+    "a structure that isn't reached, left out": lambda: of_structure(
+        ONE, ["--skip-unreached"], 1, LISTING, lambda at: [fault(at + 16, 5, 0, "LOGO"), unreached(1, 1)]
+    ),
+    "a structure without faults that isn't reached, left out": lambda: of_structure(
+        b"", ["--skip-unreached"], 1, LISTING, lambda at: [unreached(1, 0)]
+    ),
+    "a structure that is the only one, with its faults": lambda: of_elements(ONE, ["--skip-unreached"], 4, b"", lambda at: [slanted(at + 16)]),
+    "elements and structures left out": lambda: of_structure(
+        ONE, ["--skip-unreached", "--skip-layers", "5/0"], 1, LISTING, lambda at: [LEFT_OUT, unreached(1, 0)]
+    ),
+    "a part of some structures": lambda: is_part_alone(
+        ["--skip-unreached"], "error: a part is of the whole library: --skip-unreached is for a check of all tiles"
+    ),
+    "a colon in a rule's name": lambda: is_colon("width"),
+    "a colon in a line that is none": lambda: is_colon("#"),
 }

@@ -47,6 +47,11 @@ class Folder:
         ended = subprocess.run([MPW, *words], cwd=self.path, stdin=subprocess.DEVNULL, stdout=output, stderr=subprocess.PIPE, preexec_fn=before)
         return ended.returncode, ended.stdout, ended.stderr.decode().splitlines()
 
+    def shell(self, line):
+        """The same of a line of a shell."""
+        ended = subprocess.run(["sh", "-c", line], cwd=self.path, stdin=subprocess.DEVNULL, stdout=subprocess.PIPE, stderr=subprocess.PIPE)
+        return ended.returncode, ended.stdout, ended.stderr.decode().splitlines()
+
     def names(self):
         return sorted(os.listdir(self.path))
 
@@ -252,6 +257,15 @@ def is_endless(words, status, begin):
         return differing(found, {"status": status, "printed": b"", "begin": [begin]})
 
 
+def goes_on(length, sentence):
+    """A library, or a front of it, behind which zeros follow without end, through a pipe."""
+    with Folder() as folder:
+        folder.write("front", folder.read("two-bars.gds")[:length])
+        words = " ".join([MPW, *CHECK, "-"])
+        status, printed, told = folder.shell(f"ulimit -v 1500000; cat front /dev/zero | {words}")
+        return differing({"status": status, "printed": printed, "told": told}, {"status": 4, "printed": b"", "told": [sentence]})
+
+
 def is_great():
     """A library that is too great for the desk is checked."""
     with Folder() as folder:
@@ -260,6 +274,40 @@ def is_great():
         status, printed, told = folder.run(*CHECK, "two-bars.gds")
         note = f"note: two-bars.gds has {size} bytes, and the desk takes no library of more than 16777216"
         return differing({"status": status, "printed": printed, "told": told[:1]}, {"status": 1, "printed": LISTING, "told": [note]})
+
+
+def makefile():
+    """That of docs/CHECKING.md."""
+    with open(os.path.join(os.path.dirname(HERE), "docs", "CHECKING.md"), encoding="utf-8") as page:
+        lines = page.read().split("### With make\n", 1)[1].split("\n`make", 1)[0].splitlines()
+    return "\n".join(line.removeprefix("    ") for line in lines) + "\n"
+
+
+def leaves_nothing():
+    """Where the checks or the stitching fail, make leaves no file that it would take for done; where they don't, the markers."""
+    if not shutil.which("make"):
+        return []
+    with Folder() as folder:
+        folder.write("Makefile", makefile().replace("--top TOP", "--top TOP").encode())
+        for name, file in (("die.gds", "two-bars.gds"), ("die.deck", "bars.deck")):
+            shutil.copy(folder.file(file), folder.file(name))
+        os.symlink(MPW, folder.file("below/mpw"))
+        make = 'PATH="$PWD/below:$PATH" make -s N=2 markers'
+        good, deck = folder.shell(make)[0], folder.read("die.deck")
+        found = {"good": good, "markers": folder.read("markers")}
+        os.remove(folder.file("markers"))
+        for name in ("part.1", "part.2"):
+            os.remove(folder.file(name))
+        folder.write("die.deck", b"width\n")
+        bad = folder.shell(make)[0]
+        left = [name for name in folder.names() if name in ("markers", "part.1", "part.2")]
+        folder.write("die.deck", deck)
+        folder.write("part.1", b"")
+        folder.write("part.2", b"")
+        empty = folder.shell(make)[0]
+        left += [name for name in folder.names() if name == "markers"]
+        found.update({"bad": bad, "left": left, "empty": empty})
+        return differing(found, {"good": 0, "markers": LISTING, "bad": 2, "left": [], "empty": 2})
 
 
 CASES = {
@@ -293,5 +341,8 @@ CASES = {
     "a library that never ends": lambda: is_endless([*CHECK, "/dev/zero"], 4, "error: /dev/zero: badlength at byte 0: the file doesn't begin as GDSII does"),
     "a deck that never ends": lambda: is_endless(["check", "--deck", "/dev/zero", "--top", "TOP", "two-bars.gds"], 4, "error: /dev/zero: line 1: "),
     "a part that never ends": lambda: is_endless(["stitch", "/dev/zero"], 4, "error: /dev/zero: no part"),
+    "zeros without end behind a library's head": lambda: goes_on(6, "error: -: badlength at byte 6: a record's length is odd or below 4: the file is damaged, or is no GDSII"),
+    "zeros without end behind a library": lambda: goes_on(None, "error: -: more than 268435456 bytes, or without an end: split the library"),
     "a library that is too great for the desk": is_great,
+    "a make whose checks fail": leaves_nothing,
 }

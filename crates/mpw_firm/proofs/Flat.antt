@@ -8,10 +8,9 @@ use Rattle.mpw_deck.specs.declared.rule.Rule.{Rule}
 use Rattle.mpw_hier.specs.Values.{flat}
 use Rattle.mpw_job.specs.Layout.{AreFlatMarkers, AreLayoutMarkers}
 use Rattle.mpw_firm.specs.Drawings.{AreFlatByEachSide, AreFlatOf, IsDeckOf, IsDrawnBy, IsDrawnOf, IsReadBy, IsReadFrom, IsTopOf}
-use Rattle.mpw_firm.specs.Sources.{Source, kept_text}
+use Rattle.mpw_firm.specs.Sources.{Source, IsSourceOf, kept_text}
 use Rattle.mpw_firm.specs.declared.checked.Drawn.{Drawn}
 use Rattle.mpw_firm.specs.declared.choices.Choices.{Choices}
-use Rattle.mpw_geom.specs.declared.plane.Layer.{Layer}
 use Rattle.mpw_markers.specs.declared.marker.Marker.{Marker}
 use Rattle.mpw_tiles.specs.Snapshots.{Snapshot}
 
@@ -39,37 +38,41 @@ read_from : (deck top library : List ℕ) (made : Deck) (layout : Snapshot)
 read_from deck top library made layout of drawn =
     (of.0, of.1, subst (λ d. IsDrawnFrom d top library layout) of.2 drawn)
 
+-- Where nothing is left out, the text is read as it is.
+kept_plain : (library : List ℕ) (source : Source) → IsSourceOf [] None library source
+    → kept_text source ≡ library
+kept_plain library source of = rw (of.structures, of.layers) of.text_is
+
+drawn_plain : (top : Option (List ℕ)) (deck : Deck) (library : List ℕ) (source : Source)
+    (drawn : Drawn) → IsSourceOf [] None library source → IsDrawnBy top deck source drawn
+    → IsTopOf top library drawn.top × IsDrawnFrom deck drawn.top library drawn.layout
+drawn_plain top deck library source drawn of by =
+    let same = kept_plain library source of in (
+      subst (λ text. IsTopOf top text drawn.top) same by.named,
+      subst (λ text. IsDrawnFrom deck drawn.top text drawn.layout) same by.from,
+    )
+
 pub part_read : (top : Option (List ℕ)) (side : Option ℕ) (deck library : List ℕ)
-    (source : Source) (drawn : Drawn) → side ≡ None
-    → source ≡ record { skip = []; text = library } → IsDrawnOf top side deck source drawn
+    (source : Source) (drawn : Drawn) → side ≡ None → IsSourceOf [] None library source
+    → IsDrawnOf top side deck source drawn
     → IsReadFrom deck drawn.top library drawn.layout
 part_read top side deck library source drawn none is of =
-    let by = subst (λ s. IsDrawnBy top of.made s drawn) is of.by in
     read_from deck drawn.top library of.made drawn.layout
-    (subst (λ s. IsDeckOf s deck of.made) none of.read) by.from
+    (subst (λ s. IsDeckOf s deck of.made) none of.read)
+    (drawn_plain top of.made library source drawn is of.by).1
 
 pub part_named : (top : Option (List ℕ)) (side : Option ℕ) (deck library : List ℕ)
-    (source : Source) (drawn : Drawn) → source ≡ record { skip = []; text = library }
-    → IsDrawnOf top side deck source drawn → IsTopOf top library drawn.top
+    (source : Source) (drawn : Drawn) → IsSourceOf [] None library source
+    → IsDrawnOf top side deck source drawn
+    → IsTopOf top library drawn.top
 part_named top side deck library source drawn is of =
-    let by = subst (λ s. IsDrawnBy top of.made s drawn) is of.by in by.named
-
--- What is drawn of a source is read as it is chosen.
-pub read_by : (top : Option (List ℕ)) (choices : Choices) (deck library : List ℕ)
-    (skip : List Layer) (source : Source) (drawn : Drawn) → skip ≡ choices.skip.items
-    → source ≡ record { skip = skip; text = library }
-    → IsDrawnOf top choices.tile deck source drawn
-    → IsReadBy top choices deck library drawn
-read_by top choices deck library skip source drawn same is of =
-    subst (λ (layers : List Layer). IsDrawnOf top choices.tile deck
-    (record { skip = layers; text = library }) drawn) same
-    (subst (λ s. IsDrawnOf top choices.tile deck s drawn) is of)
+    (drawn_plain top of.made library source drawn is of.by).0
 
 -- The markers of what is read so are flat.
 pub flat_of : AreFlatByEachSide → (top : Option (List ℕ)) (choices : Choices)
     (deck library : List ℕ) (drawn : Drawn) (book : List Marker)
-    → IsReadBy top choices deck library drawn → AreLayoutMarkers drawn.layout book
-    → AreFlatOf deck drawn.top (kept_text choices.skip.items library) book
+    → (read : IsReadBy top choices deck library drawn) → AreLayoutMarkers drawn.layout book
+    → AreFlatOf deck drawn.top (kept_text read.source) book
 flat_of law top choices deck library drawn book read are =
-    law choices.tile deck drawn.top (kept_text choices.skip.items library) read.made drawn.layout
-    book read.read read.by.from are
+    law choices.tile deck drawn.top (kept_text read.source) read.of.made drawn.layout book
+    read.of.read read.of.by.from are

@@ -87,7 +87,7 @@ pub record IsChecked (options : Options) (choices : Choices) (old new : Option (
   pub read : IsReadBy options.top choices deck library drawn
   pub looked : IsLookedAt options.strict drawn.layout
   pub markers : AreLayoutMarkers drawn.layout book
-  pub flat : AreFlatOf deck drawn.top (kept_text choices.skip.items library) book
+  pub flat : AreFlatOf deck drawn.top (kept_text read.source) book
   pub count : found ≡ length book
   pub kept : PutsAll options drawn.top drawn.layout book old new
 

@@ -1,5 +1,5 @@
 -- What is checked, by the texts of a deck and a library; and why it can't be.
-use Rattle.std.specs.Prelude.{◌≡◌, ◌⊎◌, ◌++◌, ℕ, List, codes, Option, None, Some, Ok, Err}
+use Rattle.std.specs.Prelude.{◌≡◌, ◌⊎◌, ◌++◌, ℕ, Bool, true, false, List, codes, Option, None, Some, Ok, Err}
 use Rattle.std.specs.String.{string_bytes}
 use Rattle.mpw_check.specs.Drawn.{drawn_shelf, IsDrawnFrom, IsOfText}
 use Rattle.mpw_check.specs.declared.fault.CheckFault.{CheckFault}
@@ -13,7 +13,7 @@ use Rattle.mpw_firm.specs.declared.fault.FirmFault.TheVariants.{Memory}
 use Rattle.mpw_firm.specs.declared.checked.Drawn.{Drawn}
 use Rattle.mpw_firm.specs.declared.choices.Choices.{Choices}
 use Rattle.mpw_firm.specs.declared.options.Options.{Options}
-use Rattle.mpw_firm.specs.Sources.{Source, kept_text, moved, moved_fault}
+use Rattle.mpw_firm.specs.Sources.{Source, IsSourceOf, kept_text, moved, moved_fault}
 use Rattle.mpw_hier.specs.Values.{flat}
 use Rattle.mpw_job.specs.Layout.{AreFlatMarkers, AreLayoutMarkers}
 use Rattle.mpw_library.specs.Grammar.{library_of}
@@ -28,7 +28,7 @@ use Rattle.mpw_tiles.specs.Snapshots.{Snapshot}
 abbrev pub IsOfDeck : (file text : List ℕ) → FirmFault → Type 0
 IsOfDeck file text fault =
     (fault ≡ Memory)
-    ⊎ ((why : DeckFault) × (deck_of text ≡ Err why) × Tells (deck_told file why) fault)
+    ⊎ ((why : DeckFault) × (deck_of text ≡ Err why) × Tells (deck_told file why text) fault)
 
 -- The texts are a deck's and a library's, whose structure of that name is drawn under the deck.
 abbrev pub IsReadFrom : (deck top library : List ℕ) → Snapshot → Type 0
@@ -45,8 +45,8 @@ IsTopOf None text top = only_top text ≡ Some top
 -- It is drawn under the deck, of a library's text as it is read.
 pub record IsDrawnBy (top : Option (List ℕ)) (deck : Deck) (source : Source) (drawn : Drawn) :
     Type 0 where
-  pub named : IsTopOf top (kept_text source.skip source.text) drawn.top
-  pub from : IsDrawnFrom deck drawn.top (kept_text source.skip source.text) drawn.layout
+  pub named : IsTopOf top (kept_text source) drawn.top
+  pub from : IsDrawnFrom deck drawn.top (kept_text source) drawn.layout
 
 -- The deck is that of the text, with that side where there is one.
 abbrev pub IsDeckOf : Option ℕ → List ℕ → Deck → Type 0
@@ -59,10 +59,17 @@ pub record IsDrawnOf (top : Option (List ℕ)) (side : Option ℕ) (deck : List 
   pub read : IsDeckOf side deck made
   pub by : IsDrawnBy top made source drawn
 
--- The same as it is chosen.
-abbrev pub IsReadBy : Option (List ℕ) → Choices → (deck library : List ℕ) → Drawn → Type 0
-IsReadBy top choices deck library drawn =
-    IsDrawnOf top choices.tile deck (record { skip = choices.skip.items; text = library }) drawn
+-- The structure which has to reach what is read: the one that is named, where that is asked for.
+abbrev pub above : Bool → Option (List ℕ) → Option (List ℕ)
+above false top = None
+above true top = top
+
+-- The same as it is chosen: without the elements on some layers, and the structures that aren't reached.
+pub record IsReadBy (top : Option (List ℕ)) (choices : Choices) (deck library : List ℕ)
+    (drawn : Drawn) : Type 0 where
+  pub source : Source
+  pub left : IsSourceOf choices.skip.items (above choices.unreached top) library source
+  pub of : IsDrawnOf top choices.tile deck source drawn
 
 -- ---- the markers of it
 
@@ -89,8 +96,8 @@ AreFlatByEachSide =
 abbrev pub IsOfSource : (file top : List ℕ) → Source → FirmFault → Type 0
 IsOfSource file top source fault =
     (fault ≡ Memory)
-    ⊎ ((why : CheckFault) × IsOfText top (kept_text source.skip source.text) why
-    × Tells (check_told file top (moved source.skip source.text why) source.text) fault)
+    ⊎ ((why : CheckFault) × IsOfText top (kept_text source) why
+    × Tells (check_told file top (moved source why) source.text) fault)
 
 unfoldable pub no_top_text : List ℕ → List ℕ
 no_top_text file =
@@ -101,15 +108,15 @@ no_top_text file =
 abbrev pub IsOfNoTop : List ℕ → Source → FirmFault → Type 0
 IsOfNoTop file source fault =
     (fault ≡ Memory)
-    ⊎ ((why : ReadFault) × (library_of (kept_text source.skip source.text) ≡ Err why)
-    × Refuses (library_text file (moved_fault source.skip source.text why) source.text) fault)
-    ⊎ ((only_top (kept_text source.skip source.text) ≡ None) × Refuses (no_top_text file) fault)
+    ⊎ ((why : ReadFault) × (library_of (kept_text source) ≡ Err why)
+    × Refuses (library_text file (moved_fault source why) source.text) fault)
+    ⊎ ((only_top (kept_text source) ≡ None) × Refuses (no_top_text file) fault)
 
 -- One of the two.
 abbrev pub IsOfDrawing : List ℕ → Option (List ℕ) → Source → FirmFault → Type 0
 IsOfDrawing file top source fault =
     IsOfNoTop file source fault
-    ⊎ ((name : List ℕ) × IsTopOf top (kept_text source.skip source.text) name
+    ⊎ ((name : List ℕ) × IsTopOf top (kept_text source) name
     × IsOfSource file name source fault)
 
 -- Nothing is checked of these texts: the deck's is refused; or it is a deck's, and the library's is refused.

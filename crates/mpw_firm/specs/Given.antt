@@ -40,6 +40,7 @@ IsPortion found (Whole choices) =
     ≡ option_map Some choices.tile)
     × IsSkipped (first_value found (codes "skip-layers")) choices.skip.items
     × (one_text found (codes "faults") ≡ Some (codes "true") → choices.faults ≡ true)
+    × (one_text found (codes "skip-unreached") ≡ Some (codes "true") → choices.unreached ≡ true)
 IsPortion found (Tiles range) =
     (option_map range_of (first_value found (codes "tiles")) ≡ Some (Some range)) × IsAlone found
 

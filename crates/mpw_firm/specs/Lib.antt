@@ -1,6 +1,7 @@
 pub mod Blanks
 pub mod Came
 pub mod Causes
+pub mod Colons
 pub mod Commands
 pub mod Drawings
 pub mod Given

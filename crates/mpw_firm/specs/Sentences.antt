@@ -90,7 +90,7 @@ structure_sentence hier.Full = codes "the structure can't be placed"
 unfoldable pub deck_sentence : DeckKind → List ℕ
 deck_sentence deck.Word =
     codes "a line is 'tile SIDE', or 'CHECK NAME LAYER.. DISTANCE' with width, space, "
-    ++ codes "separation or enclosing, and a NAME without a colon; no line is empty or a comment"
+    ++ codes "separation or enclosing; no line is empty or a comment"
 deck_sentence deck.Number =
     codes "a distance is 1 to 65535 nm, and a tile's side 256 to 2^30 nm; lines end with a "
     ++ codes "line feed alone"
@@ -100,3 +100,9 @@ deck_sentence deck.DoubleRule = codes "each rule has a name of its own"
 deck_sentence deck.Tile = codes "the first line is 'tile SIDE', and no other"
 deck_sentence deck.Rules = codes "a deck has at most 256 rules"
 deck_sentence deck.Memory = codes "there is no room for it"
+
+-- Of one whose rule's name has a colon.
+unfoldable pub colon_sentence : List ℕ
+colon_sentence =
+    codes "a rule's name has a colon, which parts the words of a marker's key: take another "
+    ++ codes "sign for it, as _"

@@ -1,5 +1,5 @@
 -- What is told of a deck's fault, and of what keeps a library from being checked.
-use Rattle.std.specs.Prelude.{ℕ, List, ◌++◌, codes, Option, None, Some}
+use Rattle.std.specs.Prelude.{ℕ, List, ◌++◌, codes, Option, None, Some, if◌then◌else◌}
 use Rattle.std.specs.List.{flat_map}
 use Rattle.mpw_check.specs.declared.fault.CheckFault.{CheckFault}
 use Rattle.mpw_check.specs.declared.fault.CheckFault.TheVariants as kinds
@@ -11,22 +11,30 @@ use Rattle.mpw_hier.specs.Words.{hier_word}
 use Rattle.mpw_hier.specs.declared.fault.HierFault.{HierFault}
 use Rattle.mpw_records.specs.Words as records
 use Rattle.mpw_records.specs.declared.fault.ReadFault.{ReadFault}
+use Rattle.mpw_firm.specs.Colons.{is_of_colon}
 use Rattle.mpw_firm.specs.Places.{structure_at}
-use Rattle.mpw_firm.specs.Sentences.{deck_sentence, library_sentence, structure_sentence}
+use Rattle.mpw_firm.specs.Sentences.{colon_sentence, deck_sentence, library_sentence, structure_sentence}
 
 -- ---- of a deck
 
-unfoldable pub deck_text : List ℕ → DeckFault → List ℕ
-deck_text file fault =
-    file ++ (codes ": " ++ (decks.fault_text fault ++ (codes ": " ++ deck_sentence fault.kind)))
+unfoldable pub deck_text : List ℕ → DeckFault → (sentence : List ℕ) → List ℕ
+deck_text file fault sentence =
+    file ++ (codes ": " ++ (decks.fault_text fault ++ (codes ": " ++ sentence)))
+
+-- By its kind, but of a colon in a rule's name by that.
+abbrev pub line_sentence : DeckFault → List ℕ → List ℕ
+line_sentence fault text =
+    if is_of_colon fault text then colon_sentence else deck_sentence fault.kind
 
 -- Want of memory has no text of its own.
 abbrev pub unless_memory : DeckKind → List ℕ → Option (List ℕ)
 unless_memory deck.Memory text = None
 unless_memory kind text = Some text
 
-abbrev pub deck_told : List ℕ → DeckFault → Option (List ℕ)
-deck_told file fault = unless_memory fault.kind (deck_text file fault)
+-- Of a fault of a deck's text.
+abbrev pub deck_told : List ℕ → DeckFault → (text : List ℕ) → Option (List ℕ)
+deck_told file fault text =
+    unless_memory fault.kind (deck_text file fault (line_sentence fault text))
 
 -- ---- of a library's records
 

@@ -22,6 +22,8 @@ pub struct Choices {
     pub tile: Option<TileSide>,
     /// The layers whose elements are left out before the library is read.
     pub skip: Vec<Layer>,
+    /// Whether the structures that the checked one doesn't reach are left out.
+    pub unreached: bool,
     /// Whether all faults of the library's elements are told, where it has one.
     pub faults: bool,
 }
@@ -61,7 +63,18 @@ pub fn with_choices<'a>(alloc: Global, command: Command<'a>) -> Result<Command<'
         .long("faults")
         .action(ArgAction::SetTrue)
         .help("Tells the fault of each element, where the library has one, and not only the first");
-    command.arg(tiles)?.arg(tile)?.arg(skip)?.arg(faults)
+    let unreached = Arg::new(alloc, "skip-unreached")
+        .long("skip-unreached")
+        .action(ArgAction::SetTrue)
+        .help(
+            "With --top, leaves out the structures that it doesn't reach, and tells their faults",
+        );
+    command
+        .arg(tiles)?
+        .arg(tile)?
+        .arg(skip)?
+        .arg(unreached)?
+        .arg(faults)
 }
 
 /// The tiles that a word names.
@@ -138,6 +151,12 @@ fn tiles_alone(alloc: Global, matches: &ArgMatches<'_>) -> Result<(), FirmFault>
     alone(alloc, matches.get_str("tile"), tile)?;
     let skip = "error: a part is of the whole library: --skip-layers is for a check of all tiles";
     alone(alloc, matches.get_str("skip-layers"), skip)?;
+    if matches.get_flag("skip-unreached") {
+        return Err(usage(
+            alloc,
+            "error: a part is of the whole library: --skip-unreached is for a check of all tiles",
+        ));
+    }
     if matches.get_flag("faults") {
         return Err(usage(
             alloc,
@@ -163,6 +182,7 @@ pub fn read_portion(alloc: Global, matches: &ArgMatches<'_>) -> Result<Portion, 
         None => Ok(Portion::Whole(Choices {
             tile: read_tile(alloc, matches.get_str("tile"))?,
             skip: read_skip(alloc, matches.get_str("skip-layers"))?,
+            unreached: matches.get_flag("skip-unreached"),
             faults: matches.get_flag("faults"),
         })),
     }

@@ -1,9 +1,9 @@
 //! What is checked, of the texts of a deck and a library. `specs/Drawings.antt` has what contracts say of it.
-ghost use Rattle.std.specs.Prelude.{◌≡◌, ℕ, List, None, IfOk, IfErr};
+ghost use Rattle.std.specs.Prelude.{◌≡◌, ℕ, List, None, option_map, IfOk, IfErr};
 ghost use Rattle.std.specs.String.{string_bytes};
 ghost use Rattle.mpw_check.specs.Drawn.{IsDrawnFrom};
 ghost use Rattle.mpw_choices.specs.Tops.{only_top};
-ghost use Rattle.mpw_firm.specs.Drawings.{IsDeckOf, IsDrawnBy, IsDrawnOf, IsOfDeck, IsOfDrawing, IsOfNoTop, IsOfSource, IsOfTexts, IsReadBy, IsTopOf, no_top_text};
+ghost use Rattle.mpw_firm.specs.Drawings.{above, IsDeckOf, IsDrawnBy, IsDrawnOf, IsOfDeck, IsOfDrawing, IsOfNoTop, IsOfSource, IsOfTexts, IsReadBy, IsTopOf, no_top_text};
 ghost use Rattle.mpw_firm.specs.Sources.{kept_text};
 ghost use Rattle.mpw_firm.specs.Told.{Refuses, Tells};
 ghost use Rattle.mpw_firm.specs.ToldFaults.{check_told};
@@ -15,7 +15,7 @@ use crate::options::Options;
 use crate::reading::{Content, deck_of, read_file, read_library};
 use crate::source::Source;
 use crate::told::{check_fault, library_fault, refusal};
-use crate::told_faults::tell_faults;
+use crate::told_faults::{tell_faults, tell_left_out};
 use crate::tops::tell_tops;
 use mpw_check::{CheckFault, read_layout};
 use mpw_choices::{TileSide, only_top, with_side};
@@ -55,7 +55,7 @@ fn several_tops(alloc: Global, file: &str) -> FirmFault
 
 /// The same, or what is told of its first fault, if it has one.
 fn no_top(rt: &HostRuntime, file: &str, source: &Source<'_>) -> FirmFault
-    requires { only_top (kept_text source.now.skip source.now.text) ≡ None }
+    requires { only_top (kept_text source.now) ≡ None }
     ensures { IsOfNoTop file.now source.now result }
 {
     match mpw_library::read_library(rt.alloc(), source.kept()) {
@@ -72,7 +72,7 @@ fn no_top(rt: &HostRuntime, file: &str, source: &Source<'_>) -> FirmFault
 
 /// The name of the structure that is checked.
 fn top_of(rt: &HostRuntime, options: &Options, source: &Source<'_>) -> Result<Name, FirmFault>
-    ensures top { IfOk result (IsTopOf options.now.top (kept_text source.now.skip source.now.text)) }
+    ensures top { IfOk result (IsTopOf options.now.top (kept_text source.now)) }
     ensures refused { IfErr result (IsOfNoTop (string_bytes options.now.file) source.now) }
 {
     match &options.top {
@@ -91,7 +91,7 @@ fn drawn_at(
     deck: Deck,
     source: &Source<'_>,
 ) -> Result<Snapshot, FirmFault>
-    ensures drawn { IfOk result (IsDrawnFrom deck target.now.top.now (kept_text source.now.skip source.now.text)) }
+    ensures drawn { IfOk result (IsDrawnFrom deck target.now.top.now (kept_text source.now)) }
     ensures refused { IfErr result (IsOfSource target.now.file.now target.now.top.now source.now) }
 {
     match read_layout(rt.alloc(), deck, target.top, source.kept()) {
@@ -114,7 +114,7 @@ fn drawn_with(
     source: &Source<'_>,
 ) -> Result<Drawn, FirmFault>
     ensures top { IfOk result (λ drawn. drawn.top ≡ top) }
-    ensures drawn { IfOk result (λ drawn. IsDrawnFrom deck top (kept_text source.now.skip source.now.text) drawn.layout) }
+    ensures drawn { IfOk result (λ drawn. IsDrawnFrom deck top (kept_text source.now) drawn.layout) }
     ensures refused { IfErr result (IsOfSource file.now top source.now) }
 {
     let target = Target { file, top: &top };
@@ -179,19 +179,29 @@ pub fn drawn_of(
     }
 }
 
+/// The structure which has to reach what is read, where that is asked for.
+fn above<'a>(options: &'a Options, choices: &Choices) -> Option<&'a Name>
+    ensures { option_map (λ name. name.now) result ≡ above choices.now.unreached options.entry.now.top }
+{
+    match &options.top {
+        Some(top) if choices.unreached => Some(top),
+        _ => None,
+    }
+}
+
 /// What is checked of the whole, of the files that the command line names. What is left out of the library is told on the standard
 /// error, and, where that is asked for, each fault of its elements.
 ///
 /// # Errors
 /// A file that can't be read, a deck or a library with a fault, a structure that can't be checked, or want of memory.
-#[tactic(auto, using(crate::proofs::Flat::read_by))]
 pub fn drawn_by(rt: &HostRuntime, options: &Options, choices: &Choices) -> Result<Drawn, FirmFault>
     ensures { IfOk result (λ drawn. (deck library : List ℕ) × IsReadBy options.now.top choices.now deck library drawn) }
 {
     let text = read_file(rt, options.deck.as_str(), Content::Deck)?;
     let library = read_library(rt, options.file.as_str())?;
-    let source = Source::new(rt.alloc(), choices.skip.as_slice(), library)?;
-    let _ = source.tell(rt, options.file.as_str());
+    let above = above(options, choices);
+    let source = Source::new(rt.alloc(), choices.skip.as_slice(), above, library)?;
+    let _ = tell_left_out(rt, options.file.as_str(), &source);
     match drawn_of(rt, options, &choices.tile, &text, &source) {
         Ok(drawn) => Ok(drawn),
         Err(fault) => {

@@ -95,7 +95,7 @@ pub fn check_range<O: Outputs>(
     let mut line = Line::new(rt);
     let deck = read_file(rt, options.deck.as_str(), Content::Deck)?;
     let library = read_library(rt, options.file.as_str())?;
-    let source = Source::new(rt.alloc(), &[], library)?;
+    let source = Source::new(rt.alloc(), &[], None, library)?;
     let drawn = drawn_of(rt, options, &None, &deck, &source)?;
     let target = Target {
         file: options.file.as_str(),

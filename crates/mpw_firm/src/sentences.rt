@@ -1,7 +1,7 @@
 //! What a fault of a library or a deck means, and what to do. `specs/Sentences.antt` has each sentence.
 ghost use Rattle.std.specs.Prelude.{◌≡◌, if◌then◌else◌};
 ghost use Rattle.mpw_records.specs.declared.fault.Code.TheVariants as code;
-ghost use Rattle.mpw_firm.specs.Sentences.{record_sentence, library_sentence, structure_sentence, deck_sentence};
+ghost use Rattle.mpw_firm.specs.Sentences.{colon_sentence, record_sentence, library_sentence, structure_sentence, deck_sentence};
 
 use crate::cause::{Cause, cause_of};
 use mpw_deck::DeckKind;
@@ -110,7 +110,7 @@ pub fn of_deck(kind: DeckKind) -> &'static str
     match kind {
         DeckKind::Word =>
             "a line is 'tile SIDE', or 'CHECK NAME LAYER.. DISTANCE' with width, space, separation \
-            or enclosing, and a NAME without a colon; no line is empty or a comment",
+            or enclosing; no line is empty or a comment",
         DeckKind::Number =>
             "a distance is 1 to 65535 nm, and a tile's side 256 to 2^30 nm; lines end with a line \
             feed alone",
@@ -121,4 +121,13 @@ pub fn of_deck(kind: DeckKind) -> &'static str
         DeckKind::Rules => "a deck has at most 256 rules",
         DeckKind::Memory => "there is no room for it",
     }
+}
+
+/// The same of a line whose rule's name has a colon.
+#[tactic(auto, unfolding(crate::specs::Sentences::colon_sentence))]
+pub fn of_colon() -> &'static str
+    ensures { result.now ≡ colon_sentence }
+{
+    "a rule's name has a colon, which parts the words of a marker's key: take another sign for it, \
+    as _"
 }

@@ -1,73 +1,81 @@
-//! A library's text as it is read: without the elements on the layers that are set aside. `specs/Sources.antt` has what contracts say
-//! of it.
-ghost use Rattle.std.specs.Prelude.{◌≡◌, IfOk};
-ghost use Rattle.mpw_firm.specs.Sources.{kept_text, moved, moved_fault, place_in};
+//! A library's text as it is read: without the elements on the layers that are set aside, and without the structures that the checked one
+//! doesn't reach, where that is asked for. `specs/Sources.antt` has what contracts say of it.
+ghost use Rattle.std.specs.Prelude.{◌≡◌, option_map, IfOk};
+ghost use Rattle.mpw_firm.specs.Sources.{AreCut, IsSourceOf, cut_place, kept_text, left_fault, left_text, moved, moved_fault};
 
+use crate::layered::Layered;
 use mpw_check::CheckFault;
-use mpw_geom::Layer;
+use mpw_geom::{Layer, Name};
 use mpw_records::ReadFault;
-use mpw_skipping::{Cut, cuts_of_layers, original, without};
+use mpw_skipping::{Cut, cuts_of_unreached, original, without};
 use std::alloc::{AllocError, Global};
-use std::io;
 use std::marker::Model;
 
-/// A library's text, and the layers that are set aside. Contracts see these two.
+/// A library's text, the layers that are set aside, and what is cut out of what is left. Contracts see these.
 pub struct Source<'a> {
-    skip: &'a [Layer],
-    text: Vec<u8>,
-    /// What is left out; nothing where no layers are set aside.
-    cuts: Vec<Cut>,
-    /// What is left; nothing where no layers are set aside.
+    layered: Layered<'a>,
+    structures: Vec<Cut>,
+    /// What is read; nothing where no structures are cut out.
     kept: Vec<u8>,
 }
 
 impl Drop for Source<'_> {
     fn drop(self) {
         let Source {
-            skip: _,
-            text,
-            cuts,
+            layered,
+            structures,
             kept,
         } = self;
-        drop(text);
-        drop(cuts);
+        drop(layered);
+        drop(structures);
         drop(kept);
     }
 }
 
 impl<'a> Model for Source<'a> {
-    ghost use Rattle.mpw_firm.specs.Sources.{Source, IsKept};
+    ghost use Rattle.mpw_firm.specs.Sources.{Source, IsCut, left_text};
 
     ghost Value = { Source };
 
-    ghost view = { λ s. record { skip = s.skip.now; text = s.text.items } };
+    ghost view = { λ s. record { skip = s.layered.skip; structures = s.structures.items; text = s.layered.text } };
 
-    ghost invariant = { λ s. IsKept s.skip.now s.text.items s.cuts.items s.kept.items };
+    ghost invariant = { λ s. IsCut s.structures.items (left_text s.layered.skip s.layered.text) s.kept.items };
+}
+
+/// The cuts of the structures that the one of that name doesn't reach; none where no name is given.
+fn cuts_for(alloc: Global, above: Option<&Name>, text: &[u8]) -> Result<Vec<Cut>, AllocError>
+    ensures { IfOk result (λ cuts. AreCut (option_map (λ name. name.now) above.entry) text.now cuts.items) }
+{
+    match above {
+        Some(top) => cuts_of_unreached(alloc, text, top.as_bytes()),
+        None => Ok(Vec::new(alloc)),
+    }
 }
 
 impl<'a> Source<'a> {
-    /// The source of a text, without the elements on these layers. Where there are such it takes what is left besides.
+    /// The source of a text, without the elements on these layers, and without the structures that the one of that name doesn't reach.
+    /// Where something is left out, it takes what is left besides.
     ///
     /// # Errors
     /// Want of memory.
-    pub fn new(alloc: Global, skip: &'a [Layer], text: Vec<u8>) -> Result<Source<'a>, AllocError>
-        ensures { IfOk result (λ source. source ≡ record { skip = skip.entry.now; text = text.items }) }
+    pub fn new(
+        alloc: Global,
+        skip: &'a [Layer],
+        above: Option<&Name>,
+        text: Vec<u8>,
+    ) -> Result<Source<'a>, AllocError>
+        ensures { IfOk result (IsSourceOf skip.entry.now (option_map (λ name. name.now) above.entry) text.items) }
     {
-        if skip.is_empty() {
-            let (cuts, kept) = (Vec::new(alloc), Vec::new(alloc));
-            return Ok(Source {
-                skip,
-                text,
-                cuts,
-                kept,
-            });
-        }
-        let cuts = cuts_of_layers(alloc, skip, &text)?;
-        let kept = without(alloc, &text, cuts.as_slice())?;
+        let layered = Layered::new(alloc, skip, text)?;
+        let structures = cuts_for(alloc, above, layered.left())?;
+        let kept = if structures.is_empty() {
+            Vec::new(alloc)
+        } else {
+            without(alloc, layered.left(), structures.as_slice())?
+        };
         Ok(Source {
-            skip,
-            text,
-            cuts,
+            layered,
+            structures,
             kept,
         })
     }
@@ -76,42 +84,66 @@ impl<'a> Source<'a> {
     pub fn text(&self) -> &[u8]
         ensures { result.now ≡ self.now.text }
     {
-        self.text.as_slice()
+        self.layered.text()
+    }
+
+    /// The text without the elements on the layers that are set aside.
+    pub fn left(&self) -> &[u8]
+        ensures { result.now ≡ left_text self.now.skip self.now.text }
+    {
+        self.layered.left()
     }
 
     /// The text as it is read.
     pub fn kept(&self) -> &[u8]
-        ensures { result.now ≡ kept_text self.now.skip self.now.text }
+        ensures { result.now ≡ kept_text self.now }
     {
-        match self.skip {
-            [] => self.text.as_slice(),
+        match self.structures.as_slice() {
+            [] => self.layered.left(),
             _ => self.kept.as_slice(),
         }
     }
 
-    /// Where a byte of the text as it is read stands in the file.
-    fn place(&self, at: usize) -> usize
-        ensures { result ≡ place_in self.now.skip self.now.text at }
+    /// What is cut out of the text that is left.
+    pub fn structures(&self) -> &[Cut]
+        ensures { result.now ≡ self.now.structures }
     {
-        match self.skip {
+        self.structures.as_slice()
+    }
+
+    /// Where a byte of the text as it is read stands in the one that is left.
+    fn cut_place(&self, at: usize) -> usize
+        ensures { result ≡ cut_place self.now.structures at }
+    {
+        match self.structures.as_slice() {
             [] => at,
-            _ => original(self.cuts.as_slice(), at),
+            cuts => original(cuts, at),
         }
     }
 
     /// A fault of the text as it is read, with its place in the file.
     pub fn moved_fault(&self, fault: ReadFault) -> ReadFault
-        ensures { result ≡ moved_fault self.now.skip self.now.text fault }
+        ensures { result ≡ moved_fault self.now fault }
     {
         ReadFault {
             code: fault.code,
-            offset: self.place(fault.offset),
+            offset: self.layered.place(self.cut_place(fault.offset)),
+        }
+    }
+
+    /// A fault of the text that is left, with its place in the file.
+    pub fn left_fault(&self, fault: ReadFault) -> ReadFault
+        ensures { result ≡ left_fault self.now fault }
+    {
+        ReadFault {
+            code: fault.code,
+            offset: self.layered.place(fault.offset),
         }
     }
 
     /// What keeps the text as it is read from being checked, with its place in the file.
     pub fn moved(&self, fault: CheckFault) -> CheckFault
-        ensures { result ≡ moved self.now.skip self.now.text fault }
+        ensures { result ≡ moved self.now fault }
     {
         match fault {
             CheckFault::Library(fault) => CheckFault::Library(self.moved_fault(fault)),
@@ -119,18 +151,8 @@ impl<'a> Source<'a> {
         }
     }
 
-    /// Tells on the standard error how many elements are left out.
-    ///
-    /// # Errors
-    /// That of the standard error.
-    pub fn tell(&self, rt: &HostRuntime, file: &str) -> io::Result<()> {
-        if !self.skip.is_empty() {
-            let left = self.cuts.len();
-            eprintln!(rt;
-                "note: {file}: elements left out, on skipped layers: {left}; the desk reads them, and \
-                refuses the file as it stands where one of them has a fault"
-            )?;
-        }
-        Ok(())
+    /// The elements that are left out, for those who tell of them.
+    pub fn layered(&self) -> &Layered<'a> {
+        &self.layered
     }
 }

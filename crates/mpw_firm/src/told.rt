@@ -5,12 +5,13 @@ ghost use Rattle.mpw_records.specs.Words.{fault_text};
 ghost use Rattle.mpw_firm.specs.Outputs.{IsOfWrite, IsUnput};
 ghost use Rattle.mpw_firm.specs.Texts.{place_of};
 ghost use Rattle.mpw_firm.specs.Told.{CannotBeRead, CannotBeWritten, Fails, Misuses, Refuses, Tells, output_text, unread_text, unwritten_text};
-ghost use Rattle.mpw_firm.specs.ToldFaults.{check_told, deck_text, deck_told, library_text, named_text, outside_text, record_text, spaced, structure_text, tiles_text};
+ghost use Rattle.mpw_firm.specs.ToldFaults.{check_told, deck_text, deck_told, library_text, line_sentence, named_text, outside_text, record_text, spaced, structure_text, tiles_text};
 
+use crate::colon::is_of_colon;
 use crate::fault::FirmFault;
 use crate::outputs::Place;
 use crate::place::structure_at;
-use crate::sentences::{of_deck, of_library, of_structure};
+use crate::sentences::{of_colon, of_deck, of_library, of_structure};
 use mpw_check::CheckFault;
 use mpw_deck::{DeckFault, DeckKind};
 use mpw_geom::{Name, Names};
@@ -64,20 +65,33 @@ fn list_of_names(alloc: Global, names: &Names) -> Result<String, AllocError>
 
 /// What is told of a deck's line.
 #[tactic(auto, unfolding(crate::specs::ToldFaults::deck_text))]
-fn line_fault(alloc: Global, file: &str, fault: DeckFault) -> FirmFault
-    ensures { Refuses (deck_text file.now fault) result }
+fn line_fault(alloc: Global, file: &str, fault: DeckFault, sentence: &str) -> FirmFault
+    ensures { Refuses (deck_text file.now fault sentence.now) result }
 {
-    let sentence = of_deck(fault.kind);
     refusal(format!(in alloc; "{file}: {fault}: {sentence}"))
 }
 
-/// What is told of a deck's fault.
-pub fn deck_fault(alloc: Global, file: &str, fault: DeckFault) -> FirmFault
-    ensures { Tells (deck_told file.now fault) result }
+/// What the fault of a deck's line means and what to do.
+fn line_sentence(alloc: Global, fault: DeckFault, text: &[u8]) -> Result<&'static str, AllocError>
+    ensures { IfOk result (λ sentence. sentence.now ≡ line_sentence fault text.now) }
+{
+    if is_of_colon(alloc, fault, text)? {
+        Ok(of_colon())
+    } else {
+        Ok(of_deck(fault.kind))
+    }
+}
+
+/// What is told of a fault of a deck's text.
+pub fn deck_fault(alloc: Global, file: &str, fault: DeckFault, text: &[u8]) -> FirmFault
+    ensures { Tells (deck_told file.now fault text.now) result }
 {
     match fault.kind {
         DeckKind::Memory => FirmFault::Memory,
-        _ => line_fault(alloc, file, fault),
+        _ => match line_sentence(alloc, fault, text) {
+            Ok(sentence) => line_fault(alloc, file, fault, sentence),
+            Err(_) => FirmFault::Memory,
+        },
     }
 }
 

@@ -1,34 +1,40 @@
-//! All faults of a library's elements, told on the standard error.
+//! Faults of a library's elements, and what is left out of it, told on the standard error.
 
 use crate::source::Source;
-use mpw_faults::{Details, FaultFound, all_faults};
+use mpw_faults::{FaultFound, all_faults, first_point, structure_of, unit_of};
 use mpw_geom::Point;
+use mpw_records::ReadFault;
+use mpw_skipping::{Cut, ElementSpan};
 use std::io;
 
-/// Tells where an element stands.
-fn tell_details(rt: &HostRuntime, at: &Details) -> io::Result<()> {
-    if let Some(name) = &at.structure {
+/// Tells where an element of a text stands.
+fn tell_element(rt: &HostRuntime, text: &[u8], span: &ElementSpan) -> io::Result<()> {
+    if let Some(name) = structure_of(rt.alloc(), text, span.structure)? {
         eprint!(rt; " in {}", name.as_str())?;
     }
-    if let (Some(layer), Some(datatype)) = (at.layer, at.datatype) {
+    if let (Some(layer), Some(datatype)) = (span.layer, span.datatype) {
         eprint!(rt; ", layer {layer}/{datatype}")?;
     }
-    if let Some(Point { x, y }) = at.point {
-        eprint!(rt; ", at {x},{y}")?;
+    if let Some(unit) = unit_of(text) {
+        if let Some(Point { x, y }) = first_point(unit, text, span.points) {
+            eprint!(rt; ", at {x},{y}")?;
+        }
     }
     Ok(())
 }
 
-/// Tells a fault, with its place in the file.
+/// Tells a fault, with its place in the file, of the element that stands in that text.
 fn tell_fault(
     rt: &HostRuntime,
     file: &str,
-    source: &Source<'_>,
-    found: &FaultFound,
+    text: &[u8],
+    fault: ReadFault,
+    element: &Option<ElementSpan>,
 ) -> io::Result<()> {
-    let fault = source.moved_fault(found.fault);
     eprint!(rt; "fault: {file}: {fault}")?;
-    tell_details(rt, &found.at)?;
+    if let Some(span) = element {
+        tell_element(rt, text, span)?;
+    }
     eprintln!(rt; "")
 }
 
@@ -38,9 +44,61 @@ fn tell_fault(
 /// # Errors
 /// Want of memory, or that of the standard error.
 pub fn tell_faults(rt: &HostRuntime, file: &str, source: &Source<'_>) -> io::Result<()> {
-    let faults = all_faults(rt.alloc(), source.kept())?;
+    let text = source.kept();
+    let faults = all_faults(rt.alloc(), text)?;
     for found in faults.as_slice() {
-        tell_fault(rt, file, source, found)?;
+        let fault = source.moved_fault(found.fault);
+        tell_fault(rt, file, text, fault, &found.element)?;
     }
     Ok(())
+}
+
+/// Whether a fault stands in what is cut out.
+fn is_cut(cuts: &[Cut], found: &FaultFound) -> bool {
+    let at = found.fault.offset;
+    cuts.iter().any(|cut| cut.start <= at && at < cut.end)
+}
+
+/// Tells the faults of the structures that are left out, and how many these are.
+fn tell_unreached_faults(rt: &HostRuntime, file: &str, source: &Source<'_>) -> io::Result<usize> {
+    let text = source.left();
+    let faults = all_faults(rt.alloc(), text)?;
+    let mut told = 0usize;
+    for found in faults.as_slice() {
+        if is_cut(source.structures(), found) {
+            let fault = source.left_fault(found.fault);
+            tell_fault(rt, file, text, fault, &found.element)?;
+            told = told.saturating_add(1);
+        }
+    }
+    Ok(told)
+}
+
+/// Tells which structures are left out, and their faults.
+fn tell_unreached(rt: &HostRuntime, file: &str, source: &Source<'_>) -> io::Result<()> {
+    let left_out = source.structures().len();
+    let faults = tell_unreached_faults(rt, file, source)?;
+    eprint!(rt;
+        "note: {file}: structures left out, which the checked one doesn't reach: {left_out}"
+    )?;
+    if faults == 0 {
+        eprintln!(rt; "; the desk reads them")
+    } else {
+        eprintln!(rt;
+            ", with faults: {faults}; the desk reads them, and refuses the file as it stands"
+        )
+    }
+}
+
+/// Tells on the standard error what is left out of a library: the number of the elements on skipped layers, and that of the structures that
+/// the checked one doesn't reach, with each fault of these.
+///
+/// # Errors
+/// Want of memory, or that of the standard error.
+pub fn tell_left_out(rt: &HostRuntime, file: &str, source: &Source<'_>) -> io::Result<()> {
+    source.layered().tell(rt, file)?;
+    if source.structures().is_empty() {
+        return Ok(());
+    }
+    tell_unreached(rt, file, source)
 }

@@ -1,5 +1,0 @@
-use Rattle.std.proofs.Common.{length}
-use Rattle.mpw_firm.proofs.tops.names_in.Given as goal
-
-abbrev pub decreases-loop-outcome : goal.decreases-loop-outcome
-decreases-loop-outcome l = length l.records
