@@ -1,2 +1,3 @@
 mod Escaped
 mod Exact
+pub mod Rows

@@ -1,3 +1,4 @@
+pub mod Content
 pub mod Escapes
 pub mod Lengths
 pub mod Parts

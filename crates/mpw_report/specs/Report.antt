@@ -1,7 +1,8 @@
 -- The text of a report: what a deck's rules and a book's markers are in a report database of KLayout's.
-use Rattle.std.specs.Prelude.{ℕ, ℤ, List, [], ◌∷◌, ◌++◌, codes, slice_get, Option, None, Some}
-use Rattle.std.specs.List.{concat, flat_map}
+use Rattle.std.specs.Prelude.{ℕ, ◌-◌, ◌^◌, nat_le, if◌then◌else◌, ℤ, List, [], ◌∷◌, ◌++◌, length, take, codes, Option, None, Some}
+use Rattle.std.specs.List.{concat, flat_map, enumerate_from}
 use Rattle.std.specs.Fmt.{decimal}
+use Rattle.mpw_geom.specs.declared.plane.Box2.{Box2}
 use Rattle.mpw_geom.specs.declared.plane.Layer.{Layer}
 use Rattle.mpw_geom.specs.declared.plane.Point.{Point}
 use Rattle.mpw_deck.specs.declared.rule.Check.{Check}
@@ -10,11 +11,12 @@ use Rattle.mpw_deck.specs.declared.rule.Rule.{Rule}
 use Rattle.mpw_edges.specs.declared.run.Axis.{Axis}
 use Rattle.mpw_edges.specs.declared.run.Axis.TheVariants.{V, H}
 use Rattle.mpw_markers.specs.declared.marker.Marker.{Marker}
-use Rattle.mpw_report.specs.Escapes.{escaped, path_text}
+use Rattle.mpw_report.specs.Content.{Told, Content, of_rule}
+use Rattle.mpw_report.specs.Escapes.{path_character, escaped, path_text}
 use Rattle.mpw_report.specs.Lengths.{micrometres}
 use Rattle.mpw_report.specs.Parts.{part_text}
 use Rattle.mpw_report.specs.declared.edge.Edge.{Edge}
-use Rattle.mpw_report.specs.declared.part.Part.TheVariants.{Head, Generator, Categories, CategoryName, Description, CategoryEnd, Cells, Items, ItemPath, ItemCell, Value, ItemEnd, End}
+use Rattle.mpw_report.specs.declared.part.Part.TheVariants.{Head, HeadEnd, NoOriginal, Original, OriginalEnd, Generator, Categories, CategoryName, Description, CategoryEnd, FaultCategory, Cells, Items, ItemPath, ItemCell, Value, FaultItem, NextValue, ItemEnd, End}
 
 -- ---- categories: one for each rule
 
@@ -42,11 +44,29 @@ rule_text rule =
     check_word rule.check ++ codes " " ++ escaped rule.name ++ check_layers rule.check ++ codes " "
     ++ decimal rule.distance
 
--- a category: its name, and as its description the rule
-unfoldable pub category_text : Rule → List ℕ
-category_text rule =
-    part_text CategoryName ++ escaped rule.name ++ part_text Description ++ rule_text rule
+-- how many of so many a limit leaves out; nothing where it leaves none out
+unfoldable pub left_out_text : (count limit : ℕ) → List ℕ
+left_out_text count limit =
+    if nat_le count limit then []
+    else concat
+    (codes "; "
+    ∷ decimal (count - limit)
+    ∷ codes " of "
+    ∷ decimal count
+    ∷ codes " markers left out"
+    ∷ [])
+
+-- the category of the rule with that place in the deck: its name, and as its description the rule, and how many markers are left out
+unfoldable pub category_text : Content → ℕ × Rule → List ℕ
+category_text c row =
+    part_text CategoryName ++ escaped row.1.name ++ part_text Description ++ rule_text row.1
+    ++ left_out_text (length (of_rule c.markers row.0)) c.limit
     ++ part_text CategoryEnd
+
+-- that of faults, where there are some
+unfoldable pub fault_category : List Told → List ℕ
+fault_category [] = []
+fault_category (fault ∷ faults) = part_text FaultCategory
 
 -- ---- items: one for each marker
 
@@ -81,29 +101,88 @@ item_text top rule m =
     ++ part_text Value ++ pair_text m
     ++ part_text ItemEnd
 
--- none where the deck has no such rule
-abbrev pub item_under : List ℕ → Option Rule → Marker → List ℕ
-item_under top None m = []
-item_under top (Some rule) m = item_text top rule m
+-- the items of a rule: of its first markers
+abbrev pub rule_items : Content → ℕ × Rule → List ℕ
+rule_items c row = flat_map (item_text c.top row.1) (take c.limit (of_rule c.markers row.0))
 
-abbrev pub item_of : List Rule → List ℕ → Marker → List ℕ
-item_of rules top m = item_under top (slice_get rules m.rule) m
+-- ---- items: one for each fault
+
+-- its structure, where it stands in one
+unfoldable pub place_text : Option (List ℕ) → List ℕ
+place_text None = []
+place_text (Some name) = codes " in " ++ flat_map path_character name
+
+-- its code, its byte and its structure, between quotes
+unfoldable pub fault_value : Told → List ℕ
+fault_value f =
+    codes "text: '" ++ flat_map path_character f.code
+    ++ concat (codes " at byte " ∷ decimal f.byte ∷ [])
+    ++ place_text f.structure
+    ++ codes "'"
+
+-- the lower left corner of a box, and its upper right one
+abbrev pub low_corner : Box2 → Point
+low_corner b = record { x = b.x0; y = b.y0 }
+
+abbrev pub high_corner : Box2 → Point
+high_corner b = record { x = b.x1; y = b.y1 }
+
+-- a box, in micrometres, by both
+unfoldable pub area_text : Box2 → List ℕ
+area_text b =
+    codes "box: (" ++ point_text (low_corner b) ++ codes ";" ++ point_text (high_corner b)
+    ++ codes ")"
+
+-- a further value of the item: where the element lies
+unfoldable pub area_value : Option Box2 → List ℕ
+area_value None = []
+area_value (Some area) = part_text NextValue ++ area_text area
+
+-- the item of a fault, in the cell of that name
+unfoldable pub fault_text : List ℕ → Told → List ℕ
+fault_text top f =
+    part_text FaultItem ++ escaped top ++ part_text Value ++ fault_value f ++ area_value f.area
+    ++ part_text ItemEnd
 
 -- ---- the whole
 
+-- the name of the layout's file, where it is known
+unfoldable pub original_text : Option (List ℕ) → List ℕ
+original_text None = part_text NoOriginal
+original_text (Some file) = part_text Original ++ escaped file ++ part_text OriginalEnd
+
 -- what stands before the categories
-unfoldable pub head_text : List ℕ → List ℕ
-head_text top =
-    part_text Head ++ escaped top ++ part_text Generator ++ escaped top ++ part_text Categories
+unfoldable pub head_text : Content → List ℕ
+head_text c =
+    part_text Head ++ escaped c.top ++ part_text HeadEnd ++ original_text c.original
+    ++ part_text Generator
+    ++ escaped c.top
+    ++ part_text Categories
 
 -- what stands between the categories and the items: the one cell
 unfoldable pub cells_text : List ℕ → List ℕ
 cells_text top = part_text Cells ++ escaped top ++ part_text Items
 
--- the report of these markers, of a structure of that name under these rules: a category for each rule in order, the structure's
--- cell, and an item for each marker in order
-unfoldable pub report_text : List Rule → List ℕ → List Marker → List ℕ
-report_text rules top markers =
-    head_text top ++ flat_map category_text rules ++ cells_text top
-    ++ flat_map (item_of rules top) markers
+-- a report: a category for each rule in order and one for faults, the structure's cell, for each rule an item for each of its first markers
+-- in order, and an item for each fault in order
+unfoldable pub full_text : Content → List ℕ
+full_text c =
+    head_text c ++ flat_map (category_text c) (enumerate_from 0 c.rules) ++ fault_category c.faults
+    ++ cells_text c.top
+    ++ flat_map (rule_items c) (enumerate_from 0 c.rules)
+    ++ flat_map (fault_text c.top) c.faults
     ++ part_text End
+
+-- the report of all markers of a structure of that name under these rules, which names no file and has no faults
+abbrev pub all_markers : List Rule → List ℕ → List Marker → Content
+all_markers rules top markers = record {
+  original = None;
+  top = top;
+  rules = rules;
+  markers = markers;
+  limit = 2 ^ 64 - 1;
+  faults = [];
+}
+
+unfoldable pub report_text : List Rule → List ℕ → List Marker → List ℕ
+report_text rules top markers = full_text (all_markers rules top markers)

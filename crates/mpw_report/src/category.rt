@@ -1,14 +1,17 @@
 //! Categories: one for each rule, with the rule's line as its description.
-ghost use Rattle.std.specs.Prelude.{◌≡◌};
-ghost use Rattle.std.specs.List.{flat_map};
-ghost use Rattle.mpw_report.specs.Report.{layer_text, check_word, check_layers, rule_text, category_text};
+ghost use Rattle.std.specs.Prelude.{◌≡◌, length};
+ghost use Rattle.std.specs.List.{flat_map, enumerate_from};
+ghost use Rattle.mpw_report.specs.Content.{content_of, of_rule};
+ghost use Rattle.mpw_report.specs.Report.{layer_text, check_word, check_layers, rule_text, left_out_text, category_text};
 ghost use Rattle.mpw_text.specs.Writing.{Adds};
 
+use crate::content::Report;
 use crate::name::put_name;
 use crate::part::{Part, put_part};
 use itoa::Buffer;
 use mpw_deck::{Check, Rule};
 use mpw_geom::Layer;
+use mpw_markers::Marker;
 use mpw_text::put;
 use std::io::{self, Write};
 
@@ -68,24 +71,63 @@ pub fn put_rule<W: Write>(writer: &mut W, rule: &Rule) -> io::Result<()>
     put(writer, &[" ", distance.format(rule.distance)])
 }
 
-/// Writes the category of a rule.
+/// Writes how many of so many are left out, where a limit leaves some out: nothing where there are no more than it.
+#[tactic(auto, unfolding(crate::specs::Report::left_out_text))]
+pub fn put_left_out<W: Write>(writer: &mut W, count: usize, limit: usize) -> io::Result<()>
+    ensures { Adds W.contents writer.old writer.new result (left_out_text count limit) }
+{
+    if count <= limit {
+        return Ok(());
+    }
+    let mut others = Buffer::new();
+    let mut all = Buffer::new();
+    put(
+        writer,
+        &[
+            "; ",
+            others.format(count - limit),
+            " of ",
+            all.format(count),
+            " markers left out",
+        ],
+    )
+}
+
+/// How many of the markers are of the rule with that place in its deck.
+fn count_of(markers: &[Marker], place: usize) -> usize
+    ensures { result ≡ length (of_rule markers.now place) }
+{
+    markers
+        .iter()
+        .filter(|marker| marker.rule as usize == place)
+        .count()
+}
+
+/// Writes the category of the rule with that place.
 #[tactic(auto, unfolding(crate::specs::Report::category_text))]
-fn put_category<W: Write>(writer: &mut W, rule: &Rule) -> io::Result<()>
-    ensures { Adds W.contents writer.old writer.new result (category_text rule.now) }
+fn put_category<W: Write>(
+    writer: &mut W,
+    report: &Report<'_>,
+    place: usize,
+    rule: &Rule,
+) -> io::Result<()>
+    ensures { Adds W.contents writer.old writer.new result (category_text (content_of report.now) (place, rule.now)) }
 {
     put_part(writer, Part::CategoryName)?;
     put_name(writer, &rule.name)?;
     put_part(writer, Part::Description)?;
     put_rule(writer, rule)?;
+    put_left_out(writer, count_of(report.markers, place), report.limit)?;
     put_part(writer, Part::CategoryEnd)
 }
 
 /// Writes the categories of rules, in their order.
-pub(crate) fn put_categories<W: Write>(writer: &mut W, rules: &[Rule]) -> io::Result<()>
-    ensures { Adds W.contents writer.old writer.new result (flat_map category_text rules.now) }
+pub(crate) fn put_categories<W: Write>(writer: &mut W, report: &Report<'_>) -> io::Result<()>
+    ensures { Adds W.contents writer.old writer.new result
+        (flat_map (category_text (content_of report.now)) (enumerate_from 0 report.now.rules.now)) }
 {
-    for rule in rules {
-        put_category(writer, rule)?;
+    for (place, rule) in report.rules.iter().enumerate() {
+        put_category(writer, report, place, rule)?;
     }
     Ok(())
 }

@@ -77,7 +77,7 @@ fn second_edge(marker: &Marker) -> Edge
 
 /// Writes a point.
 #[tactic(auto, unfolding(crate::specs::Report::point_text))]
-fn put_point<W: Write>(writer: &mut W, point: Point) -> io::Result<()>
+pub(crate) fn put_point<W: Write>(writer: &mut W, point: Point) -> io::Result<()>
     ensures { Adds W.contents writer.old writer.new result (point_text point) }
 {
     put_micrometres(writer, point.x)?;

@@ -1,9 +1,11 @@
 //! Items: one for each marker, with its pair of edges.
-ghost use Rattle.std.specs.Prelude.{slice_get};
-ghost use Rattle.std.specs.List.{flat_map};
-ghost use Rattle.mpw_report.specs.Report.{item_text, item_of};
+ghost use Rattle.std.specs.Prelude.{take};
+ghost use Rattle.std.specs.List.{flat_map, enumerate_from};
+ghost use Rattle.mpw_report.specs.Content.{content_of};
+ghost use Rattle.mpw_report.specs.Report.{item_text, rule_items};
 ghost use Rattle.mpw_text.specs.Writing.{Adds};
 
+use crate::content::Report;
 use crate::edge::put_pair;
 use crate::name::{put_name, put_path};
 use crate::part::{Part, put_part};
@@ -26,32 +28,34 @@ fn put_item<W: Write>(writer: &mut W, top: &Name, rule: &Rule, marker: &Marker) 
     put_part(writer, Part::ItemEnd)
 }
 
-/// Writes the item of a marker, if the deck has its rule.
-fn put_item_of<W: Write>(
+/// Writes the items of the first markers of the rule with that place, in their order.
+fn put_rule_items<W: Write>(
     writer: &mut W,
-    rules: &[Rule],
-    top: &Name,
-    marker: &Marker,
+    report: &Report<'_>,
+    place: usize,
+    rule: &Rule,
 ) -> io::Result<()>
-    ensures { Adds W.contents writer.old writer.new result (item_of rules.now top.now marker.now) }
+    ensures { Adds W.contents writer.old writer.new result (rule_items (content_of report.now) (place, rule.now)) }
 {
-    match rules.get(marker.rule as usize) {
-        Some(rule) => put_item(writer, top, rule, marker),
-        None => Ok(()),
+    let mut left = report.limit;
+    for marker in report.markers {
+        if marker.rule as usize == place {
+            if left > 0 {
+                put_item(writer, report.top, rule, marker)?;
+                left -= 1;
+            }
+        }
     }
+    Ok(())
 }
 
-/// Writes the items of markers, in their order.
-pub(crate) fn put_items<W: Write>(
-    writer: &mut W,
-    rules: &[Rule],
-    top: &Name,
-    markers: &[Marker],
-) -> io::Result<()>
-    ensures { Adds W.contents writer.old writer.new result (flat_map (item_of rules.now top.now) markers.now) }
+/// Writes the items of the markers of each rule, in the rules' order.
+pub(crate) fn put_items<W: Write>(writer: &mut W, report: &Report<'_>) -> io::Result<()>
+    ensures { Adds W.contents writer.old writer.new result
+        (flat_map (rule_items (content_of report.now)) (enumerate_from 0 report.now.rules.now)) }
 {
-    for marker in markers {
-        put_item_of(writer, rules, top, marker)?;
+    for (place, rule) in report.rules.iter().enumerate() {
+        put_rule_items(writer, report, place, rule)?;
     }
     Ok(())
 }

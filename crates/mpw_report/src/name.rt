@@ -32,21 +32,28 @@ fn put_path_character<W: Write>(writer: &mut W, byte: u8) -> io::Result<()>
     }
 }
 
-/// Writes a name as the text of an element.
-pub fn put_name<W: Write>(writer: &mut W, name: &Name) -> io::Result<()>
-    ensures { Adds W.contents writer.old writer.new result (escaped name.now) }
+/// Writes bytes as the text of an element.
+pub(crate) fn put_escaped<W: Write>(writer: &mut W, bytes: &[u8]) -> io::Result<()>
+    ensures { Adds W.contents writer.old writer.new result (escaped bytes.now) }
 {
-    for byte in name.as_bytes() {
+    for byte in bytes {
         put_character(writer, *byte)?;
     }
     Ok(())
 }
 
-/// Writes the bytes of a category's name as they stand in its path.
-fn put_path_characters<W: Write>(writer: &mut W, name: &Name) -> io::Result<()>
-    ensures { Adds W.contents writer.old writer.new result (flat_map path_character name.now) }
+/// Writes a name as the text of an element.
+pub fn put_name<W: Write>(writer: &mut W, name: &Name) -> io::Result<()>
+    ensures { Adds W.contents writer.old writer.new result (escaped name.now) }
 {
-    for byte in name.as_bytes() {
+    put_escaped(writer, name.as_bytes())
+}
+
+/// Writes bytes as they stand between quotes.
+pub(crate) fn put_path_characters<W: Write>(writer: &mut W, bytes: &[u8]) -> io::Result<()>
+    ensures { Adds W.contents writer.old writer.new result (flat_map path_character bytes.now) }
+{
+    for byte in bytes {
         put_path_character(writer, *byte)?;
     }
     Ok(())
@@ -57,6 +64,6 @@ pub(crate) fn put_path<W: Write>(writer: &mut W, name: &Name) -> io::Result<()>
     ensures { Adds W.contents writer.old writer.new result (path_text name.now) }
 {
     put(writer, &["'"])?;
-    put_path_characters(writer, name)?;
+    put_path_characters(writer, name.as_bytes())?;
     put(writer, &["'"])
 }

@@ -11,6 +11,14 @@ use std::io::{self, Write};
 pub(crate) enum Part {
     /// Before the name in the description.
     Head,
+    /// Behind it.
+    HeadEnd,
+    /// In the place of the layout's file, where it isn't known.
+    NoOriginal,
+    /// Before its name.
+    Original,
+    /// Behind it.
+    OriginalEnd,
     /// Before the name of the top.
     Generator,
     /// Before the categories.
@@ -21,6 +29,8 @@ pub(crate) enum Part {
     Description,
     /// Behind its description.
     CategoryEnd,
+    /// The category of faults.
+    FaultCategory,
     /// Before the name of the cell.
     Cells,
     /// Before the items.
@@ -31,7 +41,11 @@ pub(crate) enum Part {
     ItemCell,
     /// Before its value.
     Value,
-    /// Behind its value.
+    /// Before the name of the cell of a fault.
+    FaultItem,
+    /// Before a further value.
+    NextValue,
+    /// Behind its values.
     ItemEnd,
     /// Behind the items.
     End,
@@ -45,12 +59,17 @@ fn text(part: Part) -> &'static str
     match part {
         Part::Head =>
             "<?xml version=\"1.0\" encoding=\"utf-8\"?>\n<report-database>\n <description>Markers of ",
-        Part::Generator =>
-            "</description>\n <original-file/>\n <generator>mpw check</generator>\n <top-cell>",
+        Part::HeadEnd => "</description>\n",
+        Part::NoOriginal => " <original-file/>\n",
+        Part::Original => " <original-file>",
+        Part::OriginalEnd => "</original-file>\n",
+        Part::Generator => " <generator>mpw check</generator>\n <top-cell>",
         Part::Categories => "</top-cell>\n <tags>\n </tags>\n <categories>\n",
         Part::CategoryName => "  <category>\n   <name>",
         Part::Description => "</name>\n   <description>",
         Part::CategoryEnd => "</description>\n   <categories>\n   </categories>\n  </category>\n",
+        Part::FaultCategory =>
+            "  <category>\n   <name>faults of elements</name>\n   <description>elements that can't be read, each by its code, the byte in the file and its structure</description>\n   <categories>\n   </categories>\n  </category>\n",
         Part::Cells => " </categories>\n <cells>\n  <cell>\n   <name>",
         Part::Items =>
             "</name>\n   <variant/>\n   <references>\n   </references>\n  </cell>\n </cells>\n <items>\n",
@@ -58,6 +77,9 @@ fn text(part: Part) -> &'static str
         Part::ItemCell => "</category>\n   <cell>",
         Part::Value =>
             "</cell>\n   <visited>false</visited>\n   <multiplicity>1</multiplicity>\n   <image/>\n   <values>\n    <value>",
+        Part::FaultItem =>
+            "  <item>\n   <tags/>\n   <category>'faults of elements'</category>\n   <cell>",
+        Part::NextValue => "</value>\n    <value>",
         Part::ItemEnd => "</value>\n   </values>\n  </item>\n",
         Part::End => " </items>\n</report-database>\n",
     }

@@ -1,25 +1,46 @@
 //! The whole report.
-ghost use Rattle.mpw_report.specs.Report.{head_text, cells_text, report_text};
+ghost use Rattle.std.specs.Prelude.{option_map};
+ghost use Rattle.mpw_report.specs.Content.{content_of};
+ghost use Rattle.mpw_report.specs.Report.{original_text, head_text, cells_text, full_text, report_text};
 ghost use Rattle.mpw_text.specs.Writing.{Adds};
 
 use crate::category::put_categories;
+use crate::content::{Fault, Report};
+use crate::faults::{put_fault_category, put_faults};
 use crate::item::put_items;
-use crate::name::put_name;
+use crate::name::{put_escaped, put_name};
 use crate::part::{Part, put_part};
 use mpw_deck::Rule;
 use mpw_geom::Name;
 use mpw_markers::Marker;
 use std::io::{self, Write};
 
+/// Writes the name of the layout's file, where it is known.
+#[tactic(auto, unfolding(crate::specs::Report::original_text))]
+fn put_original<W: Write>(writer: &mut W, original: Option<&str>) -> io::Result<()>
+    ensures { Adds W.contents writer.old writer.new result (original_text (option_map (λ file. file.now) original.entry)) }
+{
+    match original {
+        Some(file) => {
+            put_part(writer, Part::Original)?;
+            put_escaped(writer, file.as_bytes())?;
+            put_part(writer, Part::OriginalEnd)
+        }
+        None => put_part(writer, Part::NoOriginal),
+    }
+}
+
 /// Writes what stands before the categories.
 #[tactic(auto, unfolding(crate::specs::Report::head_text))]
-fn put_head<W: Write>(writer: &mut W, top: &Name) -> io::Result<()>
-    ensures { Adds W.contents writer.old writer.new result (head_text top.now) }
+fn put_head<W: Write>(writer: &mut W, report: &Report<'_>) -> io::Result<()>
+    ensures { Adds W.contents writer.old writer.new result (head_text (content_of report.now)) }
 {
     put_part(writer, Part::Head)?;
-    put_name(writer, top)?;
+    put_name(writer, report.top)?;
+    put_part(writer, Part::HeadEnd)?;
+    put_original(writer, report.original)?;
     put_part(writer, Part::Generator)?;
-    put_name(writer, top)?;
+    put_name(writer, report.top)?;
     put_part(writer, Part::Categories)
 }
 
@@ -33,25 +54,57 @@ fn put_cells<W: Write>(writer: &mut W, top: &Name) -> io::Result<()>
     put_part(writer, Part::Items)
 }
 
-/// Writes the report of markers, which were found in a structure of the name `top` under these rules: a category for each rule
-/// and an item for each marker, in order. A marker whose rule isn't there has no item. It takes no memory, and costs the text's
-/// size: some 300 bytes a marker.
+/// Writes a report.
+#[tactic(auto, unfolding(crate::specs::Report::full_text))]
+fn put_all<W: Write>(writer: &mut W, report: &Report<'_>) -> io::Result<()>
+    ensures { Adds W.contents writer.old writer.new result (full_text (content_of report.now)) }
+{
+    put_head(writer, report)?;
+    put_categories(writer, report)?;
+    put_fault_category(writer, report.faults)?;
+    put_cells(writer, report.top)?;
+    put_items(writer, report)?;
+    put_faults(writer, report.top, report.faults)?;
+    put_part(writer, Part::End)
+}
+
+/// Writes a report: a category for each rule, in order, and one for the faults where there are some; then for each rule an
+/// item for each of its first markers, as many as the limit allows, in order; and an item for each fault. The description of a
+/// rule's category tells how many of its markers are left out. It takes no memory, and costs the text's size, some 300 bytes a marker, and
+/// for each rule two passes over the markers.
+///
+/// # Errors
+/// The writer's; it then holds a part of the text.
+pub fn write_full_report<W: Write>(writer: &mut W, report: &Report<'_>) -> io::Result<()>
+    ensures { Adds W.contents writer.old writer.new result (full_text (content_of report.now)) }
+{
+    put_all(writer, report)?;
+    writer.flush()
+}
+
+/// Writes the report of all markers, which were found in a structure of the name `top` under these rules. It names no file, and
+/// has no faults. It takes no memory.
 ///
 /// # Errors
 /// The writer's; it then holds a part of the text.
 #[tactic(auto, unfolding(crate::specs::Report::report_text))]
-pub fn write_report<W: Write>(
+pub fn write_report<'a, W: Write>(
     writer: &mut W,
-    rules: &[Rule],
-    top: &Name,
-    markers: &[Marker],
+    rules: &'a [Rule],
+    top: &'a Name,
+    markers: &'a [Marker],
 ) -> io::Result<()>
     ensures { Adds W.contents writer.old writer.new result (report_text rules.now top.now markers.now) }
 {
-    put_head(writer, top)?;
-    put_categories(writer, rules)?;
-    put_cells(writer, top)?;
-    put_items(writer, rules, top, markers)?;
-    put_part(writer, Part::End)?;
-    writer.flush()
+    let original: Option<&'a str> = None;
+    let faults: &'a [Fault<'a>] = &[];
+    let report = Report {
+        original,
+        top,
+        rules,
+        markers,
+        limit: usize::MAX,
+        faults,
+    };
+    write_full_report(writer, &report)
 }

@@ -1,61 +1,39 @@
-//! The report of markers: a deck, a line `--`, the name of the structure, and a marker a line as `RULE AXIS SIDE X1 X2 Y0 Y1`.
+//! The reports of markers.
+//!
+//! The lines are a deck, a line `--`, the name of the structure, and then a marker a line as `RULE AXIS SIDE X1 X2 Y0 Y1`. The report of all markers is
+//! written. Where there is a line `original FILE`, a full report stands behind it, of that file, with at most `limit N` items a rule, and
+//! with the faults of the lines `fault CODE BYTE STRUCTURE [X0 Y0 X1 Y1]`, whose structure may be `-` for none.
 #![tactic(auto)]
 
-use anyhow::{Result, bail};
-use mpw_deck::{Deck, read_deck};
-use mpw_geom::Name;
-use mpw_markers::Marker;
-use mpw_report::write_report;
-use mpw_words::marker;
-use std::alloc::Global;
+mod given;
+
+use anyhow::Result;
+use given::Given;
+use mpw_report::{Report, write_full_report, write_report};
 use std::io::BufWriter;
 
-/// What the lines give.
-#[derive(Drop)]
-struct Given {
-    deck: String,
-    top: Option<Name>,
-    markers: Vec<Marker>,
-    is_deck: bool,
+/// Writes the report of all markers.
+fn print_all(rt: &HostRuntime, given: &Given) -> Result<()> {
+    let deck = given.deck(rt.alloc())?;
+    let mut output = BufWriter::new(rt.alloc(), rt.stdout())?;
+    let rules = deck.rules().as_slice();
+    Ok(write_report(&mut output, rules, given.top()?, given.markers.as_slice())?)
 }
 
-impl Given {
-    fn new(alloc: Global) -> Given {
-        Given {
-            deck: String::new(alloc),
-            top: None,
-            markers: Vec::new(alloc),
-            is_deck: true,
-        }
-    }
-
-    fn take(&mut self, alloc: Global, line: &str) -> Result<()> {
-        if line == "--" {
-            self.is_deck = false;
-        } else if self.is_deck {
-            self.deck.push_str(line)?;
-            self.deck.push_str("\n")?;
-        } else if self.top.is_none() {
-            self.top = Some(name(alloc, line)?);
-        } else {
-            self.markers.push(marker(alloc, line)?)?;
-        }
-        Ok(())
-    }
-}
-
-fn name(alloc: Global, line: &str) -> Result<Name> {
-    match Name::read(alloc, line.as_bytes()) {
-        Ok(name) => Ok(name),
-        Err(_) => bail!("a name"),
-    }
-}
-
-fn deck(alloc: Global, text: &str) -> Result<Deck> {
-    match read_deck(alloc, text.as_bytes()) {
-        Ok(deck) => Ok(deck),
-        Err(_) => bail!("a deck"),
-    }
+/// Writes the full report of a file.
+fn print_full(rt: &HostRuntime, given: &Given, original: &str) -> Result<()> {
+    let deck = given.deck(rt.alloc())?;
+    let faults = given.faults(rt.alloc())?;
+    let mut output = BufWriter::new(rt.alloc(), rt.stdout())?;
+    let report = Report {
+        original: Some(original),
+        top: given.top()?,
+        rules: deck.rules().as_slice(),
+        markers: given.markers.as_slice(),
+        limit: given.limit.unwrap_or(usize::MAX),
+        faults: faults.as_slice(),
+    };
+    Ok(write_full_report(&mut output, &report)?)
 }
 
 fn main(rt: HostRuntime) -> Result<()> {
@@ -64,11 +42,9 @@ fn main(rt: HostRuntime) -> Result<()> {
         let line = line?;
         given.take(rt.alloc(), line.as_str())?;
     }
-    let deck = deck(rt.alloc(), given.deck.as_str())?;
-    let Some(top) = &given.top else {
-        bail!("a name");
-    };
-    let mut output = BufWriter::new(rt.alloc(), rt.stdout())?;
-    let rules = deck.rules().as_slice();
-    Ok(write_report(&mut output, rules, top, given.markers.as_slice())?)
+    print_all(&rt, &given)?;
+    match &given.original {
+        Some(original) => print_full(&rt, &given, original.as_str()),
+        None => Ok(()),
+    }
 }

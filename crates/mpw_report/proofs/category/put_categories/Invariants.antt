@@ -1,10 +1,11 @@
 use Rattle.std.proofs.Common.{take}
-use Rattle.std.specs.List.{flat_map}
+use Rattle.std.specs.List.{flat_map, enumerate_from}
 use Rattle.std.specs.Io.KnownBytes.{Appends}
+use Rattle.mpw_report.specs.Content.{content_of}
 use Rattle.mpw_report.specs.Report.{category_text}
 use Rattle.mpw_report.proofs.category.put_categories.Given as goal
 
-abbrev pub invariant-loop-rule : goal.invariant-loop-rule
-invariant-loop-rule g l =
+abbrev pub invariant-loop-place : goal.invariant-loop-place
+invariant-loop-place g l =
     Appends (g.W.Write.contents l.initial.writer) (g.W.Write.contents l.writer)
-    (flat_map category_text (take l.rule-index l.rules))
+    (flat_map (category_text (content_of l.report)) (take l.place (enumerate_from 0 l.report.rules.now)))

@@ -1,10 +1,11 @@
 use Rattle.std.proofs.Common.{take}
-use Rattle.std.specs.List.{flat_map}
+use Rattle.std.specs.List.{flat_map, enumerate_from}
 use Rattle.std.specs.Io.KnownBytes.{Appends}
-use Rattle.mpw_report.specs.Report.{item_of}
+use Rattle.mpw_report.specs.Content.{content_of}
+use Rattle.mpw_report.specs.Report.{rule_items}
 use Rattle.mpw_report.proofs.item.put_items.Given as goal
 
-abbrev pub invariant-loop-marker : goal.invariant-loop-marker
-invariant-loop-marker g l =
+abbrev pub invariant-loop-place : goal.invariant-loop-place
+invariant-loop-place g l =
     Appends (g.W.Write.contents l.initial.writer) (g.W.Write.contents l.writer)
-    (flat_map (item_of l.rules l.top) (take l.marker-index l.markers))
+    (flat_map (rule_items (content_of l.report)) (take l.place (enumerate_from 0 l.report.rules.now)))

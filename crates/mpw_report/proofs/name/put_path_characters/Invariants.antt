@@ -7,4 +7,4 @@ use Rattle.mpw_report.proofs.name.put_path_characters.Given as goal
 abbrev pub invariant-loop-byte : goal.invariant-loop-byte
 invariant-loop-byte g l =
     Appends (g.W.Write.contents l.initial.writer) (g.W.Write.contents l.writer)
-    (flat_map path_character (take l.byte-index l.fn.name))
+    (flat_map path_character (take l.byte-index l.bytes))

@@ -2,9 +2,9 @@ use Rattle.std.proofs.Common.{take}
 use Rattle.std.specs.List.{flat_map}
 use Rattle.std.specs.Io.KnownBytes.{Appends}
 use Rattle.mpw_report.specs.Escapes.{character}
-use Rattle.mpw_report.proofs.name.put_name.Given as goal
+use Rattle.mpw_report.proofs.name.put_escaped.Given as goal
 
 abbrev pub invariant-loop-byte : goal.invariant-loop-byte
 invariant-loop-byte g l =
     Appends (g.W.Write.contents l.initial.writer) (g.W.Write.contents l.writer)
-    (flat_map character (take l.byte-index l.fn.name))
+    (flat_map character (take l.byte-index l.bytes))

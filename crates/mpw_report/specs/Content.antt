@@ -1,0 +1,47 @@
+-- What a report tells, without references: markers of a structure and faults of elements.
+use Rattle.std.specs.Prelude.{ℕ, ◌==◌, List, map, Option, option_map}
+use Rattle.std.specs.List.{filter}
+use Rattle.mpw_geom.specs.declared.plane.Box2.{Box2}
+use Rattle.mpw_deck.specs.declared.rule.Rule.{Rule}
+use Rattle.mpw_markers.specs.declared.marker.Marker.{Marker}
+use Rattle.mpw_report.specs.declared.content.Fault.{Fault}
+use Rattle.mpw_report.specs.declared.content.Report.{Report}
+
+-- A fault of an element: the word of its code, the byte in the file, the structure where it stands in one, and where it lies in the
+-- top's coordinates where that is known.
+pub record Told : Type 0 where
+  pub code : List ℕ
+  pub byte : ℕ
+  pub structure : Option (List ℕ)
+  pub area : Option Box2
+
+-- The name of the layout's file, the structure's, the rules, the markers, how many of a rule have an item at most, and the faults.
+pub record Content : Type 0 where
+  pub original : Option (List ℕ)
+  pub top : List ℕ
+  pub rules : List Rule
+  pub markers : List Marker
+  pub limit : ℕ
+  pub faults : List Told
+
+abbrev pub fault_of : Fault → Told
+fault_of f = record {
+  code = f.code.now;
+  byte = f.byte;
+  structure = option_map (λ name. name.now) f.structure;
+  area = f.area;
+}
+
+abbrev pub content_of : Report → Content
+content_of r = record {
+  original = option_map (λ file. file.now) r.original;
+  top = r.top.now;
+  rules = r.rules.now;
+  markers = r.markers.now;
+  limit = r.limit;
+  faults = map fault_of r.faults.now;
+}
+
+-- the markers of the rule with that place in the deck, in order
+abbrev pub of_rule : List Marker → ℕ → List Marker
+of_rule markers place = filter (λ m. m.rule == place) markers

@@ -1,0 +1,145 @@
+//! What the lines give: a deck, a name, markers, and what a full report has besides.
+
+use anyhow::{Result, bail};
+use mpw_deck::{Deck, read_deck};
+use mpw_geom::{Box2, Name};
+use mpw_markers::Marker;
+use mpw_report::Fault;
+use mpw_words::{coordinate, marker, number};
+use std::alloc::Global;
+
+/// A fault of an element.
+#[derive(Drop)]
+struct Seen {
+    code: String,
+    byte: u64,
+    structure: Option<Name>,
+    area: Option<Box2>,
+}
+
+/// What the lines give.
+#[derive(Drop)]
+pub struct Given {
+    deck: String,
+    top: Option<Name>,
+    /// The markers, in their order.
+    pub markers: Vec<Marker>,
+    /// The layout's file.
+    pub original: Option<String>,
+    /// The most items of a rule.
+    pub limit: Option<usize>,
+    faults: Vec<Seen>,
+    is_deck: bool,
+}
+
+fn name(alloc: Global, line: &str) -> Result<Name> {
+    match Name::read(alloc, line.as_bytes()) {
+        Ok(name) => Ok(name),
+        Err(_) => bail!("a name"),
+    }
+}
+
+/// The box of four coordinates, or none of no word.
+fn area(words: &[&str]) -> Result<Option<Box2>> {
+    match words {
+        [] => Ok(None),
+        [x0, y0, x1, y1] => Ok(Some(Box2 {
+            x0: coordinate(x0)?,
+            y0: coordinate(y0)?,
+            x1: coordinate(x1)?,
+            y1: coordinate(y1)?,
+        })),
+        _ => bail!("a box"),
+    }
+}
+
+/// The fault of a line: its code, its byte, its structure or `-`, and its box where there is one.
+fn read_fault(alloc: Global, line: &str) -> Result<Seen> {
+    let words: Vec<&str> = line.split_whitespace().collect(alloc)?;
+    let [code, byte, structure, rest @ ..] = words.as_slice() else {
+        bail!("a fault");
+    };
+    let area = area(rest)?;
+    let byte = u64::from(number(byte)?);
+    let structure = match *structure {
+        "-" => None,
+        structure => Some(name(alloc, structure)?),
+    };
+    Ok(Seen {
+        code: String::from_str(alloc, code)?,
+        byte,
+        structure,
+        area,
+    })
+}
+
+impl Given {
+    /// Nothing yet.
+    pub fn new(alloc: Global) -> Given {
+        Given {
+            deck: String::new(alloc),
+            top: None,
+            markers: Vec::new(alloc),
+            original: None,
+            limit: None,
+            faults: Vec::new(alloc),
+            is_deck: true,
+        }
+    }
+
+    /// Takes what a line behind the name gives.
+    fn take_word(&mut self, alloc: Global, line: &str) -> Result<()> {
+        match line.split_once(" ").unwrap_or((line, "")) {
+            ("original", file) => self.original = Some(String::from_str(alloc, file)?),
+            ("limit", limit) => self.limit = Some(number(limit)? as usize),
+            ("fault", rest) => self.faults.push(read_fault(alloc, rest)?)?,
+            _ => self.markers.push(marker(alloc, line)?)?,
+        }
+        Ok(())
+    }
+
+    /// Takes what a line gives.
+    pub fn take(&mut self, alloc: Global, line: &str) -> Result<()> {
+        if line == "--" {
+            self.is_deck = false;
+        } else if self.is_deck {
+            self.deck.push_str(line)?;
+            self.deck.push_str("\n")?;
+        } else if self.top.is_none() {
+            self.top = Some(name(alloc, line)?);
+        } else {
+            self.take_word(alloc, line)?;
+        }
+        Ok(())
+    }
+
+    /// The deck.
+    pub fn deck(&self, alloc: Global) -> Result<Deck> {
+        match read_deck(alloc, self.deck.as_bytes()) {
+            Ok(deck) => Ok(deck),
+            Err(_) => bail!("a deck"),
+        }
+    }
+
+    /// The name of the structure.
+    pub fn top(&self) -> Result<&Name> {
+        match &self.top {
+            Some(name) => Ok(name),
+            None => bail!("a name"),
+        }
+    }
+
+    /// The faults.
+    pub fn faults(&self, alloc: Global) -> Result<Vec<Fault<'_>>> {
+        let mut faults = Vec::new(alloc);
+        for seen in &self.faults {
+            faults.push(Fault {
+                code: seen.code.as_str(),
+                byte: seen.byte,
+                structure: seen.structure.as_ref(),
+                area: seen.area,
+            })?;
+        }
+        Ok(faults)
+    }
+}
