@@ -1,4 +1,4 @@
 pub mod Adding
-pub mod Rows
+pub mod Counted
 pub mod Turned
 pub mod Windows

@@ -1,5 +1,5 @@
 -- What a picture shows.
-use Rattle.std.specs.Prelude.{◌≡◌, ◌≤ℤ◌, ◌↔◌, ℕ, true, List, map, All}
+use Rattle.std.specs.Prelude.{◌≡◌, ◌≤ℤ◌, ◌↔◌, ℕ, ◌-◌, ◌^◌, true, List, length, map, All, None}
 use Rattle.std.specs.List.{filter}
 use Rattle.mpw_geom.specs.declared.plane.Box2.{Box2}
 use Rattle.mpw_geom.specs.declared.plane.Layer.{Layer}
@@ -13,6 +13,9 @@ use Rattle.mpw_tiles.specs.Snapshots.{Snapshot, shown}
 use Rattle.mpw_walk.specs.Window.{do_meet}
 use Rattle.mpw_picture.specs.declared.picture.Mark.{Mark}
 use Rattle.mpw_picture.specs.declared.picture.Picture.{Picture}
+use Rattle.mpw_picture.specs.declared.picture.View.{View}
+use Rattle.mpw_picture.specs.Density.{counts_of}
+use Rattle.mpw_picture.specs.Looks.{layers_of}
 
 -- The rectangle has area, and lies in the window.
 pub record LiesIn (window : Box2) (rectangle : Rectangle) : Type 0 where
@@ -36,9 +39,22 @@ mark_at m = record { area = box_of m; rule = m.rule }
 abbrev pub marks_in : Box2 → List Marker → List Mark
 marks_in window markers = filter (λ (m : Mark). do_meet m.area window) (map mark_at markers)
 
--- The picture of a snapshot and of markers in a window.
-pub record IsPicture (s : Snapshot) (markers : List Marker) (window : Box2) (p : Picture) :
-    Type 0 where
-  pub window_is : p.window ≡ window
-  pub shapes : ShowShapes s window p.rectangles.items
-  pub marks_are : p.marks.items ≡ marks_in window markers
+-- The picture of a snapshot and of markers: what lies in the view's window, the layers that are told apart, how many markers lie in each
+-- square where they are drawn as a density, the marker that is wanted, and how many markers of a rule are drawn at most.
+pub record IsDrawn (s : Snapshot) (markers : List Marker) (view : View) (p : Picture) : Type 0 where
+  pub window_is : p.window ≡ view.window
+  pub shapes : ShowShapes s view.window p.rectangles.items
+  pub layers_are : p.layers.items ≡ layers_of s.deck.rules p.rectangles.items
+  pub marks_are : p.marks.items ≡ marks_in view.window markers
+  pub counts_are : p.counts.items
+      ≡ counts_of view.window view.limit (length s.deck.rules) (marks_in view.window markers)
+  pub wanted_is : p.wanted ≡ view.wanted
+  pub limit_is : p.limit ≡ view.limit
+
+-- the view of a window in which no marker is wanted, and all are drawn
+abbrev pub plain_view : Box2 → View
+plain_view window = record { window = window; wanted = None; limit = 2 ^ 64 - 1 }
+
+-- The picture of a snapshot and of all markers in a window.
+abbrev pub IsPicture : Snapshot → List Marker → Box2 → Picture → Type 0
+IsPicture s markers window p = IsDrawn s markers (plain_view window) p

@@ -1,5 +1,5 @@
 -- Sizes of a drawing: 1000 pixels are the window's longer side.
-use Rattle.std.specs.Prelude.{ℕ, ◌+◌, ◌-◌, ◌*◌, ◌/◌, ◌-ℤ◌, List, [], ◌∷◌, fold, nat_le, if◌then◌else◌}
+use Rattle.std.specs.Prelude.{ℕ, ◌+◌, ◌-◌, ◌*◌, ◌/◌, ◌-ℤ◌, Bool, List, [], ◌∷◌, fold, nat_le, nat_lt, if◌then◌else◌}
 use Rattle.mpw_geom.specs.declared.plane.Box2.{Box2}
 use Rattle.mpw_picture.specs.declared.size.Corners.{Corners}
 use Rattle.mpw_picture.specs.Windows.{side, longer_side}
@@ -19,6 +19,10 @@ drawing_height w = pixels w (side w.y0 w.y1)
 unfoldable pub line_breadth : Box2 → ℕ
 line_breadth w = longer_side w / 300 + 1
 
+-- how far the ring stands off the marker that is wanted, in nm: some 10 pixels
+unfoldable pub ring_margin : Box2 → ℕ
+ring_margin w = longer_side w / 100 + 1
+
 -- where a box of the plane lies in the drawing: x from the window's left edge, and y down from its top edge, for y points down there
 unfoldable pub turned : Box2 → Box2 → Corners
 turned w b = record {
@@ -27,6 +31,10 @@ turned w b = record {
   right = b.x1 -ℤ w.x0;
   bottom = w.y1 -ℤ b.y0;
 }
+
+-- whether a box is below five pixels in a window
+unfoldable pub is_small : Box2 → Box2 → Bool
+is_small w b = nat_lt (200 * longer_side b) (longer_side w)
 
 -- the lengths that a scale bar may have, in nm
 unfoldable pub bar_lengths : List ℕ

@@ -1,23 +1,23 @@
-//! The drawing: the window's frame, and the rectangles by colour.
-ghost use Rattle.std.specs.List.{flat_map, range_with_len};
-ghost use Rattle.mpw_picture.specs.Text.{rectangle_text, rectangle_of, group_head, group_text, frame_text, drawing_text};
+//! The drawing: the window's frame, and the rectangles by layer.
+//!
+//! The rectangles of a layer are one path, so that no line shows between two that lie beside each other.
+ghost use Rattle.std.specs.List.{flat_map, enumerate_from};
+ghost use Rattle.mpw_picture.specs.Text.{rectangle_text, rectangle_of, layer_text, frame_text, drawing_text};
 ghost use Rattle.mpw_text.specs.Writing.{Adds};
 
-use crate::colour::layer_colour;
+use crate::layers::is_layer;
+use crate::look::{Canvas, put_look};
 use crate::mark::put_marks;
 use crate::picture::Picture;
 use crate::size::{breadth, corners_of, drawing_breadth, drawing_height, height};
 use itoa::Buffer;
 use mpw_deck::Rule;
-use mpw_geom::Box2;
+use mpw_geom::{Box2, Layer};
 use mpw_text::put;
 use mpw_tiles::Rectangle;
 use std::io::{self, Write};
 
-/// How many colours layers have.
-const COLOURS: u32 = 12;
-
-/// Writes a rectangle.
+/// Writes a rectangle, as a part of a path.
 #[tactic(auto, unfolding(crate::specs::Text::rectangle_text, crate::specs::Text::rectangle_at))]
 fn put_rectangle<W: Write>(writer: &mut W, window: Box2, rectangle: &Rectangle) -> io::Result<()>
     ensures { Adds W.contents writer.old writer.new result (rectangle_text window rectangle.now) }
@@ -27,88 +27,85 @@ fn put_rectangle<W: Write>(writer: &mut W, window: Box2, rectangle: &Rectangle) 
     let mut top = Buffer::new();
     let mut across = Buffer::new();
     let mut down = Buffer::new();
+    let across = across.format(breadth(rectangle.area));
     put(
         writer,
         &[
-            "<rect x=\"",
+            "M",
             left.format(corners.left),
-            "\" y=\"",
+            " ",
             top.format(corners.top),
-            "\" width=\"",
-            across.format(breadth(rectangle.area)),
-            "\" height=\"",
+            "h",
+            across,
+            "v",
             down.format(height(rectangle.area)),
-            "\"/>\n",
+            "h-",
+            across,
+            "z",
         ],
     )
 }
 
-/// Writes a rectangle, if it has that colour.
+/// Writes a rectangle, if it is of that layer.
 fn put_rectangle_of<W: Write>(
     writer: &mut W,
     window: Box2,
-    colour: u32,
+    layer: Layer,
     rectangle: &Rectangle,
 ) -> io::Result<()>
-    ensures { Adds W.contents writer.old writer.new result (rectangle_of window colour rectangle.now) }
+    ensures { Adds W.contents writer.old writer.new result (rectangle_of window layer rectangle.now) }
 {
-    if layer_colour(rectangle.layer) == colour {
+    if is_layer(layer, rectangle.layer) {
         put_rectangle(writer, window, rectangle)
     } else {
         Ok(())
     }
 }
 
-/// Writes the rectangles of a colour, in their order.
+/// Writes the rectangles of a layer, in their order.
 fn put_rectangles<W: Write>(
     writer: &mut W,
     window: Box2,
-    colour: u32,
+    layer: Layer,
     rectangles: &[Rectangle],
 ) -> io::Result<()>
-    ensures { Adds W.contents writer.old writer.new result (flat_map (rectangle_of window colour) rectangles.now) }
+    ensures { Adds W.contents writer.old writer.new result (flat_map (rectangle_of window layer) rectangles.now) }
 {
     for rectangle in rectangles {
-        put_rectangle_of(writer, window, colour, rectangle)?;
+        put_rectangle_of(writer, window, layer, rectangle)?;
     }
     Ok(())
 }
 
-/// Writes the begin of the group of a colour.
-#[tactic(auto, unfolding(crate::specs::Text::group_head))]
-fn put_group_head<W: Write>(writer: &mut W, colour: u32) -> io::Result<()>
-    ensures { Adds W.contents writer.old writer.new result (group_head colour) }
+/// Writes the layer with that place among the picture's.
+#[tactic(auto, unfolding(crate::specs::Text::layer_text))]
+fn put_layer<W: Write>(
+    writer: &mut W,
+    picture: &Picture,
+    place: usize,
+    layer: Layer,
+) -> io::Result<()>
+    ensures { Adds W.contents writer.old writer.new result (layer_text picture.now (place, layer)) }
 {
-    let mut number = Buffer::new();
-    put(writer, &["<g class=\"l l", number.format(colour), "\">\n"])
+    put(writer, &["<path "])?;
+    put_look(writer, Canvas::Drawing, place)?;
+    put(writer, &[" d=\""])?;
+    put_rectangles(writer, picture.window, layer, picture.rectangles.as_slice())?;
+    put(writer, &["\"/>\n"])
 }
 
-/// Writes the group of a colour.
-#[tactic(auto, unfolding(crate::specs::Text::group_text))]
-fn put_group<W: Write>(writer: &mut W, picture: &Picture, colour: u32) -> io::Result<()>
-    ensures { Adds W.contents writer.old writer.new result (group_text picture.now colour) }
+/// Writes layers of a picture, in their order.
+fn put_layers<W: Write>(writer: &mut W, picture: &Picture, layers: &[Layer]) -> io::Result<()>
+    ensures { Adds W.contents writer.old writer.new result
+        (flat_map (layer_text picture.now) (enumerate_from 0 layers.now)) }
 {
-    put_group_head(writer, colour)?;
-    put_rectangles(
-        writer,
-        picture.window,
-        colour,
-        picture.rectangles.as_slice(),
-    )?;
-    put(writer, &["</g>\n"])
-}
-
-/// Writes the groups of all colours.
-fn put_groups<W: Write>(writer: &mut W, picture: &Picture) -> io::Result<()>
-    ensures { Adds W.contents writer.old writer.new result (flat_map (group_text picture.now) (range_with_len 0 12)) }
-{
-    for colour in 0..COLOURS {
-        put_group(writer, picture, colour)?;
+    for (place, layer) in layers.iter().enumerate() {
+        put_layer(writer, picture, place, *layer)?;
     }
     Ok(())
 }
 
-/// Writes what stands before the groups.
+/// Writes what stands before the layers.
 #[tactic(auto, unfolding(crate::specs::Text::frame_text))]
 fn put_frame<W: Write>(writer: &mut W, window: Box2) -> io::Result<()>
     ensures { Adds W.contents writer.old writer.new result (frame_text window) }
@@ -143,6 +140,6 @@ pub(crate) fn put_drawing<W: Write>(
     ensures { Adds W.contents writer.old writer.new result (drawing_text rules.now picture.now) }
 {
     put_frame(writer, picture.window)?;
-    put_groups(writer, picture)?;
+    put_layers(writer, picture, picture.layers.as_slice())?;
     put_marks(writer, rules, picture)
 }

@@ -1,21 +1,23 @@
 //! The scale bar, and a row for each rule.
-ghost use Rattle.std.specs.Prelude.{◌≡◌, ◌<◌, ◌^◌, ◌*◌, length};
+ghost use Rattle.std.specs.Prelude.{◌≡◌};
 ghost use Rattle.std.specs.List.{flat_map, enumerate_from};
-ghost use Rattle.mpw_picture.specs.Text.{bar_line, bar_text, swatch, swatches, count_of, row_head, row_end, row_text, legend_head, legend_text};
+ghost use Rattle.mpw_picture.specs.Rows.{bar_line, bar_text, swatch, swatches, limit_of, row_head, row_end, row_text, legend_head, legend_text};
 ghost use Rattle.mpw_text.specs.Writing.{Adds};
 
-use crate::colour::{layer_colour, rule_colour};
-use crate::picture::{Mark, Picture};
+use crate::density::count_of;
+use crate::layers::place_of;
+use crate::look::{Canvas, put_look, rule_colour};
+use crate::picture::Picture;
 use crate::size::{bar_length, drawing_height, longer_side};
 use itoa::Buffer;
 use mpw_deck::{Check, Rule};
 use mpw_geom::{Box2, Layer};
-use mpw_report::{put_micrometres, put_rule};
+use mpw_report::{put_left_out, put_micrometres, put_rule};
 use mpw_text::put;
 use std::io::{self, Write};
 
 /// Writes the scale bar behind its length.
-#[tactic(auto, unfolding(crate::specs::Text::bar_line))]
+#[tactic(auto, unfolding(crate::specs::Rows::bar_line))]
 fn put_bar_line<W: Write>(writer: &mut W, window: Box2) -> io::Result<()>
     ensures { Adds W.contents writer.old writer.new result (bar_line window) }
 {
@@ -34,7 +36,7 @@ fn put_bar_line<W: Write>(writer: &mut W, window: Box2) -> io::Result<()>
 }
 
 /// Writes the scale bar.
-#[tactic(auto, unfolding(crate::specs::Text::bar_text))]
+#[tactic(auto, unfolding(crate::specs::Rows::bar_text))]
 fn put_bar<W: Write>(writer: &mut W, window: Box2) -> io::Result<()>
     ensures { Adds W.contents writer.old writer.new result (bar_text window) }
 {
@@ -43,51 +45,48 @@ fn put_bar<W: Write>(writer: &mut W, window: Box2) -> io::Result<()>
     put_bar_line(writer, window)
 }
 
-/// Writes the colour of a layer, so far to the right.
-#[tactic(auto, unfolding(crate::specs::Text::swatch))]
-fn put_swatch<W: Write>(writer: &mut W, x: u32, layer: Layer) -> io::Result<()>
-    ensures { Adds W.contents writer.old writer.new result (swatch x layer) }
+/// Writes the look of a layer, so far to the right.
+#[tactic(auto, unfolding(crate::specs::Rows::swatch))]
+fn put_swatch<W: Write>(writer: &mut W, layers: &[Layer], x: u32, layer: Layer) -> io::Result<()>
+    ensures { Adds W.contents writer.old writer.new result (swatch layers.now x layer) }
 {
-    let mut colour = Buffer::new();
     let mut right = Buffer::new();
+    put(writer, &["<rect "])?;
+    put_look(writer, Canvas::Legend, place_of(layers, layer))?;
     put(
         writer,
-        &[
-            "<rect class=\"l l",
-            colour.format(layer_colour(layer)),
-            "\" x=\"",
-            right.format(x),
-            "\" width=\"20\" height=\"16\"/>",
-        ],
+        &[" x=\"", right.format(x), "\" width=\"20\" height=\"16\"/>"],
     )
 }
 
-/// Writes the colours of a check's layers.
-#[tactic(auto, unfolding(crate::specs::Text::swatches))]
-fn put_swatches<W: Write>(writer: &mut W, check: Check) -> io::Result<()>
-    ensures { Adds W.contents writer.old writer.new result (swatches check) }
+/// Writes the looks of a check's layers.
+#[tactic(auto, unfolding(crate::specs::Rows::swatches))]
+fn put_swatches<W: Write>(writer: &mut W, layers: &[Layer], check: Check) -> io::Result<()>
+    ensures { Adds W.contents writer.old writer.new result (swatches layers.now check) }
 {
     match check {
-        Check::Width(layer) | Check::Space(layer) => put_swatch(writer, 28, layer),
+        Check::Width(layer) | Check::Space(layer) => put_swatch(writer, layers, 28, layer),
         Check::Separation(first, second) | Check::Enclosing(first, second) => {
-            put_swatch(writer, 28, first)?;
-            put_swatch(writer, 52, second)
+            put_swatch(writer, layers, 28, first)?;
+            put_swatch(writer, layers, 52, second)
         }
     }
 }
 
-/// How many of the markers are of the rule with that place in its deck.
-fn count_of(marks: &[Mark], place: usize) -> usize
-    ensures { result ≡ count_of marks.now place }
+/// How many markers of a rule are drawn at most.
+#[tactic(auto, unfolding(crate::specs::Rows::limit_of))]
+fn limit_of(picture: &Picture) -> usize
+    ensures { result ≡ limit_of picture.now }
 {
-    marks
-        .iter()
-        .filter(|mark| mark.rule as usize == place)
-        .count()
+    if picture.counts.len() == 0 {
+        picture.limit
+    } else {
+        picture.marks.len()
+    }
 }
 
 /// Writes the begin of the row of the rule with that place.
-#[tactic(auto, unfolding(crate::specs::Text::row_head))]
+#[tactic(auto, unfolding(crate::specs::Rows::row_head))]
 fn put_row_head<W: Write>(writer: &mut W, place: usize) -> io::Result<()>
     ensures { Adds W.contents writer.old writer.new result (row_head place) }
 {
@@ -106,39 +105,42 @@ fn put_row_head<W: Write>(writer: &mut W, place: usize) -> io::Result<()>
     )
 }
 
-/// Writes the end of a row: how many markers are drawn.
-#[tactic(auto, unfolding(crate::specs::Text::row_end))]
-fn put_row_end<W: Write>(writer: &mut W, count: usize) -> io::Result<()>
-    ensures { Adds W.contents writer.old writer.new result (row_end count) }
+/// Writes the end of a row: how many markers are drawn, and how many are left out.
+#[tactic(auto, unfolding(crate::specs::Rows::row_end))]
+fn put_row_end<W: Write>(writer: &mut W, count: usize, limit: usize) -> io::Result<()>
+    ensures { Adds W.contents writer.old writer.new result (row_end count limit) }
 {
     let mut number = Buffer::new();
-    put(writer, &[": ", number.format(count), "</text></g>\n"])
+    put(writer, &[": ", number.format(count.min(limit))])?;
+    put_left_out(writer, count, limit)?;
+    put(writer, &["</text></g>\n"])
 }
 
 /// Writes the row of the rule with that place.
-#[tactic(auto, unfolding(crate::specs::Text::row_text))]
-fn put_row<W: Write>(writer: &mut W, marks: &[Mark], place: usize, rule: &Rule) -> io::Result<()>
-    ensures { Adds W.contents writer.old writer.new result (row_text marks.now (place, rule.now)) }
+#[tactic(auto, unfolding(crate::specs::Rows::row_text))]
+fn put_row<W: Write>(writer: &mut W, picture: &Picture, place: usize, rule: &Rule) -> io::Result<()>
+    ensures { Adds W.contents writer.old writer.new result (row_text picture.now (place, rule.now)) }
 {
     put_row_head(writer, place)?;
-    put_swatches(writer, rule.check)?;
+    put_swatches(writer, picture.layers.as_slice(), rule.check)?;
     put(writer, &["<text x=\"90\" y=\"13\">"])?;
     put_rule(writer, rule)?;
-    put_row_end(writer, count_of(marks, place))
+    let count = count_of(picture.marks.as_slice(), place);
+    put_row_end(writer, count, limit_of(picture))
 }
 
 /// Writes the rows of rules, in their order.
-fn put_rows<W: Write>(writer: &mut W, marks: &[Mark], rules: &[Rule]) -> io::Result<()>
-    ensures { Adds W.contents writer.old writer.new result (flat_map (row_text marks.now) (enumerate_from 0 rules.now)) }
+fn put_rows<W: Write>(writer: &mut W, picture: &Picture, rules: &[Rule]) -> io::Result<()>
+    ensures { Adds W.contents writer.old writer.new result (flat_map (row_text picture.now) (enumerate_from 0 rules.now)) }
 {
     for (place, rule) in rules.iter().enumerate() {
-        put_row(writer, marks, place, rule)?;
+        put_row(writer, picture, place, rule)?;
     }
     Ok(())
 }
 
 /// Writes the begin of what stands below the drawing.
-#[tactic(auto, unfolding(crate::specs::Text::legend_head))]
+#[tactic(auto, unfolding(crate::specs::Rows::legend_head))]
 fn put_legend_head<W: Write>(writer: &mut W, window: Box2) -> io::Result<()>
     ensures { Adds W.contents writer.old writer.new result (legend_head window) }
 {
@@ -146,15 +148,15 @@ fn put_legend_head<W: Write>(writer: &mut W, window: Box2) -> io::Result<()>
     put(
         writer,
         &[
-            "<g transform=\"translate(10 ",
-            down.format(drawing_height(window)),
+            "<g transform=\"translate(0 ",
+            down.format(drawing_height(window) + 50),
             ")\">\n",
         ],
     )
 }
 
 /// Writes what stands below the drawing.
-#[tactic(auto, unfolding(crate::specs::Text::legend_text))]
+#[tactic(auto, unfolding(crate::specs::Rows::legend_text))]
 pub(crate) fn put_legend<W: Write>(
     writer: &mut W,
     rules: &[Rule],
@@ -164,5 +166,5 @@ pub(crate) fn put_legend<W: Write>(
 {
     put_legend_head(writer, picture.window)?;
     put_bar(writer, picture.window)?;
-    put_rows(writer, picture.marks.as_slice(), rules)
+    put_rows(writer, picture, rules)
 }

@@ -1,11 +1,15 @@
-//! Markers in a drawing.
-ghost use Rattle.std.specs.List.{flat_map};
-ghost use Rattle.mpw_picture.specs.Text.{outline, mark_text, mark_of, marks_head, marks_text};
+//! Markers in a drawing, one by one.
+ghost use Rattle.std.specs.Prelude.{take};
+ghost use Rattle.std.specs.List.{flat_map, enumerate_from};
+ghost use Rattle.mpw_picture.specs.Density.{of_rule};
+ghost use Rattle.mpw_picture.specs.Marked.{outline, mark_text, group_head, group_text, shown_text, marks_head, marks_text};
 ghost use Rattle.mpw_text.specs.Writing.{Adds};
 
-use crate::colour::rule_colour;
+use crate::look::rule_colour;
 use crate::picture::{Mark, Picture};
 use crate::size::{Corners, corners_of, line_breadth};
+use crate::squares::put_density;
+use crate::wanted::put_wanted;
 use itoa::Buffer;
 use mpw_deck::Rule;
 use mpw_geom::Box2;
@@ -13,12 +17,11 @@ use mpw_report::put_name;
 use mpw_text::put;
 use std::io::{self, Write};
 
-/// Writes the outline of a marker of the rule with that place, up to what it is named.
-#[tactic(auto, unfolding(crate::specs::Text::outline))]
-fn put_outline<W: Write>(writer: &mut W, place: u32, corners: Corners) -> io::Result<()>
-    ensures { Adds W.contents writer.old writer.new result (outline place corners) }
+/// Writes the outline of a marker.
+#[tactic(auto, unfolding(crate::specs::Marked::outline))]
+pub(crate) fn put_outline<W: Write>(writer: &mut W, corners: Corners) -> io::Result<()>
+    ensures { Adds W.contents writer.old writer.new result (outline corners) }
 {
-    let mut colour = Buffer::new();
     let mut left = Buffer::new();
     let mut top = Buffer::new();
     let mut right = Buffer::new();
@@ -27,9 +30,7 @@ fn put_outline<W: Write>(writer: &mut W, place: u32, corners: Corners) -> io::Re
     put(
         writer,
         &[
-            "<path class=\"m",
-            colour.format(rule_colour(place as usize)),
-            "\" d=\"M",
+            "<path d=\"M",
             left,
             " ",
             top.format(corners.top),
@@ -39,48 +40,105 @@ fn put_outline<W: Write>(writer: &mut W, place: u32, corners: Corners) -> io::Re
             bottom.format(corners.bottom),
             "H",
             left,
-            "Z\"><title>",
+            "Z\"/>\n",
         ],
     )
 }
 
-/// Writes a marker of that rule.
-#[tactic(auto, unfolding(crate::specs::Text::mark_text))]
-fn put_mark<W: Write>(writer: &mut W, window: Box2, rule: &Rule, mark: &Mark) -> io::Result<()>
-    ensures { Adds W.contents writer.old writer.new result (mark_text window rule.now mark.now) }
+/// Writes a marker.
+#[tactic(auto, unfolding(crate::specs::Marked::mark_text))]
+fn put_mark<W: Write>(writer: &mut W, window: Box2, mark: &Mark) -> io::Result<()>
+    ensures { Adds W.contents writer.old writer.new result (mark_text window mark.now) }
 {
-    put_outline(writer, mark.rule, corners_of(window, mark.area))?;
-    put_name(writer, &rule.name)?;
-    put(writer, &["</title></path>\n"])
+    put_outline(writer, corners_of(window, mark.area))
 }
 
-/// Writes a marker, if the deck has its rule.
-fn put_mark_of<W: Write>(
+/// Writes the first markers of the rule with that place, no more than the limit, in their order.
+fn put_first<W: Write>(
     writer: &mut W,
     window: Box2,
-    rules: &[Rule],
-    mark: &Mark,
+    marks: &[Mark],
+    limit: usize,
+    place: usize,
 ) -> io::Result<()>
-    ensures { Adds W.contents writer.old writer.new result (mark_of window rules.now mark.now) }
+    ensures { Adds W.contents writer.old writer.new result
+        (flat_map (mark_text window) (take limit (of_rule marks.now place))) }
 {
-    match rules.get(mark.rule as usize) {
-        Some(rule) => put_mark(writer, window, rule, mark),
-        None => Ok(()),
-    }
-}
-
-/// Writes markers, in their order.
-fn put_all<W: Write>(writer: &mut W, window: Box2, rules: &[Rule], marks: &[Mark]) -> io::Result<()>
-    ensures { Adds W.contents writer.old writer.new result (flat_map (mark_of window rules.now) marks.now) }
-{
+    let mut left = limit;
     for mark in marks {
-        put_mark_of(writer, window, rules, mark)?;
+        if mark.rule as usize == place {
+            if left > 0 {
+                put_mark(writer, window, mark)?;
+                left -= 1;
+            }
+        }
     }
     Ok(())
 }
 
+/// Writes the begin of the group of the rule with that place.
+#[tactic(auto, unfolding(crate::specs::Marked::group_head))]
+fn put_group_head<W: Write>(writer: &mut W, place: usize) -> io::Result<()>
+    ensures { Adds W.contents writer.old writer.new result (group_head place) }
+{
+    let mut colour = Buffer::new();
+    put(
+        writer,
+        &[
+            "<g class=\"m m",
+            colour.format(rule_colour(place)),
+            "\"><title>",
+        ],
+    )
+}
+
+/// Writes the group of a rule: its first markers.
+#[tactic(auto, unfolding(crate::specs::Marked::group_text))]
+fn put_group<W: Write>(
+    writer: &mut W,
+    picture: &Picture,
+    place: usize,
+    rule: &Rule,
+) -> io::Result<()>
+    ensures { Adds W.contents writer.old writer.new result (group_text picture.now (place, rule.now)) }
+{
+    put_group_head(writer, place)?;
+    put_name(writer, &rule.name)?;
+    put(writer, &["</title>\n"])?;
+    put_first(
+        writer,
+        picture.window,
+        picture.marks.as_slice(),
+        picture.limit,
+        place,
+    )?;
+    put(writer, &["</g>\n"])
+}
+
+/// Writes the groups of rules, in their order.
+fn put_groups<W: Write>(writer: &mut W, rules: &[Rule], picture: &Picture) -> io::Result<()>
+    ensures { Adds W.contents writer.old writer.new result (flat_map (group_text picture.now) (enumerate_from 0 rules.now)) }
+{
+    for (place, rule) in rules.iter().enumerate() {
+        put_group(writer, picture, place, rule)?;
+    }
+    Ok(())
+}
+
+/// Writes the markers of a picture, one by one or as a density.
+#[tactic(auto, unfolding(crate::specs::Marked::shown_text))]
+fn put_shown<W: Write>(writer: &mut W, rules: &[Rule], picture: &Picture) -> io::Result<()>
+    ensures { Adds W.contents writer.old writer.new result (shown_text rules.now picture.now) }
+{
+    if picture.counts.len() == 0 {
+        put_groups(writer, rules, picture)
+    } else {
+        put_density(writer, picture)
+    }
+}
+
 /// Writes what stands before the markers.
-#[tactic(auto, unfolding(crate::specs::Text::marks_head))]
+#[tactic(auto, unfolding(crate::specs::Marked::marks_head))]
 fn put_marks_head<W: Write>(writer: &mut W, window: Box2) -> io::Result<()>
     ensures { Adds W.contents writer.old writer.new result (marks_head window) }
 {
@@ -88,15 +146,15 @@ fn put_marks_head<W: Write>(writer: &mut W, window: Box2) -> io::Result<()>
     put(
         writer,
         &[
-            "<g class=\"m\" stroke-width=\"",
+            "<g stroke-width=\"",
             line.format(line_breadth(window)),
             "\">\n",
         ],
     )
 }
 
-/// Writes the markers of a picture, and ends its drawing.
-#[tactic(auto, unfolding(crate::specs::Text::marks_text))]
+/// Writes the markers of a picture and the one that is wanted, and ends its drawing.
+#[tactic(auto, unfolding(crate::specs::Marked::marks_text))]
 pub(crate) fn put_marks<W: Write>(
     writer: &mut W,
     rules: &[Rule],
@@ -105,6 +163,7 @@ pub(crate) fn put_marks<W: Write>(
     ensures { Adds W.contents writer.old writer.new result (marks_text rules.now picture.now) }
 {
     put_marks_head(writer, picture.window)?;
-    put_all(writer, picture.window, rules, picture.marks.as_slice())?;
+    put_shown(writer, rules, picture)?;
+    put_wanted(writer, picture.window, &picture.wanted)?;
     put(writer, &["</g>\n</svg>\n"])
 }

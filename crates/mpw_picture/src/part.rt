@@ -15,8 +15,14 @@ pub(crate) enum Part {
     Title,
     /// Behind it, with the colours of layers.
     LayerColours,
-    /// The colours of rules, and the ground.
+    /// The colours of rules, and of what shows the marker that is wanted.
     RuleColours,
+    /// Before the patterns.
+    Patterns,
+    /// Behind them, and the ground.
+    Ground,
+    /// Behind the number of markers that are drawn as a density.
+    Dense,
     /// Behind the last row.
     End,
 }
@@ -28,14 +34,21 @@ fn text(part: Part) -> &'static str
 {
     match part {
         Part::Head =>
-            "<?xml version=\"1.0\" encoding=\"utf-8\"?>\n<svg xmlns=\"http://www.w3.org/2000/svg\" font-family=\"sans-serif\" font-size=\"16\" viewBox=\"0 0 1000 ",
+            "<?xml version=\"1.0\" encoding=\"utf-8\"?>\n<svg xmlns=\"http://www.w3.org/2000/svg\" font-family=\"sans-serif\" font-size=\"16\" viewBox=\"-170 -90 1340 ",
         Part::Title => "\">\n<title>",
         Part::LayerColours =>
             "</title>\n<style>\n.l{opacity:.6}\n.l0{fill:#4e79a7}\n.l1{fill:#f28e2b}\n.l2{fill:#59a14f}\n.l3{fill:#b07aa1}\n.l4{fill:#edc948}\n.l5{fill:#76b7b2}\n.l6{fill:#9c755f}\n.l7{fill:#17becf}\n.l8{fill:#bcbd22}\n.l9{fill:#8cd17d}\n.l10{fill:#9ecae1}\n.l11{fill:#79706e}\n",
         Part::RuleColours =>
             ".m{fill-opacity:.2;stroke-linejoin:round}\n.m0{fill:#d00000;stroke:#d00000}\n.m1{fill:#0000d0;stroke:#0000d0}\n\
             .m2{fill:#b000b0;stroke:#b000b0}\n.m3{fill:#000000;stroke:#000000}\n.m4{fill:#007000;stroke:#007000}\n\
-            .m5{fill:#804000;stroke:#804000}\n</style>\n<rect width=\"100%\" height=\"100%\" fill=\"#fff\"/>\n",
+            .m5{fill:#804000;stroke:#804000}\n.m6{fill:#ff5a00;stroke:#ff5a00}\n.m7{fill:#008b8b;stroke:#008b8b}\n\
+            .m8{fill:#6a00ff;stroke:#6a00ff}\n.m9{fill:#808000;stroke:#808000}\n.m10{fill:#ff1493;stroke:#ff1493}\n\
+            .m11{fill:#405a80;stroke:#405a80}\n.w{fill:none;stroke:#000;stroke-linecap:round;stroke-linejoin:round}\n",
+        Part::Patterns => "</style>\n<defs>\n",
+        Part::Ground =>
+            "</defs>\n<rect x=\"-170\" y=\"-90\" width=\"100%\" height=\"100%\" fill=\"#fff\"/>\n",
+        Part::Dense =>
+            " markers, drawn as a density: the darker a square, the more digits has the number of markers in it</text>\n",
         Part::End => "</g>\n</svg>\n",
     }
 }

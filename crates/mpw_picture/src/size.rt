@@ -1,7 +1,7 @@
 //! Sizes of a drawing, in nm and in pixels.
 ghost use Rattle.std.specs.Prelude.{◌≡◌, ◌≤◌, ◌<◌, ◌^◌};
 ghost use Rattle.mpw_picture.specs.Windows.{side, longer_side};
-ghost use Rattle.mpw_picture.specs.Sizes.{pixels, drawing_breadth, drawing_height, line_breadth, turned, bar_lengths, last_within, bar_length};
+ghost use Rattle.mpw_picture.specs.Sizes.{pixels, drawing_breadth, drawing_height, line_breadth, ring_margin, is_small, turned, bar_lengths, last_within, bar_length};
 
 use mpw_geom::Box2;
 
@@ -90,6 +90,23 @@ pub(crate) fn line_breadth(window: Box2) -> u64
     ensures { result ≡ line_breadth window }
 {
     longer_side(window) / 300 + 1
+}
+
+/// How far the ring stands off the marker that is wanted, in nm.
+#[tactic(auto, unfolding(crate::specs::Sizes::ring_margin))]
+pub(crate) fn ring_margin(window: Box2) -> u64
+    ensures margin { result ≡ ring_margin window }
+    ensures few { result < 2 ^ 60 }
+{
+    longer_side(window) / 100 + 1
+}
+
+/// Whether a box is below five pixels in a window.
+#[tactic(auto, unfolding(crate::specs::Sizes::is_small))]
+pub(crate) fn is_small(window: Box2, area: Box2) -> bool
+    ensures { result ≡ is_small window area }
+{
+    200 * u128::from(longer_side(area)) < u128::from(longer_side(window))
 }
 
 /// The lengths that a scale bar may have, in nm.

@@ -3,13 +3,13 @@ ghost use Rattle.std.specs.Prelude.{◌≡◌, ◌≤◌, ◌<◌, ◌^◌, ◌+
 ghost use Rattle.mpw_geom.specs.Plane.{IsBoxInPlane};
 ghost use Rattle.mpw_tiles.specs.Placed.{nearest};
 ghost use Rattle.mpw_tiles.specs.Snapshots.{shown_extent};
-ghost use Rattle.mpw_picture.specs.Windows.{widened, marker_window, around, whole_window};
+ghost use Rattle.mpw_picture.specs.Windows.{widened, distance_of, marker_margin, marker_window, around, whole_window};
 
 use crate::size::longer_side;
 use mpw_deck::Rule;
 use mpw_geom::Box2;
 use mpw_markers::Marker;
-use mpw_tiles::{Snapshot, greatest_distance};
+use mpw_tiles::Snapshot;
 
 /// The farthest coordinate of the plane, in nm.
 const MAX_COORDINATE: i64 = 1 << 48;
@@ -34,7 +34,7 @@ fn above(z: i64, by: u64) -> i64
 
 /// A box that is wider by so many nm on each side, as far as the plane goes.
 #[tactic(auto, unfolding(crate::specs::Windows::widened))]
-fn wider_box(area: &Box2, by: u64) -> Box2
+pub(crate) fn wider_box(area: &Box2, by: u64) -> Box2
     ensures { result ≡ widened by area.now }
 {
     Box2 {
@@ -45,14 +45,33 @@ fn wider_box(area: &Box2, by: u64) -> Box2
     }
 }
 
-/// The window round a marker, in nm: its box, wider on each side by 20 times the rules' greatest distance, as far as the plane of
-/// coordinates goes, from -2^48 to 2^48. Linear in the rules; takes no memory.
+/// The distance of the rule with that place in its deck, in nm; 0 where there is none.
+fn distance_of(rules: &[Rule], place: u32) -> u32
+    ensures { result ≡ distance_of rules.now place }
+{
+    match rules.get(place as usize) {
+        Some(rule) => rule.distance,
+        None => 0,
+    }
+}
+
+/// How much wider than a marker's box its window is on each side, in nm.
+#[tactic(auto, unfolding(crate::specs::Windows::marker_margin))]
+fn marker_margin(distance: u32, area: &Box2) -> u64
+    ensures { result ≡ marker_margin distance area.now }
+{
+    4 * u64::from(distance) + longer_side(*area) / 4
+}
+
+/// The window round a marker, in nm: its box, wider on each side by 4 times its rule's distance and a quarter of the box's longer side,
+/// as far as the plane of coordinates goes, from -2^48 to 2^48. Constant time; takes no memory.
 pub fn marker_window(rules: &[Rule], marker: &Marker) -> Box2
     ensures window { result ≡ marker_window rules.now marker.now }
     ensures plane { IsBoxInPlane result }
 {
-    let distance = u64::from(greatest_distance(rules));
-    wider_box(&marker.closed_box(), 20 * distance)
+    let area = marker.closed_box();
+    let margin = marker_margin(distance_of(rules, marker.rule), &area);
+    wider_box(&area, margin)
 }
 
 /// The box wider by a twentieth of its longer side, and 1 nm.

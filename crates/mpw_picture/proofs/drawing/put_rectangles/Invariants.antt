@@ -7,4 +7,4 @@ use Rattle.mpw_picture.proofs.drawing.put_rectangles.Given as goal
 abbrev pub invariant-loop-rectangle : goal.invariant-loop-rectangle
 invariant-loop-rectangle g l =
     Appends (g.W.Write.contents l.initial.writer) (g.W.Write.contents l.writer)
-    (flat_map (rectangle_of l.window l.colour) (take l.rectangle-index l.rectangles))
+    (flat_map (rectangle_of l.window l.layer) (take l.rectangle-index l.rectangles))

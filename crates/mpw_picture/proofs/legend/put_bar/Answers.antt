@@ -1,7 +1,7 @@
 use Rattle.std.proofs.Common.{refl, rules, w64}
 use Rattle.std.proofs.lemmas.Int.{to_z-of_z}
 use Rattle.mpw_text.proofs.Adding.{adds_more, adds_same}
-use Rattle.mpw_picture.specs.Text.{bar_text}
+use Rattle.mpw_picture.specs.Rows.{bar_text}
 use Rattle.mpw_picture.proofs.legend.put_bar.Goals as goal
 
 pub returns : goal.returns

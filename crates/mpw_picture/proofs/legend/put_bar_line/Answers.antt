@@ -1,6 +1,6 @@
 use Rattle.std.proofs.Common.{refl}
 use Rattle.mpw_text.proofs.Adding.{adds_same}
-use Rattle.mpw_picture.specs.Text.{bar_line}
+use Rattle.mpw_picture.specs.Rows.{bar_line}
 use Rattle.mpw_picture.proofs.legend.put_bar_line.Goals as goal
 
 pub returns : goal.returns

@@ -1,12 +1,10 @@
-use Rattle.std.proofs.Common.{refl}
-use Rattle.mpw_text.proofs.Adding.{adds_more, adds_same}
-use Rattle.mpw_picture.specs.Text.{legend_text}
+use Rattle.mpw_text.proofs.Adding.{adds_more}
+use Rattle.mpw_picture.specs.Rows.{legend_text}
 use Rattle.mpw_picture.proofs.legend.put_legend.Goals as goal
 
 pub returns : goal.returns
 unfolding legend_text
 returns g c =
-    adds_same _ _ _ _ _ (rw c.as_slice.ensures.value refl)
-    (adds_more _ _ _ _ _ _ _ _ c.in_ok-put_bar.was
+    adds_more _ _ _ _ _ _ _ _ c.in_ok-put_bar.was
     (adds_more _ _ _ _ _ _ _ _ c.in_ok-put_legend_head.was
-    c.put_legend_head.ensures c.put_bar.ensures) c.put_rows.ensures)
+    c.put_legend_head.ensures c.put_bar.ensures) c.put_rows.ensures

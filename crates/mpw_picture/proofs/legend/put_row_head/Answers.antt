@@ -1,6 +1,6 @@
 use Rattle.std.proofs.Common.{refl}
 use Rattle.mpw_text.proofs.Adding.{adds_same}
-use Rattle.mpw_picture.specs.Text.{row_head}
+use Rattle.mpw_picture.specs.Rows.{row_head}
 use Rattle.mpw_picture.proofs.legend.put_row_head.Goals as goal
 
 pub returns : goal.returns

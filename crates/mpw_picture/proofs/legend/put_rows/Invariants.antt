@@ -1,10 +1,10 @@
 use Rattle.std.proofs.Common.{take}
 use Rattle.std.specs.List.{flat_map, enumerate_from}
 use Rattle.std.specs.Io.KnownBytes.{Appends}
-use Rattle.mpw_picture.specs.Text.{row_text}
+use Rattle.mpw_picture.specs.Rows.{row_text}
 use Rattle.mpw_picture.proofs.legend.put_rows.Given as goal
 
 abbrev pub invariant-loop-place : goal.invariant-loop-place
 invariant-loop-place g l =
     Appends (g.W.Write.contents l.initial.writer) (g.W.Write.contents l.writer)
-    (flat_map (row_text l.marks) (take l.place (enumerate_from 0 l.rules)))
+    (flat_map (row_text l.picture) (take l.place (enumerate_from 0 l.rules)))

@@ -1,6 +1,6 @@
 use Rattle.std.proofs.Common.{refl}
 use Rattle.mpw_text.proofs.Adding.{adds_same}
-use Rattle.mpw_picture.specs.Text.{marks_head}
+use Rattle.mpw_picture.specs.Marked.{marks_head}
 use Rattle.mpw_picture.proofs.mark.put_marks_head.Goals as goal
 
 pub returns : goal.returns

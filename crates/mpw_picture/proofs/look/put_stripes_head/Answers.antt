@@ -1,0 +1,15 @@
+use Rattle.std.proofs.Common.{refl}
+use Rattle.mpw_text.proofs.Adding.{adds_same}
+use Rattle.mpw_picture.specs.Patterns.{stripes_head}
+use Rattle.mpw_picture.proofs.look.put_stripes_head.Goals as goal
+
+pub returns : goal.returns
+unfolding stripes_head
+returns g c =
+    adds_same _ _ _ _ _ (rw (
+      c.format-period.ensures.text,
+      c.format.ensures.text,
+      c.period_of.ensures,
+      c.hatch_of.ensures,
+    ) refl)
+    c.put.ensures

@@ -1,0 +1,13 @@
+use Rattle.std.proofs.Common.{refl}
+use Rattle.mpw_text.proofs.Adding.{adds_same}
+use Rattle.mpw_picture.specs.Marked.{density_head}
+use Rattle.mpw_picture.proofs.squares.put_density_head.Goals as goal
+
+pub returns : goal.returns
+unfolding density_head
+returns g c =
+    adds_same _ _ _ _ _ (rw (
+      c.format.ensures.text,
+      c.height.ensures.height,
+    ) refl)
+    c.put.ensures

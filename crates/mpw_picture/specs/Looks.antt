@@ -1,0 +1,61 @@
+-- How layers and rules look: the layers of a picture, which of twelve colours each has and how it is hatched, and the colour of a
+-- rule.
+use Rattle.std.specs.Prelude.{ℕ, ◌+◌, ◌-◌, ◌*◌, ◌/◌, ◌%◌, ◌==◌, ◌&&◌, Bool, List, [], ◌∷◌, ◌++◌, length, fold, unwrap_or, if◌then◌else◌}
+use Rattle.std.specs.List.{list_any, position}
+use Rattle.mpw_deck.specs.declared.rule.Check.{Check}
+use Rattle.mpw_deck.specs.declared.rule.Check.TheVariants.{Width, Space, Separation, Enclosing}
+use Rattle.mpw_deck.specs.declared.rule.Rule.{Rule}
+use Rattle.mpw_geom.specs.declared.plane.Layer.{Layer}
+use Rattle.mpw_tiles.specs.declared.listing.Rectangle.{Rectangle}
+
+-- ---- the layers of a picture: those that its rules name, and behind them those of its rectangles, each once
+
+abbrev pub is_layer : Layer → Layer → Bool
+is_layer a b = (a.layer == b.layer) && (a.datatype == b.datatype)
+
+abbrev pub with_layer : List Layer → Layer → List Layer
+with_layer layers l = if list_any (is_layer l) layers then layers else layers ++ l ∷ []
+
+abbrev pub with_layers : List Layer → List Layer → List Layer
+with_layers layers more = fold with_layer layers more
+
+abbrev pub check_layers : Check → List Layer
+check_layers (Width layer) = layer ∷ []
+check_layers (Space layer) = layer ∷ []
+check_layers (Separation first second) = first ∷ second ∷ []
+check_layers (Enclosing outer inner) = outer ∷ inner ∷ []
+
+abbrev pub with_rule : List Layer → Rule → List Layer
+with_rule layers rule = with_layers layers (check_layers rule.check)
+
+abbrev pub rule_layers : List Rule → List Layer
+rule_layers rules = fold with_rule [] rules
+
+abbrev pub layers_of : List Rule → List Rectangle → List Layer
+layers_of rules rectangles = fold (λ layers r. with_layer layers r.layer) (rule_layers rules) rectangles
+
+-- the place of a layer among them; that behind the last where it is none of them
+abbrev pub place_of : List Layer → Layer → ℕ
+place_of layers l = unwrap_or (position (is_layer l) layers) (length layers)
+
+-- ---- how the layer with that place looks
+
+-- the number of its colour
+unfoldable pub colour_of : ℕ → ℕ
+colour_of place = place % 12
+
+-- how often all colours are used up before it: 0 is drawn plainly, each other one by stripes of its own
+unfoldable pub hatch_of : ℕ → ℕ
+hatch_of place = place / 12
+
+-- how far its stripes lie apart, in pixels, and how far they are turned, in degrees
+unfoldable pub period_of : ℕ → ℕ
+period_of hatch = 6 + 4 * ((hatch - 1) / 4)
+
+unfoldable pub angle_of : ℕ → ℕ
+angle_of hatch = 45 * ((hatch - 1) % 4)
+
+-- ---- the number of a rule's colour, by its place in the deck
+
+unfoldable pub rule_colour : ℕ → ℕ
+rule_colour place = place % 12
