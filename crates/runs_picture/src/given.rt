@@ -51,6 +51,19 @@ impl Given {
         Ok(())
     }
 
+    /// Adds so many markers, each so far to the right of the one before.
+    pub fn add_many(&mut self, alloc: Global, count: usize, step: usize, line: &str) -> Result<()> {
+        let mut shift = 0i64;
+        for _ in 0..count {
+            let mut marker = marker(alloc, line)?;
+            marker.x1 = marker.x1.saturating_add(shift);
+            marker.x2 = marker.x2.saturating_add(shift);
+            self.markers.push(marker)?;
+            shift = shift.saturating_add_unsigned(step as u64);
+        }
+        Ok(())
+    }
+
     /// The name of the pictures.
     pub fn top(&self) -> Result<&Name> {
         match &self.name {
