@@ -180,7 +180,7 @@ static DECK: [Entry; 7] = [
         detail: Detail::Refusal {
             number: "51",
             remedy: "a line is 'tile SIDE', or 'CHECK NAME LAYER.. DISTANCE' with width, space, \
-                separation or enclosing, and a NAME without a colon; no line is empty or a comment",
+                separation or enclosing; no line is empty or a comment, and a NAME has no colon",
         },
     },
     Entry {
