@@ -2,6 +2,8 @@
 """Loads `mpw serve` over loopback, with Python's sockets alone.
 
   serve.py burst [CLIENTS] [AHEAD]      each client asks 4000 times `whoami`, AHEAD lines at a time; requests a second
+  serve.py changes [CLIENTS] [TIMES]    each client adds a role and takes it away, so often: changes a second without a store, with one in the folder
+                                        for temporary files, and with one in memory; and how often `whoami` is answered beside
   serve.py waits [SECONDS]              one client submits 16 MB again and again, another asks `whoami`; how long each waits
   serve.py mixed [SECONDS] [CLIENTS]    clients with cells, users and roles of their own, each compared with the model of
                                         model/, while another places, runs and waives; requests a second, the greatest waits,
@@ -19,6 +21,7 @@ import re
 import socket
 import subprocess
 import sys
+import tempfile
 import threading
 import time
 from contextlib import contextmanager, suppress
@@ -109,6 +112,63 @@ def burst(clients=64, ahead=1):
     asked = clients * (TIMES // ahead) * ahead
     print(f"{clients} clients, {ahead} lines ahead: {asked / taken:.0f} requests a second, greatest wait {1000 * longest:.0f} ms; {printed}")
     return status
+
+
+# Changes, with a store and without.
+
+
+def change_often(port, number, times, gate, told):
+    """Adds a role and takes it away, so often, a line at a time, and tells the longest wait."""
+    with connected(port) as end:
+        end.sendall(b"open root abc\nactivate officer\n")
+        read_exactly(end, 2 * len(b"OK 0\n"))
+        gate.wait()
+        longest = 0.0
+        for _ in range(times):
+            for verb in b"addrole", b"delrole":
+                begun = time.monotonic()
+                end.sendall(b"%s r%d\n" % (verb, number))
+                read_exactly(end, len(b"OK 0\n"))
+                longest = max(longest, time.monotonic() - begun)
+        told.put(longest)
+
+
+def changes_over(clients, times, *store):
+    """How many changes a second a service answers, the longest wait, how many questions a client that only asks had answered meanwhile, and whether the
+    service ended well."""
+    gate, told = multiprocessing.Barrier(clients + 1), multiprocessing.Queue()
+    with service(clients + 1, 1, *store) as (process, port):
+        asking = [multiprocessing.Process(target=change_often, args=(port, number, times, gate, told)) for number in range(clients)]
+        for client in asking:
+            client.start()
+        with connected(port) as end:
+            end.sendall(b"open root abc\n")
+            read_exactly(end, len(b"OK 0\n"))
+            gate.wait()
+            begun, asked, waits = time.monotonic(), 0, []
+            while len(waits) < clients:
+                if asked < TIMES - 10:
+                    end.sendall(b"whoami\n")
+                    read_exactly(end, len(WHOAMI))
+                    asked += 1
+                    lasted = time.monotonic() - begun
+                while not told.empty():
+                    waits.append(told.get())
+            taken = time.monotonic() - begun
+        for client in asking:
+            client.join()
+        status, _ = ended(process)
+    return 2 * clients * times / taken, max(waits), asked / lasted, status
+
+
+def changes(clients=8, times=250):
+    failed = 0
+    with tempfile.TemporaryDirectory() as folder, tempfile.TemporaryDirectory(dir="/dev/shm") as memory:
+        for name, store in ("no store", []), (f"a store in {os.path.dirname(folder)}", ["--store", os.path.join(folder, "desk.db")]), ("a store in memory", ["--store", os.path.join(memory, "desk.db")]):
+            rate, longest, questions, status = changes_over(clients, times, *store)
+            print(f"{clients} clients, {name}: {rate:.0f} changes a second, greatest wait {1000 * longest:.0f} ms, and {questions:.0f} questions a second of one more; status {status}")
+            failed += status != 0
+    return failed
 
 
 # Waits beside a large step.
@@ -348,7 +408,7 @@ def mixed(seconds=600, clients=62):
 
 
 def main(words):
-    kinds = {"burst": burst, "waits": waits, "mixed": mixed}
+    kinds = {"burst": burst, "changes": changes, "waits": waits, "mixed": mixed}
     if not words or words[0] not in kinds or not all(word.isdigit() for word in words[1:]):
         sys.exit(__doc__)
     return kinds[words[0]](*map(int, words[1:]))

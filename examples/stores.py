@@ -5,6 +5,7 @@ import hashlib
 import os
 import shutil
 import signal
+import socket
 import sqlite3
 import subprocess
 import tempfile
@@ -13,9 +14,17 @@ HERE = os.path.dirname(os.path.abspath(__file__))
 MPW = os.path.join(os.path.dirname(HERE), "mpw")
 DIGEST = "ba7816bf8f01cfea414140de5dae2223b00361a396177a9cb410ff61f20015ad"
 SCRIPT = ["script", "--officer", "root", "--digest", DIGEST, "--store"]
+SERVE = ["serve", "--listen", "127.0.0.1:0", "--connections", "1", "--workers", "1", "--officer", "root", "--digest", DIGEST, "--store"]
 ASKED = ["open root abc", "activate officer", "adduser ann abc", "addrole alpha", "assign ann alpha", "grant read pad alpha", "close", "open ann abc", "activate alpha"]
-ROWS = ["place,connection,kind,line"] + [f"{place},1,request,{line.replace(' abc', ' ' + DIGEST)}" for place, line in enumerate(ASKED, 1)]
-GONE = "10,1,gone,"
+
+
+def rows_of(connection):
+    """The rows that these lines of a connection leave, and its end, as `mpw trail` lists them."""
+    lines = [f"{place},{connection},request,{line.replace(' abc', ' ' + DIGEST)}" for place, line in enumerate(ASKED, 1)]
+    return ["place,connection,kind,line", *lines, f"10,{connection},gone,"]
+
+
+*ROWS, GONE = rows_of(1)
 
 
 class Folder:
@@ -85,6 +94,28 @@ def killed():
         return found
 
 
+def served():
+    """A service keeps what its connection asks, as a script does, and each goes on from the other. No other program has the file meanwhile."""
+    with Folder() as folder:
+        found = []
+        for lines, replies in (ASKED, ["OK 0"] * 9), (["open ann abc", "whoami", "activate alpha"], ["OK 0", "OK 2", "user ann", "authorized alpha", "OK 0"]):
+            service = subprocess.Popen([MPW, *SERVE, "desk.db"], cwd=folder.path, text=True, stdout=subprocess.PIPE, stderr=subprocess.PIPE)
+            port = int(service.stdout.readline().rpartition(":")[2])
+            found += differing("a second process", folder.run(*SCRIPT, "desk.db"), (3, [], ["error: the store: database is locked"]))
+            with socket.create_connection(("127.0.0.1", port), 60) as end:
+                end.sendall("".join(f"{line}\n" for line in lines).encode())
+                end.shutdown(socket.SHUT_WR)
+                found += differing("what a service answers", end.makefile().read().splitlines(), replies)
+            found += differing("its fault", service.communicate(timeout=60)[1], "")
+            found += differing("its end", service.returncode, 0)
+        _, rows, _ = folder.run("trail", "desk.db")
+        first, second = (rows[place].split(",")[1] for place in (1, 11))
+        more = [f"11,{second},request,open ann {DIGEST}", f"12,{second},request,activate alpha", f"13,{second},gone,"]
+        found += differing("the rows of two services", rows, [*rows_of(first), *more])
+        found += differing("whether the second has a greater number", int(first) < int(second), True)
+        return found + differing("a script that goes on", folder.run(*SCRIPT, "desk.db", lines=["open ann abc"]), (0, ["OK 0"], []))
+
+
 def refused(what, folder, words, name="desk.db"):
     """The file is refused with status 3 and a sentence that has the words; nothing is answered, and no file but a database's log is another than
     before."""
@@ -135,6 +166,7 @@ def bad_rows():
 CASES = {
     "a desk over a store": kept,
     "a desk over a store that is killed": killed,
+    "a service over a store": served,
     "files that are no store": other_files,
     "a store with two names": two_names,
     "a store with a bad row": bad_rows,

@@ -1,0 +1,260 @@
+"""`mpw serve --store FILE` over loopback: what it told as accepted is there after it was killed, another program is refused the file, and a disk that takes
+no more closes the desk. The program is MPW_PROGRAM, else the one that the gate built."""
+import os
+import resource
+import signal
+import sqlite3
+import subprocess
+import tempfile
+import threading
+import time
+import unittest
+from contextlib import closing, contextmanager, suppress
+
+import layouts
+import test_serve as serving
+from mpw_desk import Denied, Desk, Lost, Refused, State
+from test_serve import DECK, DIGEST, LIMIT, MPW
+
+REQUEST, GONE, FINISHED = 1, 2, 3
+# Bytes that a file may have where it takes no more than some hundred changes.
+SMALL = 600_000
+
+
+@contextmanager
+def folder():
+    with tempfile.TemporaryDirectory(prefix="mpw-stored-") as path:
+        yield lambda name: os.path.join(path, name)
+
+
+@contextmanager
+def service(store, connections, *more, **popen):
+    """A service over a store."""
+    words = serving.words(connections, 2, "--store", store, *more)
+    with subprocess.Popen(words, stdin=subprocess.DEVNULL, stdout=subprocess.PIPE, stderr=subprocess.PIPE, **popen) as process:
+        try:
+            yield serving.Service(process)
+        finally:
+            process.kill()
+
+
+def rows_of(store):
+    """The rows of a store that no program has open: connection, kind, line."""
+    with closing(sqlite3.connect(store)) as database:
+        found = database.execute("select k, conn, kind, line from changes order by k").fetchall()
+    assert [row[0] for row in found] == list(range(1, len(found) + 1))
+    return [row[1:] for row in found]
+
+
+def ended(words):
+    """The exit status of a program that ends by itself, what it printed, and what it told on the standard error."""
+    found = subprocess.run(words, stdin=subprocess.DEVNULL, stdout=subprocess.PIPE, stderr=subprocess.PIPE, timeout=LIMIT)
+    return found.returncode, found.stdout.decode(), found.stderr.decode()
+
+
+def limited():
+    """Lets the files of a program grow so far alone; a write beyond it fails."""
+    signal.signal(signal.SIGXFSZ, signal.SIG_IGN)
+    resource.setrlimit(resource.RLIMIT_FSIZE, (SMALL, SMALL))
+
+
+@contextmanager
+def small_disk():
+    """A file system of a megabyte, where one can be made."""
+    with tempfile.TemporaryDirectory(prefix="mpw-stored-") as path:
+        if subprocess.run(["mount", "-t", "tmpfs", "-o", "size=1m", "none", path], stderr=subprocess.DEVNULL, check=False).returncode != 0:
+            raise unittest.SkipTest("no file system can be mounted here")
+        try:
+            yield lambda name: os.path.join(path, name)
+        finally:
+            subprocess.run(["umount", path], check=False)
+
+
+class Asking(threading.Thread):
+    """A client that adds roles of its own, one after the other, until it is answered no more or otherwise."""
+
+    def __init__(self, served, name):
+        super().__init__()
+        self.desk, self.name = served.desk(), name
+        self.accepted, self.last, self.refused = [], None, None
+
+    def run(self):
+        with suppress(Lost, OSError):
+            for number in range(500):
+                self.last = f"{self.name}-{number}"
+                try:
+                    self.desk.addrole(self.last)
+                except Refused as refused:
+                    self.refused = refused
+                    return
+                self.accepted.append(self.last)
+
+
+def is_there(desk, role):
+    """Whether a role was added before; else it is now."""
+    try:
+        desk.addrole(role)
+    except Refused as refused:
+        if refused.code != 33:
+            raise
+        return True
+    return False
+
+
+@unittest.skipUnless(os.access(MPW, os.X_OK), f"{MPW} isn't built")
+class Kept(unittest.TestCase):
+    def test_killed_while_clients_ask(self):
+        """Each role that was told as accepted is there, and at most the one more that each client was waiting for; the sessions are ended."""
+        with folder() as at:
+            with service(at("desk.db"), 4, "--ongoing") as served:
+                asking = [Asking(served, f"role{number}") for number in range(3)]
+                for client in asking:
+                    client.start()
+                while sum(len(client.accepted) for client in asking) < 60:
+                    time.sleep(0.001)
+                served.process.send_signal(signal.SIGKILL)
+                for client in asking:
+                    client.join()
+                self.assertEqual(served.process.wait(), -signal.SIGKILL)
+            told = sum(len(client.accepted) for client in asking)
+            with service(at("desk.db"), 4, "--ongoing") as served:
+                with Desk.connect("127.0.0.1", served.port) as desk, self.assertRaises(Denied):
+                    desk.whoami()
+                with served.desk() as desk:
+                    for client in asking:
+                        self.assertTrue(all(is_there(desk, role) for role in client.accepted))
+                    more = sum(is_there(desk, client.last) for client in asking if client.last not in client.accepted)
+                served.process.send_signal(signal.SIGKILL)
+            rows = rows_of(at("desk.db"))
+            before = 2 * len(asking) + told + more
+            self.assertEqual([row[1] for row in rows[:before]], [REQUEST] * before)
+            old = {row[0] for row in rows[:before]}
+            self.assertEqual((len(old), rows[before:before + len(old)]), (len(asking), [(number, GONE, "") for number in sorted(old)]))
+            self.assertTrue(all(number > max(old) for number, *_ in rows[before + len(old):]))
+
+    def test_finished_run(self):
+        """A service that ended goes on with the run's markers and their waivers, on a file without its log."""
+        with folder() as at:
+            with service(at("desk.db"), 1) as served:
+                desk = served.desk()
+                serving.grant_all(desk, "pad")
+                desk.submit("pad", "PAD", layouts.pad())
+                desk.deck(DECK)
+                desk.place("pad", "p", "R0", 0, 0)
+                desk.run()
+                self.assertIs(desk.wait(poll=0.01, limit=LIMIT).state, State.FINISHED)
+                key = desk.markers().full[0].key
+                desk.waive(key)
+                desk.hang_up()
+                self.assertEqual(served.end()[::2], (0, ""))
+            rows = rows_of(at("desk.db"))
+            self.assertEqual(sum(row[1:] == (FINISHED, "1") for row in rows), 1)
+            self.assertEqual(rows[-1][1:], (GONE, ""))
+            with service(at("desk.db"), 1) as served:
+                desk = served.desk()
+                self.assertIs(desk.status().state, State.FINISHED)
+                self.assertEqual([marker.key for marker in desk.markers().full], [key])
+                self.assertEqual([(waiver.key, waiver.asker) for waiver in desk.waivers()], [(key, "root")])
+                with self.assertRaises(Denied):
+                    desk.sign(key)
+                desk.hang_up()
+                self.assertEqual(served.end()[::2], (0, ""))
+            self.assertEqual(rows_of(at("desk.db"))[:len(rows)], rows)
+
+    def test_a_script_goes_on_from_a_service(self):
+        with folder() as at:
+            with service(at("desk.db"), 1) as served:
+                with served.desk() as desk:
+                    desk.addrole("alpha")
+                self.assertEqual(served.end()[::2], (0, ""))
+            script = [MPW, "script", "--officer", "root", "--digest", DIGEST, "--store", at("desk.db")]
+            told = subprocess.run(script, input=b"open root abc\nactivate officer\naddrole alpha\n", stdout=subprocess.PIPE, timeout=LIMIT)
+            self.assertEqual((told.returncode, told.stdout), (0, b"OK 0\nOK 0\nREFUSED 33 known\n"))
+
+    def test_who_else_opens_it(self):
+        """A second program is refused the file by name, and the first goes on."""
+        with folder() as at:
+            with service(at("desk.db"), 2) as served:
+                with served.desk() as desk:
+                    script = [MPW, "script", "--officer", "root", "--digest", DIGEST, "--store", at("desk.db")]
+                    for words in serving.words(1, 1, "--store", at("desk.db")), script:
+                        self.assertEqual(ended(words), (3, "", "error: the store: database is locked\n"))
+                    desk.addrole("alpha")
+                with served.connect():
+                    pass
+                self.assertEqual(served.end()[::2], (0, ""))
+            self.assertEqual([row[2] for row in rows_of(at("desk.db"))][2], "addrole alpha")
+
+    def test_what_is_no_store(self):
+        """It is told before anything is bound or printed, and stays as it is."""
+        with folder() as at:
+            with closing(sqlite3.connect(at("other.db"))) as other:
+                other.execute("create table notes(text)")
+            with open(at("other.db"), "rb") as file:
+                before = file.read()
+            status, printed, told = ended(serving.words(1, 1, "--store", at("other.db"), listen="no address"))
+            self.assertEqual((status, printed, "another database" in told), (3, "", True), told)
+            with open(at("other.db"), "rb") as file:
+                self.assertEqual(file.read(), before)
+            status, printed, told = ended(serving.words(1, 1, "--store", at("new.db"), listen="no address"))
+            self.assertEqual((status, printed, told), (3, "", "error: the address can't be bound\n"))
+            self.assertEqual(rows_of(at("new.db")), [])
+
+
+@unittest.skipUnless(os.access(MPW, os.X_OK), f"{MPW} isn't built")
+class Full(unittest.TestCase):
+    def closed_by(self, store, **popen):
+        """An ongoing service whose disk takes no more: a request is refused for it, and every later one on each connection. The service ends with the
+        connection that was told so. What it told on the standard error, and the roles that were accepted."""
+        with service(store, 2, "--ongoing", **popen) as served:
+            other = served.desk()
+            client = Asking(served, "role")
+            client.start()
+            client.join()
+            self.assertEqual((client.refused.code, client.refused.word), (60, "store"))
+            for desk in client.desk, other:
+                with self.assertRaises(Refused) as refused:
+                    desk.whoami()
+                self.assertEqual((refused.exception.code, refused.exception.word), (61, "closed"))
+            client.desk.hang_up()
+            status, printed, told = served.end()
+            with self.assertRaises((Lost, OSError)):
+                other.whoami()
+        self.assertEqual(status, 3)
+        self.assertRegex(printed, "calls [0-9]+\n")
+        return told, client
+
+    def goes_on(self, store, client):
+        """With room again each role that was accepted is there, and the one that was refused isn't."""
+        with service(store, 1) as served:
+            with served.desk() as desk:
+                self.assertTrue(all(is_there(desk, role) for role in client.accepted))
+                self.assertFalse(is_there(desk, client.last))
+            self.assertEqual(served.end()[::2], (0, ""))
+
+    def test_a_file_that_may_not_grow(self):
+        with folder() as at:
+            told, client = self.closed_by(at("desk.db"), preexec_fn=limited)
+            self.assertRegex(told, r"\Aerror: the store: [^\n]+\n(warning: the store: [^\n]+\n)?\Z")
+            self.assertGreater(len(client.accepted), 10)
+            self.goes_on(at("desk.db"), client)
+
+    def test_a_disk_that_is_full(self):
+        with small_disk() as at:
+            told, client = self.closed_by(at("desk.db"))
+            self.assertTrue(told.startswith("error: the store: database or disk is full\n"), told)
+            subprocess.run(["mount", "-o", "remount,size=8m", os.path.dirname(at("desk.db"))], check=True)
+            self.goes_on(at("desk.db"), client)
+
+    def test_connections_in_all(self):
+        """A service of some connections in all ends with the first that was told that the desk is closed."""
+        with folder() as at:
+            with service(at("desk.db"), 3, preexec_fn=limited) as served:
+                client = Asking(served, "role")
+                client.start()
+                client.join()
+                client.desk.hang_up()
+                status, printed, told = served.end()
+            self.assertEqual((client.refused.code, status), (60, 3))
+            self.assertRegex(printed, "calls [0-9]+\n")
+            self.assertTrue(told.startswith("error: the store: "), told)
