@@ -34,23 +34,12 @@ fn script(rt: &HostRuntime, threads: &(impl Threads + Sync), script: Script) -> 
     }
 }
 
-/// Tells that a service keeps no store: it is refused rather than begun without one.
-fn refuse_store(rt: &HostRuntime) -> ExitCode {
-    let _ = eprintln!(rt; "error: mpw serve keeps no store yet; mpw script does");
-    ExitCode::from(2)
-}
-
-/// Exits with 0 where the connections ended, and behind help, 2 at a usage fault, and where a service is to keep a store, 3 where a device or a store failed, 4 where the passes of a service don't
+/// Exits with 0 where the connections ended, and behind help, 2 at a usage fault, 3 where a device or a store failed, 4 where the passes of a service don't
 /// account for every call, and 5 where memory or a thread was wanting. A fault is told on the standard error.
 fn main(rt: HostRuntime) -> ExitCode {
     match command_line(&rt) {
         Ok(Settings::Script(asked)) => script(&rt, &rt, asked),
-        Ok(Settings::Serve(service)) => {
-            if service.store.is_some() {
-                return refuse_store(&rt);
-            }
-            run_service(&rt, &rt, &service)
-        }
+        Ok(Settings::Serve(service)) => run_service(&rt, &rt, &service, Line::new(&rt)),
         Ok(Settings::Help(text)) => print_help(&rt, text.as_str()),
         Err(fault) => tell(&rt, &fault),
     }
