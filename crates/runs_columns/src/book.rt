@@ -1,0 +1,123 @@
+//! Books of columns, and those of tiles.
+
+use crate::layout::snapshot;
+use anyhow::{Context, Result, bail};
+use mpw_check::{Silent, check_tiles, tile_count};
+use mpw_columns::check_columns;
+use mpw_deck::Rules;
+use mpw_edges::Axis;
+use mpw_markers::{Book, Marker, stitch};
+use mpw_tiles::Snapshot;
+use std::alloc::Global;
+use std::thread::Threads;
+
+/// How many shapes columns may show, beside what a line names.
+const MOSTS: [u32; 4] = [12, 16, 24, 65536];
+
+/// The book of the snapshot, by columns that show at most so many shapes each.
+fn by_columns(
+    rt: &(impl Threads + Sync),
+    alloc: Global,
+    snapshot: &Snapshot,
+    most: u32,
+) -> Result<Book> {
+    if snapshot.shelf().submissions().len() != 1 {
+        bail!("one submission");
+    }
+    Ok(check_columns(rt, alloc, snapshot, most)?)
+}
+
+/// The book of the snapshot, by tiles.
+fn by_tiles(rt: &(impl Threads + Sync), alloc: Global, snapshot: &Snapshot) -> Result<Book> {
+    let tiles = tile_count(snapshot).context("at most 4096 tiles")?;
+    let lists = check_tiles(rt, alloc, snapshot, 0, tiles, &mut Silent)?;
+    Ok(stitch(alloc, &lists)?)
+}
+
+fn is_same(a: &Marker, b: &Marker) -> bool {
+    a.key() == b.key() && a.met.as_slice() == b.met.as_slice()
+}
+
+fn are_same(first: &[Marker], second: &[Marker]) -> bool {
+    if first.len() != second.len() {
+        return false;
+    }
+    for (a, b) in first.iter().zip(second) {
+        if !is_same(a, b) {
+            return false;
+        }
+    }
+    true
+}
+
+/// Whether the book of columns that show at most so many shapes is another one than this.
+fn differs(
+    rt: &(impl Threads + Sync),
+    alloc: Global,
+    snapshot: &Snapshot,
+    most: u32,
+    tiles: &Book,
+) -> Result<bool> {
+    let columns = by_columns(rt, alloc, snapshot, most)?;
+    Ok(!are_same(columns.as_slice(), tiles.as_slice()))
+}
+
+/// How many of the books of columns differ from that of tiles.
+pub fn compared(
+    rt: &(impl Threads + Sync),
+    alloc: Global,
+    most: u32,
+    rules: &str,
+    library: &str,
+) -> Result<u32> {
+    let snapshot = snapshot(alloc, rules, library)?;
+    let tiles = by_tiles(rt, alloc, &snapshot)?;
+    let mut different = u32::from(differs(rt, alloc, &snapshot, most, &tiles)?);
+    for most in MOSTS {
+        if differs(rt, alloc, &snapshot, most, &tiles)? {
+            different = different.saturating_add(1);
+        }
+    }
+    Ok(different)
+}
+
+fn print_marker(rt: &impl Print, rules: &Rules, m: &Marker) -> Result<()> {
+    let rule = rules.as_slice().get(m.rule as usize).context("a rule")?;
+    let axis = match m.axis {
+        Axis::V => "V",
+        Axis::H => "H",
+    };
+    print!(rt; "    {}:{axis}:{}", rule.name.as_str(), m.side)?;
+    print!(rt; ":{}:{}:{}:{}", m.x1, m.x2, m.y0, m.y1)?;
+    for origin in m.met.as_slice() {
+        print!(rt; " {origin}")?;
+    }
+    Ok(println!(rt; "")?)
+}
+
+/// Prints the markers that columns find.
+pub fn print_found(
+    rt: &(impl Print + AllocGlobal + Threads + Sync),
+    most: &str,
+    rules: &str,
+    library: &str,
+) -> Result<()> {
+    let most: u32 = most.parse()?;
+    let snapshot = snapshot(rt.alloc(), rules, library)?;
+    let book = by_columns(rt, rt.alloc(), &snapshot, most)?;
+    for marker in book.as_slice() {
+        print_marker(rt, snapshot.deck().rules(), marker)?;
+    }
+    Ok(())
+}
+
+/// Prints how many books of columns differ from that of tiles.
+pub fn print_alike(
+    rt: &(impl Print + AllocGlobal + Threads + Sync),
+    most: &str,
+    rules: &str,
+    library: &str,
+) -> Result<()> {
+    let different = compared(rt, rt.alloc(), most.parse()?, rules, library)?;
+    Ok(println!(rt; "  {different} books differ")?)
+}

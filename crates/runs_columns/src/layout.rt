@@ -1,0 +1,45 @@
+//! The snapshot of a library.
+
+use anyhow::{Result, bail};
+use mpw_deck::{Deck, read_deck};
+use mpw_geom::{Orient, Placing, Point};
+use mpw_hier::Shelf;
+use mpw_plain::submit_text;
+use mpw_samples::text_of_library;
+use mpw_tiles::{Snapshot, are_roots};
+use mpw_walk::Root;
+use std::alloc::Global;
+
+/// The deck with these rules, parted by `;`, and tiles of 256 nm.
+fn deck(alloc: Global, rules: &str) -> Result<Deck> {
+    let mut text = String::from_str(alloc, "tile 256")?;
+    for rule in rules.split(';') {
+        text.push_str("\n")?;
+        text.push_str(rule.trim())?;
+    }
+    Ok(read_deck(alloc, text.as_bytes())?)
+}
+
+/// The first submission where it was drawn.
+fn root() -> Root {
+    let by = Point { x: 0, y: 0 };
+    let orient = Orient::R0;
+    Root {
+        submission: 0,
+        placing: Placing { orient, by },
+    }
+}
+
+/// The snapshot of a library's structure `TOP`, where it was drawn.
+pub fn snapshot(alloc: Global, rules: &str, library: &str) -> Result<Snapshot> {
+    let deck = deck(alloc, rules)?;
+    let text = text_of_library(alloc, library)?;
+    let mut shelf = Shelf::new(alloc);
+    submit_text(alloc, &mut shelf, "chip", "TOP", &text)?;
+    let mut roots = Vec::new(alloc);
+    roots.push(root())?;
+    if !are_roots(&shelf, &roots) {
+        bail!("a root that fits");
+    }
+    Ok(Snapshot::new(alloc, deck, roots, shelf)?)
+}

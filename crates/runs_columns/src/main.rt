@@ -1,0 +1,39 @@
+//! Layouts checked by columns.
+//!
+//! Each line is repeated, with the answer below. A line that begins with `#`, and an empty one, says nothing. Rules are a deck's lines
+//! parted by `;`, and a library is as `mpw_samples` reads it, with its structure `TOP` placed where it was drawn.
+//! - `find MOST | RULES | LIBRARY` tells the markers, found by columns of which each shows at most MOST shapes, where halving can have that;
+//! - `alike MOST | RULES | LIBRARY` tells how many books of columns differ from that of tiles, by that number and four others;
+//! - `random N` checks N random libraries so by five numbers, and tells how many books differ.
+#![tactic(auto)]
+
+mod book;
+mod layout;
+mod random;
+
+use anyhow::{Result, bail};
+use std::thread::Threads;
+
+fn answer(rt: &(impl Print + AllocGlobal + Threads + Sync), line: &str) -> Result<()> {
+    if line.is_empty() || line.starts_with('#') {
+        return Ok(());
+    }
+    let (command, rest) = line.split_once('|').unwrap_or((line, ""));
+    let (rules, library) = rest.split_once('|').unwrap_or((rest, ""));
+    let words: Vec<&str> = command.split_whitespace().collect(rt.alloc())?;
+    match words.as_slice() {
+        ["find", most] => book::print_found(rt, most, rules, library),
+        ["alike", most] => book::print_alike(rt, most, rules, library),
+        ["random", count] => random::compared(rt, count),
+        _ => bail!("a command"),
+    }
+}
+
+fn main(rt: HostRuntime) -> Result<()> {
+    for line in rt.lines(rt.alloc()) {
+        let line = line?;
+        println!(rt; "{line}")?;
+        answer(&rt, line.as_str())?;
+    }
+    Ok(())
+}
