@@ -2,6 +2,7 @@
 use Rattle.std.specs.Prelude.{◌≡◌, ℕ, List, [], ◌∷◌, Option, None, Some}
 use Rattle.mpw_check.specs.declared.fault.CheckFault.{CheckFault}
 use Rattle.mpw_check.specs.declared.fault.CheckFault.TheVariants as faults
+use Rattle.mpw_firm.specs.Blanks.{padded}
 use Rattle.mpw_geom.specs.declared.plane.Layer.{Layer}
 use Rattle.mpw_records.specs.declared.fault.ReadFault.{ReadFault}
 use Rattle.mpw_skipping.specs.Cuts.{cuts_of_layers, original, without, without_layers}
@@ -78,10 +79,10 @@ moved s faults.Tiles = faults.Tiles
 
 -- ---- what is asked for
 
--- Nothing is cut out, or the structures that one doesn't reach.
+-- Nothing is cut out, or the structures that one doesn't reach; its name stands in the records with a NUL where its bytes are odd.
 abbrev pub AreCut : Option (List ℕ) → List ℕ → List Cut → Type 0
 AreCut None left cuts = cuts ≡ []
-AreCut (Some top) left cuts = AreUnreached left top cuts
+AreCut (Some top) left cuts = AreUnreached left (padded top) cuts
 
 -- The source of a text without the elements on these layers, and the structures that one doesn't reach.
 pub record IsSourceOf (skip : List Layer) (above : Option (List ℕ)) (text : List ℕ)

@@ -1,6 +1,7 @@
 //! A library's text as it is read: without the elements on the layers that are set aside, and without the structures that the checked one
 //! doesn't reach, where that is asked for. `specs/Sources.antt` has what contracts say of it.
 ghost use Rattle.std.specs.Prelude.{◌≡◌, option_map, IfOk};
+ghost use Rattle.mpw_firm.specs.Blanks.{padded};
 ghost use Rattle.mpw_firm.specs.Sources.{AreCut, IsSourceOf, cut_place, kept_text, left_fault, left_text, moved, moved_fault};
 
 use crate::layered::Layered;
@@ -42,12 +43,28 @@ impl<'a> Model for Source<'a> {
     ghost invariant = { λ s. IsCut s.structures.items (left_text s.layered.skip s.layered.text) s.kept.items };
 }
 
+/// A name as it stands in a record: with a NUL where its number of bytes is odd.
+fn padded(alloc: Global, name: &Name) -> Result<Vec<u8>, AllocError>
+    ensures { IfOk result (λ bytes. bytes.items ≡ padded name.now) }
+{
+    let bytes = name.as_bytes();
+    let mut copy = Vec::new(alloc);
+    copy.extend_from_slice(bytes)?;
+    if bytes.len() % 2 == 1 {
+        copy.push(0)?;
+    }
+    Ok(copy)
+}
+
 /// The cuts of the structures that the one of that name doesn't reach; none where no name is given.
 fn cuts_for(alloc: Global, above: Option<&Name>, text: &[u8]) -> Result<Vec<Cut>, AllocError>
     ensures { IfOk result (λ cuts. AreCut (option_map (λ name. name.now) above.entry) text.now cuts.items) }
 {
     match above {
-        Some(top) => cuts_of_unreached(alloc, text, top.as_bytes()),
+        Some(top) => {
+            let name = padded(alloc, top)?;
+            cuts_of_unreached(alloc, text, name.as_slice())
+        }
         None => Ok(Vec::new(alloc)),
     }
 }
