@@ -1,6 +1,6 @@
-//! Checking: by columns, or by the cut, a job a tile, and the stitching.
+//! Checking: the cut, a job a tile, and the stitching.
 
-ghost use Rattle.std.specs.Prelude.{◌≡◌, ◌≤◌, Some, map, length, All, IfOk, IfErr, IfSome, IsTrue};
+ghost use Rattle.std.specs.Prelude.{◌≡◌, ◌≤◌, Some, map, All, IfOk, IfErr, IfSome};
 ghost use Rattle.mpw_job.specs.Layout.{AreLayoutMarkers};
 ghost use Rattle.mpw_tiles.specs.Placed.{WindowsLieInPlane};
 ghost use Rattle.mpw_tiles.specs.Plan.{tiles};
@@ -12,7 +12,6 @@ ghost use Rattle.mpw_check.specs.Internal.Tiled.{IsCut, jobs_of, markers_in, IsA
 use crate::fault::CheckFault;
 use crate::laws::tiles_make_the_layout;
 use crate::progress::Progress;
-use mpw_columns::{MAX_SHOWN, check_columns};
 use mpw_job::{Answer, Job, tile_job};
 use mpw_markers::{Book, TileMarkers, stitch};
 use mpw_tiles::{Plan, Snapshot, Windows, cut};
@@ -226,52 +225,9 @@ fn check_all<P: Progress>(
     stitch(alloc, &lists)
 }
 
-/// Whether the snapshot's shelf has one submission alone.
-fn has_one(snapshot: &Snapshot) -> bool
-    ensures { IsTrue result → length snapshot.now.shelf ≡ 1 }
-{
-    snapshot.shelf().submissions().len() == 1
-}
-
-/// The markers by columns, told as those of so many tiles.
-fn check_by_columns<P: Progress>(
-    rt: &(impl Threads + Sync),
-    alloc: Global,
-    snapshot: &Snapshot,
-    tiles: u32,
-    progress: &mut P,
-) -> Result<Book, AllocError>
-    requires { length snapshot.now.shelf ≡ 1 }
-    ensures { IfOk result (AreLayoutMarkers snapshot.now) }
-{
-    progress.tell(0, tiles as usize);
-    let book = check_columns(rt, alloc, snapshot, MAX_SHOWN)?;
-    progress.tell(tiles as usize, tiles as usize);
-    Ok(book)
-}
-
-/// The markers by columns, where the shelf has one submission alone, and else by tiles, which are so many.
-fn check_whole<P: Progress>(
-    rt: &(impl Threads + Sync),
-    alloc: Global,
-    snapshot: &Snapshot,
-    tiles: u32,
-    progress: &mut P,
-) -> Result<Book, AllocError>
-    requires { tile_count snapshot.now ≡ Some tiles }
-    ensures { IfOk result (AreLayoutMarkers snapshot.now) }
-{
-    if has_one(snapshot) {
-        return check_by_columns(rt, alloc, snapshot, tiles, progress);
-    }
-    check_all(rt, alloc, snapshot, tiles, progress)
-}
-
 /// The markers of the flat layout of a snapshot's roots under its deck, in the order of their keys.
 ///
-/// A snapshot whose shelf has one submission alone, as [`crate::read_layout`] makes it, is checked by columns: it costs what
-/// [`mpw_columns::check_columns`] does, and progress is told before and after. Another one is checked by tiles: it costs what
-/// [`check_tiles`] does for all of them, and [`mpw_markers::stitch`]; progress is told as there.
+/// It costs what [`check_tiles`] does for all tiles, and [`mpw_markers::stitch`]; progress is told as there.
 ///
 /// # Errors
 /// More than 4096 tiles of the deck's side over the layout's extent, or want of memory.
@@ -286,7 +242,7 @@ pub fn check_layout<P: Progress>(
     ensures faults { IfErr result (IsOfPlan snapshot.now) }
 {
     match tile_count(snapshot) {
-        Some(tiles) => Ok(check_whole(rt, alloc, snapshot, tiles, progress)?),
+        Some(tiles) => Ok(check_all(rt, alloc, snapshot, tiles, progress)?),
         None => Err(CheckFault::Tiles),
     }
 }

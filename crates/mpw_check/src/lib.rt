@@ -1,11 +1,12 @@
 //! A library's top checked by itself, under a deck, as a firm does before it submits.
 //!
-//! [`read_layout`] reads a library and places its top where it was drawn; [`check_layout`] checks it by columns, in at most two threads
-//! for each processor, so that no flat list is held. The markers are those of the flat layout of that top alone, whatever the tiles'
-//! side ([`markers_are_the_librarys`]). A [`Progress`] is told how far it came, in tiles.
+//! [`read_layout`] reads a library and places its top where it was drawn; [`check_layout`] cuts it into tiles, finds each
+//! tile's markers in at most two threads for each processor, and stitches them. The markers are those of the flat
+//! layout of that top alone, whatever the tiles' side ([`markers_are_the_librarys`]). A [`Progress`] is told how many tiles
+//! are checked.
 //!
-//! [`check_tiles`] cuts the layout into tiles and finds the markers of some of them, so that the tiles can be spread over machines: the
-//! lists of all tiles, stitched, are the layout's markers again ([`tiles_make_the_layout`]).
+//! [`check_tiles`] does the same for some tiles, so that the tiles can be spread over machines: the lists of all tiles, stitched, are
+//! the layout's markers again ([`tiles_make_the_layout`]).
 #![tactic(auto)]
 
 mod check;

@@ -4,7 +4,7 @@
 ///
 /// It takes part in no contract: whatever it does with what it is told, the markers are the same.
 pub trait Progress {
-    /// Tells how many of all tiles are checked: 0 when it begins with them, then how many so far. `done` grows up to `total`,
+    /// Tells how many of all tiles are checked: 0 after the cut, then how many after each batch. `done` grows up to `total`,
     /// which stays the same throughout a check. The check waits until it returns.
     fn tell(&mut self, done: usize, total: usize);
 }
