@@ -1,1 +1,2 @@
 pub mod Markers
+pub mod Views

@@ -1,0 +1,351 @@
+-- A desk on which a session sits at another connection answers there what it answered here.
+use Rattle.std.proofs.Common.{◌≡◌, ◌∙◌, ℕ, Bool, false, List, [], ◌∷◌, map, Option, None, Some, Result, Ok, is_some, refl, ap}
+use Rattle.std.specs.Prelude.{◌==◌, if◌then◌else◌, option_map, slice_get}
+use Rattle.std.proofs.lemmas.Bool.{eq-eqb}
+use Rattle.mpw_roles.specs.Hierarchy.{Name}
+use Rattle.mpw_hier.specs.declared.submission.Submission.{Submission}
+use Rattle.mpw_permissions.specs.declared.permission.Object.{Object}
+use Rattle.mpw_permissions.specs.declared.permission.Operation.{Operation}
+use Rattle.mpw_rbac.specs.declared.refusal.Refusal.{Refusal}
+use Rattle.mpw_rbac.specs.declared.session.Identity.{Identity}
+use Rattle.mpw_rbac.specs.declared.session.Session.{Session}
+use Rattle.mpw_rbac.specs.Policy.{Policy, permits, session_of}
+use Rattle.mpw_rbac.specs.Rows as rows
+use Rattle.mpw_rbac.specs.Table.{value_at}
+use Rattle.mpw_layouts.specs.Layouts as layouts
+use Rattle.mpw_wafer.specs.Run.Checking as checking
+use Rattle.mpw_signoff.specs.SigningOff as signing
+use Rattle.mpw_waiver.specs.declared.waiver.Waiver.{Waiver}
+use Rattle.mpw_run.specs.Step.{Run}
+use Rattle.mpw_run.specs.declared.phase.Phase.{Phase}
+use Rattle.mpw_run.specs.declared.phase.Phase.TheVariants.{Idle, Cutting, Checking, Finished}
+use Rattle.mpw_requests.specs.declared.sign_off.MarkerName.{MarkerName}
+use Rattle.mpw_replies.specs.declared.entry.Entry.{Entry}
+use Rattle.mpw_events.specs.Step.{State}
+use Rattle.std.specs.List.{flat_map}
+use Rattle.std.specs.Option.{option_map_or}
+use Rattle.mpw_roles.specs.Decided.{decided}
+use Rattle.mpw_hier.specs.Items.{Item}
+use Rattle.mpw_hier.specs.Shelf.{present}
+use Rattle.mpw_hier.specs.Values.{flat}
+use Rattle.mpw_permissions.specs.declared.permission.Object.TheVariants as objects
+use Rattle.mpw_permissions.specs.declared.permission.Operation.TheVariants as operations
+use Rattle.mpw_permissions.specs.declared.permission.Operation.TheVariants.{Read}
+use Rattle.mpw_rbac.specs.declared.refusal.Refusal.TheVariants.{NoSession}
+use Rattle.mpw_rbac.specs.Policy.{identity_of, session_permits}
+use Rattle.mpw_replies.specs.Listing.{Listed, stored, line_if}
+use Rattle.mpw_replies.specs.Rows.{◌>>=◌, needed, denied}
+use Rattle.mpw_replies.specs.Sight.{book_lines}
+use Rattle.mpw_replies.specs.declared.reply.Code.TheVariants as code
+use Rattle.mpw_replies.specs.declared.reply.Denial.TheVariants as denial
+use Rattle.mpw_replies.specs.declared.row.Ending.{Ending}
+use Rattle.mpw_replies.specs.declared.row.Ending.TheVariants as ending
+use Rattle.mpw_access.specs.Permitted.{session_test, permitted}
+use Rattle.mpw_run.specs.declared.phase.Checked.{Checked}
+use Rattle.mpw_run.specs.Step.{findings}
+use Rattle.mpw_waiver.specs.Signing.{ask_test}
+use Rattle.mpw_waiver.specs.Waivers.{waiver_at}
+use Rattle.mpw_signoff.specs.declared.rows.ByUser.{ByUser}
+use Rattle.mpw_signoff.specs.Named.{Named, named_in}
+use Rattle.mpw_signoff.specs.WaiverLines.{lines_from}
+use Rattle.mpw_secrecy.specs.Views.{ShapeSeen, CellSeen, BookSeen, shape_of, shape_seen, shapes_seen, seen_at, cell_at, book_seen}
+use Rattle.mpw_secrecy.specs.Views.{identity_view, cell_view, book_view}
+
+-- ---- the desk
+
+-- the session alone, at that connection
+abbrev pub alone_at : ℕ → Option Session → List (ℕ × Session)
+alone_at here None = []
+alone_at here (Some session) = (here, session) ∷ []
+
+pub found_alone : (here : ℕ) (o : Option Session)
+    → value_at (λ a b. a == b) (alone_at here o) here ≡ o
+found_alone here None = refl
+found_alone here (Some session) =
+    ap (λ (b : Bool). if b then Some session else None) (eq-eqb here here refl)
+
+-- the policy, and the desk, with the session of a connection alone, at another
+abbrev pub policy_at : ℕ → ℕ → Policy → Policy
+policy_at here there policy =
+    record policy { sessions = alone_at here (session_of policy there) }
+
+abbrev pub moved : ℕ → ℕ → List Entry → State → State
+moved here there trail s =
+    record s { policy = policy_at here there s.policy; trail = trail }
+
+abbrev found : ℕ → ℕ → Policy → Type 0
+found here there policy =
+    session_of (policy_at here there policy) here ≡ session_of policy there
+
+here_is : (here there : ℕ) (policy : Policy) → found here there policy
+here_is here there policy = found_alone here (session_of policy there)
+
+-- ---- what is seen
+
+abbrev May : Type 0
+May = Operation → Object → Bool
+
+pub permits_moved : (here there : ℕ) (policy : Policy) (operation : Operation) (object : Object)
+    → permits (policy_at here there policy) here operation object
+    ≡ permits policy there operation object
+permits_moved here there policy operation object =
+    ap (λ (o : Option Session).
+    option_map_or (λ (session : Session). session_permits policy session operation object) o false)
+    (here_is here there policy)
+
+may_moved : (here there : ℕ) (policy : Policy)
+    → permits (policy_at here there policy) here ≡ permits policy there
+may_moved here there policy =
+    (λ i operation object. permits_moved here there policy operation object i)
+
+inside_moved : (here there : ℕ) (policy : Policy)
+    → is_some (session_of (policy_at here there policy) here) ≡ is_some (session_of policy there)
+inside_moved here there policy =
+    ap (λ (o : Option Session). is_some o) (here_is here there policy)
+
+user_moved : (here there : ℕ) (policy : Policy)
+    → rows.user_of (policy_at here there policy) here ≡ rows.user_of policy there
+user_moved here there policy =
+    ap (λ (o : Option Session). option_map_or (λ (s : Session). s.user) o [])
+    (here_is here there policy)
+
+active_moved : (here there : ℕ) (policy : Policy)
+    → rows.active_roles (policy_at here there policy) here ≡ rows.active_roles policy there
+active_moved here there policy =
+    ap (λ (o : Option Session). option_map_or (λ (s : Session). s.active) o [])
+    (here_is here there policy)
+
+abbrev seen_with : List Submission → May → List Bool
+seen_with shelf may = map (λ (s : Submission). may Read (objects.Cell s.cell)) shelf
+
+pub identity_moved : (here there : ℕ) (policy : Policy)
+    → identity_view (policy_at here there policy) here ≡ identity_view policy there
+identity_moved here there policy =
+    ap (λ (o : Option Session). option_map (identity_of policy) o) (here_is here there policy)
+
+shape_moved : (here there : ℕ) (policy : Policy) (item : Item) (o : Option Submission)
+    → shape_seen (policy_at here there policy) here item o ≡ shape_seen policy there item o
+shape_moved here there policy item None = refl
+shape_moved here there policy item (Some s) =
+    ap (λ (b : Bool). if b then shape_of s item ∷ [] else [])
+    (permits_moved here there policy Read (objects.Cell s.cell))
+
+shapes_seen_moved : (here there : ℕ) (policy : Policy) (shelf : List Submission) (number : ℕ)
+    → shapes_seen (policy_at here there policy) here shelf number
+    ≡ shapes_seen policy there shelf number
+shapes_seen_moved here there policy shelf number =
+    let same : (λ (item : Item). shape_seen (policy_at here there policy) here item
+    (slice_get shelf item.origin))
+    ≡ (λ (item : Item). shape_seen policy there item (slice_get shelf item.origin)) =
+    (λ i item. shape_moved here there policy item (slice_get shelf item.origin) i) in
+    ap (λ (f : Item → List ShapeSeen). flat_map f (flat shelf number)) same
+
+seen_at_moved : (here there : ℕ) (policy : Policy) (shelf : List Submission) (number : ℕ)
+    (o : Option Submission)
+    → seen_at (policy_at here there policy) here shelf number o
+    ≡ seen_at policy there shelf number o
+seen_at_moved here there policy shelf number None = refl
+seen_at_moved here there policy shelf number (Some s) =
+    ap (λ (shapes : List ShapeSeen). let c : CellSeen = record {
+      version = s.version;
+      submitter = s.submitter;
+      shapes = shapes;
+    } in Some c) (shapes_seen_moved here there policy shelf number)
+
+cell_at_moved : (here there : ℕ) (policy : Policy) (shelf : List Submission) (o : Option ℕ)
+    → cell_at (policy_at here there policy) here shelf o ≡ cell_at policy there shelf o
+cell_at_moved here there policy shelf None = refl
+cell_at_moved here there policy shelf (Some number) =
+    seen_at_moved here there policy shelf number (slice_get shelf number)
+
+pub cell_moved : (here there : ℕ) (policy : Policy) (shelf : List Submission) (cell : Name)
+    → cell_view (policy_at here there policy) here shelf cell ≡ cell_view policy there shelf cell
+unfolding cell_view
+cell_moved here there policy shelf cell =
+    cell_at_moved here there policy shelf (present shelf cell)
+
+abbrev book_by : List (Option Waiver) → Checked → May → Name → Option BookSeen
+book_by waivers f may user =
+    let shelf = f.planned.snapshot.shelf in
+    Some (book_seen shelf (seen_with shelf may) user waivers f.planned.snapshot.deck.rules f.book)
+
+pub book_moved : (here there : ℕ) (policy : Policy) (waivers : List (Option Waiver)) (phase : Phase)
+    → book_view (policy_at here there policy) here waivers phase
+    ≡ book_view policy there waivers phase
+book_moved here there policy waivers Idle = refl
+book_moved here there policy waivers (Cutting planned) = refl
+book_moved here there policy waivers (Checking c) = refl
+book_moved here there policy waivers (Finished f) =
+    ap (λ (may : May). book_by waivers f may (rows.user_of (policy_at here there policy) here))
+    (may_moved here there policy)
+    ∙ ap (λ (user : Name). book_by waivers f (permits policy there) user)
+    (user_moved here there policy)
+
+-- ---- rows
+
+abbrev entered : Bool → Result (Unit {0}) Ending
+entered b = let test : Bool × Ending = (b, ending.Denied denial.Session) in decided (test ∷ []) tt
+
+test_moved : (here there : ℕ) (policy : Policy)
+    → session_test (policy_at here there policy) here ≡ session_test policy there
+test_moved here there policy = ap entered (inside_moved here there policy)
+
+abbrev gate : Operation → Object → Bool → Bool → Result (Unit {0}) Ending
+gate operation object inside may =
+    let first : Bool × Ending = (inside, ending.Denied denial.Session) in
+    let second : Bool × Ending = (may, denied operation object) in
+    decided (first ∷ second ∷ []) tt
+
+permitted_moved : (here there : ℕ) (policy : Policy) (operation : Operation) (object : Object)
+    → permitted (policy_at here there policy) here operation object
+    ≡ permitted policy there operation object
+permitted_moved here there policy operation object =
+    ap (λ (b : Bool). gate operation object b
+    (permits (policy_at here there policy) here operation object)) (inside_moved here there policy)
+    ∙ ap (gate operation object (is_some (session_of policy there)))
+    (permits_moved here there policy operation object)
+
+abbrev who : Policy → Bool → Name → List Name → Result Identity Refusal
+who policy inside user active =
+    let test : Bool × Refusal = (inside, NoSession) in
+    let session : Session = record { user = user; active = active } in
+    decided (test ∷ []) (identity_of policy session)
+
+pub whoami_moved : (here there : ℕ) (policy : Policy)
+    → rows.whoami (policy_at here there policy) here ≡ rows.whoami policy there
+whoami_moved here there policy =
+    ap (λ (b : Bool). who policy b (rows.user_of (policy_at here there policy) here)
+    (rows.active_roles (policy_at here there policy) here)) (inside_moved here there policy)
+    ∙ ap (λ (user : Name). who policy (is_some (session_of policy there)) user
+    (rows.active_roles (policy_at here there policy) here)) (user_moved here there policy)
+    ∙ ap (λ (active : List Name). who policy (is_some (session_of policy there))
+    (rows.user_of policy there) active) (active_moved here there policy)
+
+abbrev cells_by : List Submission → Bool → May → Result (List Listed) Ending
+cells_by shelf inside may =
+    let test : Bool × Ending = (inside, ending.Denied denial.Session) in
+    decided (test ∷ []) (map stored (flat_map (λ (cell : Name).
+    if may Read (objects.Cell cell)
+    then layouts.cell_line (layouts.present_submission shelf cell)
+    else []) (layouts.cells_of shelf)))
+
+pub cells_moved : (here there : ℕ) (policy : Policy) (shelf : List Submission)
+    → layouts.cells (policy_at here there policy) shelf here ≡ layouts.cells policy shelf there
+cells_moved here there policy shelf =
+    ap (λ (b : Bool). cells_by shelf b (permits (policy_at here there policy) here))
+    (inside_moved here there policy)
+    ∙ ap (λ (may : May). cells_by shelf (is_some (session_of policy there)) may)
+    (may_moved here there policy)
+
+abbrev shapes_by : List Submission → Name → Result (Unit {0}) Ending → May
+    → Result (List Listed) Ending
+shapes_by shelf cell allowed may =
+    allowed >>= λ entered. layouts.present_number (present shelf cell) >>= λ number.
+    Ok (flat_map (λ (item : Item). line_if (λ (s : Submission). may Read (objects.Cell s.cell))
+    (slice_get shelf item.origin) item) (flat shelf number))
+
+pub shapes_moved : (here there : ℕ) (policy : Policy) (shelf : List Submission) (cell : Name)
+    → layouts.shapes (policy_at here there policy) shelf here cell
+    ≡ layouts.shapes policy shelf there cell
+unfolding layouts.shapes
+shapes_moved here there policy shelf cell =
+    ap (λ (t : Result (Unit {0}) Ending). shapes_by shelf cell t
+    (permits (policy_at here there policy) here))
+    (permitted_moved here there policy Read (objects.Cell cell))
+    ∙ ap (λ (may : May). shapes_by shelf cell (permitted policy there Read (objects.Cell cell)) may)
+    (may_moved here there policy)
+
+pub status_moved : (here there : ℕ) (policy : Policy) (r : Run)
+    → checking.status (policy_at here there policy) r here ≡ checking.status policy r there
+unfolding checking.status
+status_moved here there policy r =
+    ap (λ (t : Result (Unit {0}) Ending). t >>= λ inside.
+    Ok (stored (checking.phase_line r.number r.phase) ∷ [])) (test_moved here there policy)
+
+abbrev markers_by : Run → Result (Unit {0}) Ending → May → Result (List Listed) Ending
+markers_by r inside may =
+    inside >>= λ entered. needed code.NotFinished (findings r.phase) >>= λ f.
+    Ok (book_lines f.planned.snapshot.deck.rules f.planned.snapshot.shelf
+    (seen_with f.planned.snapshot.shelf may) f.book)
+
+pub markers_moved : (here there : ℕ) (policy : Policy) (r : Run)
+    → checking.markers (policy_at here there policy) r here ≡ checking.markers policy r there
+unfolding checking.markers
+markers_moved here there policy r =
+    ap (λ (t : Result (Unit {0}) Ending).
+    markers_by r t (permits (policy_at here there policy) here)) (test_moved here there policy)
+    ∙ ap (λ (may : May). markers_by r (session_test policy there) may)
+    (may_moved here there policy)
+
+abbrev full_by : Checked → MarkerName → May → Result Named Ending
+full_by f name may = signing.if_shown (seen_with f.planned.snapshot.shelf may)
+    (named_in f.planned.snapshot.deck.rules f.book name)
+
+abbrev user_at : Name → Named → ByUser
+user_at user n = record { place = n.place; user = user }
+
+abbrev waive_by : Run → List (Option Waiver) → MarkerName → Result (Unit {0}) Ending → May → Name
+    → Result ByUser Ending
+waive_by r waivers name allowed may user =
+    allowed >>= λ entered. needed code.NotFinished (findings r.phase) >>= λ f.
+    full_by f name may >>= λ n.
+    signing.passes (ask_test (waiver_at waivers n.place)) >>= λ free. Ok (user_at user n)
+
+pub waive_moved : (here there : ℕ) (policy : Policy) (r : Run) (waivers : List (Option Waiver))
+    (name : MarkerName)
+    → signing.waive_row (policy_at here there policy) r waivers here name
+    ≡ signing.waive_row policy r waivers there name
+unfolding signing.waive_row signing.full_marker
+waive_moved here there policy r waivers name =
+    ap (λ (t : Result (Unit {0}) Ending). waive_by r waivers name t
+    (permits (policy_at here there policy) here)
+    (rows.user_of (policy_at here there policy) here))
+    (permitted_moved here there policy operations.Waive objects.Desk)
+    ∙ ap (λ (may : May). waive_by r waivers name
+    (permitted policy there operations.Waive objects.Desk) may
+    (rows.user_of (policy_at here there policy) here)) (may_moved here there policy)
+    ∙ ap (λ (user : Name). waive_by r waivers name
+    (permitted policy there operations.Waive objects.Desk) (permits policy there) user)
+    (user_moved here there policy)
+
+abbrev sign_by : Run → List (Option Waiver) → MarkerName → Result (Unit {0}) Ending → May → Name
+    → Result ByUser Ending
+sign_by r waivers name allowed may user =
+    allowed >>= λ entered. needed code.NotFinished (findings r.phase) >>= λ f.
+    full_by f name may >>= λ n.
+    signing.apart f waivers n user >>= λ free. Ok (user_at user n)
+
+pub sign_moved : (here there : ℕ) (policy : Policy) (r : Run) (waivers : List (Option Waiver))
+    (name : MarkerName)
+    → signing.sign_row (policy_at here there policy) r waivers here name
+    ≡ signing.sign_row policy r waivers there name
+unfolding signing.sign_row signing.full_marker
+sign_moved here there policy r waivers name =
+    ap (λ (t : Result (Unit {0}) Ending). sign_by r waivers name t
+    (permits (policy_at here there policy) here)
+    (rows.user_of (policy_at here there policy) here))
+    (permitted_moved here there policy operations.Sign objects.Desk)
+    ∙ ap (λ (may : May). sign_by r waivers name
+    (permitted policy there operations.Sign objects.Desk) may
+    (rows.user_of (policy_at here there policy) here)) (may_moved here there policy)
+    ∙ ap (λ (user : Name). sign_by r waivers name
+    (permitted policy there operations.Sign objects.Desk) (permits policy there) user)
+    (user_moved here there policy)
+
+abbrev waivers_by : Run → List (Option Waiver) → Result (Unit {0}) Ending → May
+    → Result (List Listed) Ending
+waivers_by r waivers inside may =
+    inside >>= λ entered. needed code.NotFinished (findings r.phase) >>= λ f.
+    Ok (map stored (lines_from f.planned.snapshot.deck.rules
+    (seen_with f.planned.snapshot.shelf may) waivers 0 f.book))
+
+pub waivers_moved : (here there : ℕ) (policy : Policy) (r : Run) (waivers : List (Option Waiver))
+    → signing.waivers_row (policy_at here there policy) r waivers here
+    ≡ signing.waivers_row policy r waivers there
+unfolding signing.waivers_row
+waivers_moved here there policy r waivers =
+    ap (λ (t : Result (Unit {0}) Ending).
+    waivers_by r waivers t (permits (policy_at here there policy) here))
+    (test_moved here there policy)
+    ∙ ap (λ (may : May). waivers_by r waivers (session_test policy there) may)
+    (may_moved here there policy)
