@@ -6,6 +6,8 @@
   memory.py store [SESSION ..] [--jobs J] [--step S]    each allocation of a session over a store, which is then opened again
   memory.py serve [SESSION ..] [--jobs J] [--step S]    each allocation of a service whose one connection is served a session
   memory.py check [--jobs J] [--step S]                 each allocation of `mpw check` of examples/, alone and with all that come after it
+  memory.py stored [--jobs J] [--step S]                each allocation of stored runs: answers to a run that come late, twice and by others (runs_desk), and a store in
+                                                        memory that is reopened (runs_store); such a program ends where memory is wanting
 
 Sessions: first, firms, sight, duties, late. Behind each stand lines by which every user looks at all that there is. A line that is told `17 memory` is left out
 of what the model's desk is asked, so all other replies have to be those of a desk that never had it. A run for whose work memory was wanting
@@ -485,8 +487,50 @@ def checks(pool, shim, _names, step):
     return wrong
 
 
+# Stored runs.
+
+CRATES = os.environ.get("MPW_CRATES", os.path.join(TOP, "crates"))
+# How many lines of the input are served.
+STORED = {"runs_desk": 132, "runs_store": 14}
+
+
+def stored_run(name, shim=None, first=0, count=1, report=None):
+    with open(os.path.join(TOP, "crates", name, "stdin"), "rb") as file:
+        text = b"".join(file.readlines()[:STORED[name]])
+    return subprocess.run([os.path.join(CRATES, name, "out", name)], input=text, capture_output=True, timeout=LIMIT, cwd=os.path.join(TOP, "crates", name, "data"),
+                          env=environment(shim, first, count, report) if shim else None)
+
+
+def try_stored(task):
+    """What it printed is a front of what it has to print, and a sentence says why it ended; or it printed all; or it told that a script was answered otherwise."""
+    shim, name, first, count, good = task
+    ended = stored_run(name, shim, first, count)
+    if ended.returncode == 0 and ended.stdout == good:
+        return "as ever"
+    lines, wanted = ended.stdout.splitlines(), good.splitlines()
+    same = next((place for place, pair in enumerate(zip(lines, wanted)) if pair[0] != pair[1]), min(len(lines), len(wanted)))
+    if ended.returncode == 1 and same == len(lines) and ended.stderr.startswith(b"Error: "):
+        return "a front, and an error"
+    if ended.returncode in (0, 1) and re.search(rb"ANOTHER answer|[Nn]ot reopened|memory", lines[same]):
+        return "told so, " + lines[same].decode("latin1").strip()[:60]
+    return f"DIFFERS: {name}, {count} from allocation {first} on: status {ended.returncode}, line {same}: {lines[same:same + 1]} {wanted[same:same + 1]} {ended.stderr[-100:]!r}"
+
+
+def stored(pool, shim, _names, step):
+    wrong = 0
+    for name in STORED:
+        good = stored_run(name).stdout
+        with tempfile.NamedTemporaryFile() as report:
+            stored_run(name, shim, 0, 1, report.name)
+            total = int(report.read().split()[0])
+        for count, what in (1, "refused alone"), (10**9, "refused with all that follow"):
+            tasks = [(shim, name, first, count, good) for first in range(1, total + 1, step)]
+            wrong += tell(f"{name}, {total} allocations, {len(tasks)} {what}", pool.imap_unordered(try_stored, tasks, 8))
+    return wrong
+
+
 def main(words):
-    kinds = {"check": checks, "each": each, "limit": limit, "store": over_stores, "serve": over_services}
+    kinds = {"check": checks, "stored": stored, "each": each, "limit": limit, "store": over_stores, "serve": over_services}
     parser = argparse.ArgumentParser(description=__doc__, formatter_class=argparse.RawDescriptionHelpFormatter)
     parser.add_argument("kind", choices=kinds)
     parser.add_argument("sessions", nargs="*", choices=[*SESSIONS, []], metavar="SESSION")
