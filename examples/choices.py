@@ -143,6 +143,37 @@ def unreached(count, faults):
     return told + (f", with faults: {faults}; the desk reads them, and refuses the file as it stands" if faults else "; the desk reads them")
 
 
+def is_limited(limit, lines, left):
+    """Under a width of 700 each of the two bars has a pair of edges on either axis, and so two markers; between them stands one of the space."""
+    with Folder() as folder:
+        folder.write("bars.deck", b"tile 256\nwidth w 1/0 700\nspace s 1/0 51\n")
+        words = ["--limit", limit, "--report", "report"]
+        status, printed, told = folder.run(*CHECK, *words, "two-bars.gds")
+        report = folder.read("report").decode()
+        found = {
+            "status": status,
+            "printed": printed.decode().splitlines(),
+            "told": summary_left_out(told),
+            "items": report.count("<item>"),
+            "left out": report.count(f"; {left} of 4 markers left out"),
+            "file": "<original-file>two-bars.gds</original-file>" in report,
+        }
+        notes = [f"note: rule w: {left} of 4 markers left out"] if left else []
+        wanted = {"status": 1, "printed": [f"OK {len(lines)}", *lines], "told": notes, "items": len(lines), "left out": 1 if left else 0, "file": True}
+        return differing(found, wanted)
+
+
+def is_no_limit(word):
+    with Folder() as folder:
+        status, printed, told = folder.run(*CHECK, "--limit", word, "two-bars.gds")
+        sentence = "error: --limit takes a number of markers, from 1 to 4294967295"
+        return differing({"status": status, "printed": printed, "told": told}, {"status": 2, "printed": b"", "told": [sentence]})
+
+
+WIDE = ["w:V:0:0:50:0:600 TOP", "w:V:0:90:190:0:600 TOP", "w:H:0:0:600:0:50 TOP", "w:H:0:0:600:90:190 TOP"]
+GAP = "s:V:0:50:90:0:600 TOP"
+
+
 def is_colon(word):
     """A rule whose name has a colon is told as that, and another line isn't."""
     with Folder() as folder:
@@ -211,6 +242,11 @@ CASES = {
     "a part of some structures": lambda: is_part_alone(
         ["--skip-unreached"], "error: a part is of the whole library: --skip-unreached is for a check of all tiles"
     ),
+    "one marker of each rule": lambda: is_limited("1", [*WIDE[:1], GAP], 3),
+    "three markers of each rule": lambda: is_limited("3", [*WIDE[:3], GAP], 1),
+    "a limit that leaves none out": lambda: is_limited("4", [*WIDE, GAP], 0),
+    "a limit that is none": lambda: is_no_limit("0"),
+    "a part with a limit": lambda: is_part_alone(["--limit", "1"], "error: a part has all markers of its tiles: --limit is for a check of all tiles"),
     "a colon in a rule's name": lambda: is_colon("width"),
     "a colon in a line that is none": lambda: is_colon("#"),
 }

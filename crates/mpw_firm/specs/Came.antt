@@ -1,27 +1,27 @@
 -- What came of a command: the texts that stand in their places, and how many markers were found.
 use Rattle.std.specs.Prelude.{◌≡◌, ℕ, List, [], ◌∷◌, ◌++◌, length, slice_get, Option, None, Some, option_map, Result, IfOk}
 use Rattle.std.specs.String.{string_bytes}
-use Rattle.mpw_geom.specs.declared.plane.Box2.{Box2}
 use Rattle.mpw_job.specs.Layout.{AreLayoutMarkers}
 use Rattle.mpw_markers.specs.declared.marker.Marker.{Marker}
 use Rattle.mpw_parts.specs.Parts.{Found}
 use Rattle.mpw_parts.specs.Text.{part_text}
-use Rattle.mpw_picture.specs.Drawn.{IsPicture}
+use Rattle.mpw_picture.specs.Drawn.{IsDrawn}
 use Rattle.mpw_picture.specs.Text.{picture_text}
 use Rattle.mpw_picture.specs.declared.picture.Picture.{Picture}
-use Rattle.mpw_report.specs.Report.{report_text}
+use Rattle.mpw_picture.specs.declared.picture.View.{View}
+use Rattle.mpw_report.specs.Report.{full_text}
 use Rattle.mpw_spread.specs.Spread.{IsPartOf}
 use Rattle.mpw_spread.specs.declared.range.TileRange.{TileRange}
 use Rattle.mpw_tiles.specs.Snapshots.{Snapshot}
 use Rattle.mpw_firm.specs.Commands.{IsOfWord, telling_of}
 use Rattle.mpw_firm.specs.Drawings.{AreFlatOf, IsReadBy, IsReadFrom, IsTopOf}
-use Rattle.mpw_firm.specs.Keys.{IsWindowOf}
-use Rattle.mpw_firm.specs.Listed.{listed_text}
+use Rattle.mpw_firm.specs.Keys.{IsViewOf}
 use Rattle.mpw_firm.specs.Looks.{IsLookedAt}
 use Rattle.mpw_firm.specs.Outputs.{Kept, Grows}
 use Rattle.mpw_firm.specs.Ranges.{HasTilesOf}
 use Rattle.mpw_firm.specs.Sources.{kept_text}
 use Rattle.mpw_firm.specs.Status.{count_of, exit_of}
+use Rattle.mpw_firm.specs.Shown.{Shown, content_of, listing_text, most_of}
 use Rattle.mpw_firm.specs.Stitched.{IsWholeOf}
 use Rattle.mpw_firm.specs.declared.checked.Drawn.{Drawn}
 use Rattle.mpw_firm.specs.declared.choices.Choices.{Choices}
@@ -44,37 +44,54 @@ on_output text = record { place = None; text = text }
 abbrev pub in_file : (name text : List ℕ) → Kept
 in_file name text = record { place = Some name; text = text }
 
--- The report of a book, where a file for it is wanted.
-abbrev pub report_texts : Option (List ℕ) → List ℕ → Snapshot → List Marker → List Kept
-report_texts None top layout book = []
-report_texts (Some file) top layout book =
-    in_file file (report_text layout.deck.rules top book) ∷ []
+-- The report of markers, where a file for it is wanted.
+abbrev pub report_texts : Option (List ℕ) → Shown → List Kept
+report_texts None s = []
+report_texts (Some file) s = in_file file (full_text (content_of s)) ∷ []
 
 -- The listing, and the report that is wanted.
-abbrev pub listing_texts : Option (List ℕ) → List ℕ → Snapshot → List Marker → List Kept
-listing_texts report top layout book =
-    on_output (listed_text layout book) ∷ report_texts report top layout book
+abbrev pub listing_texts : Option (List ℕ) → Shown → List Kept
+listing_texts report s = on_output (listing_text s) ∷ report_texts report s
 
 -- ---- of a check
 
 -- The picture that is wanted stands behind them.
-abbrev pub PutsPicture : Option Wanted → (top : List ℕ) → Snapshot → List Marker
-    → Option (List Kept) → Option (List Kept) → List Kept → Type 0
-PutsPicture None top layout book old new texts = Grows old new texts
-PutsPicture (Some wanted) top layout book old new texts =
-    (window : Box2) × (picture : Picture)
-    × IsWindowOf (option_map string_bytes wanted.key) layout book window
-    × IsPicture layout book window picture
+abbrev pub PutsPicture : Option Wanted → Shown → Option (List Kept) → Option (List Kept)
+    → List Kept → Type 0
+PutsPicture None s old new texts = Grows old new texts
+PutsPicture (Some wanted) s old new texts =
+    (view : View) × (picture : Picture)
+    × IsViewOf (option_map string_bytes wanted.key) s.layout s.book (most_of s.limit) view
+    × IsDrawn s.layout s.book view picture
     × Grows old new
-    (texts ++ (in_file (string_bytes wanted.file) (picture_text layout.deck.rules top picture)
+    (texts ++ (in_file (string_bytes wanted.file) (picture_text s.layout.deck.rules s.top picture)
     ∷ []))
 
 -- The listing, and the report and the picture that are wanted.
-abbrev pub PutsAll : Options → (top : List ℕ) → Snapshot → List Marker → Option (List Kept)
-    → Option (List Kept) → Type 0
-PutsAll options top layout book old new =
-    PutsPicture options.picture top layout book old new
-    (listing_texts (option_map string_bytes options.report) top layout book)
+abbrev pub PutsAll : Options → Shown → Option (List Kept) → Option (List Kept) → Type 0
+PutsAll options s old new =
+    PutsPicture options.picture s old new
+    (listing_texts (option_map string_bytes options.report) s)
+
+-- What is shown of a check: the library's file, and the limit that is chosen.
+abbrev pub shown_by : Options → Choices → Drawn → List Marker → Shown
+shown_by options choices drawn book = record {
+  original = Some (string_bytes options.file);
+  top = drawn.top;
+  layout = drawn.layout;
+  book = book;
+  limit = choices.limit;
+}
+
+-- What is shown of parts: they name no file, and all is.
+abbrev pub shown_whole : Whole → Shown
+shown_whole whole = record {
+  original = None;
+  top = whole.top;
+  layout = whole.layout;
+  book = whole.book;
+  limit = None;
+}
 
 -- A deck and a library were checked, their markers are told in all that is wanted, and they are so many. The markers are those of the
 -- flat list of the structure, whatever the side of the tiles is.
@@ -89,7 +106,7 @@ pub record IsChecked (options : Options) (choices : Choices) (old new : Option (
   pub markers : AreLayoutMarkers drawn.layout book
   pub flat : AreFlatOf deck drawn.top (kept_text read.source) book
   pub count : found ≡ length book
-  pub kept : PutsAll options drawn.top drawn.layout book old new
+  pub kept : PutsAll options (shown_by options choices drawn book) old new
 
 -- Some tiles of them were, and their part is printed.
 pub record IsPartChecked (options : Options) (range : TileRange) (old new : Option (List Kept))
@@ -121,7 +138,7 @@ pub record IsStitched (options : StitchOptions) (old new : Option (List Kept)) (
     pub made : IsWholeOf parts whole
     pub count : found ≡ length whole.book
     pub kept : Grows old new
-        (listing_texts (option_map string_bytes options.report) whole.top whole.layout whole.book)
+        (listing_texts (option_map string_bytes options.report) (shown_whole whole))
 
 -- ---- of a command line
 

@@ -1,5 +1,5 @@
 -- What the values of a command line are taken as.
-use Rattle.std.specs.Prelude.{◌≡◌, ◌^◌, ℕ, List, [], codes, true, map, Option, None, Some, option_map}
+use Rattle.std.specs.Prelude.{◌≡◌, ◌^◌, ◌-◌, ℕ, List, [], codes, true, map, Option, None, Some, option_map}
 use Rattle.std.specs.String.{string_bytes}
 use Rattle.clap.specs.declared.parser.matches.Found.{Found}
 use Rattle.clap.specs.Matches.{first_value, matched_of, one_text, raw_values}
@@ -26,6 +26,7 @@ pub record IsAlone (found : Found) : Type 0 where
   pub picture : first_value found (codes "picture") ≡ None
   pub tile : first_value found (codes "tile") ≡ None
   pub skip : first_value found (codes "skip-layers") ≡ None
+  pub limit : first_value found (codes "limit") ≡ None
 
 -- The layers that a word names are set aside; without one, none.
 abbrev pub IsSkipped : Option (List ℕ) → List Layer → Type 0
@@ -39,6 +40,8 @@ IsPortion found (Whole choices) =
     × (option_map (number_of 256 (2 ^ 30)) (first_value found (codes "tile"))
     ≡ option_map Some choices.tile)
     × IsSkipped (first_value found (codes "skip-layers")) choices.skip.items
+    × (option_map (number_of 1 (2 ^ 32 - 1)) (first_value found (codes "limit"))
+    ≡ option_map Some choices.limit)
     × (one_text found (codes "faults") ≡ Some (codes "true") → choices.faults ≡ true)
     × (one_text found (codes "skip-unreached") ≡ Some (codes "true") → choices.unreached ≡ true)
 IsPortion found (Tiles range) =

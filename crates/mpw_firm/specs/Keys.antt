@@ -3,10 +3,10 @@ use Rattle.std.specs.Prelude.{◌≡◌, ◌⊎◌, ◌++◌, codes, ℕ, Bool, 
 use Rattle.std.specs.List.{find}
 use Rattle.mpw_deck.specs.declared.rule.Rule.{Rule}
 use Rattle.mpw_geom.specs.Names.{name_eq}
-use Rattle.mpw_geom.specs.declared.plane.Box2.{Box2}
 use Rattle.mpw_markers.specs.declared.marker.Marker.{Marker}
 use Rattle.mpw_markers.specs.Markers.{key_of}
 use Rattle.mpw_picture.specs.Windows.{marker_window, whole_window}
+use Rattle.mpw_picture.specs.declared.picture.View.{View}
 use Rattle.mpw_tiles.specs.Snapshots.{Snapshot, shown_extent}
 use Rattle.mpw_wire.specs.Keys.{key_text, spot_of}
 use Rattle.mpw_firm.specs.declared.fault.FirmFault.{FirmFault}
@@ -25,12 +25,13 @@ has_key rules word m = is_keyed word m (slice_get rules m.rule)
 abbrev pub marker_named : List Rule → List ℕ → List Marker → Option Marker
 marker_named rules word markers = find (has_key rules word) markers
 
--- ---- the window of a picture round a marker
+-- ---- the view of a picture round a marker
 
--- It is that round the first marker of the key.
-abbrev pub IsRound : List Rule → List ℕ → List Marker → Box2 → Type 0
-IsRound rules word markers window =
-    (m : Marker) × (marker_named rules word markers ≡ Some m) × (window ≡ marker_window rules m)
+-- It is that round the first marker of the key, which is wanted there.
+abbrev pub IsRound : List Rule → List ℕ → List Marker → (limit : ℕ) → View → Type 0
+IsRound rules word markers limit view =
+    (m : Marker) × (marker_named rules word markers ≡ Some m)
+    × (view ≡ record { window = marker_window rules m; wanted = Some (key_of m); limit = limit })
 
 unfoldable pub unknown_text : List ℕ → List ℕ
 unknown_text key =
@@ -43,11 +44,12 @@ IsUnknown rules word markers fault =
     (fault ≡ Memory)
     ⊎ ((marker_named rules word markers ≡ None) × Misuses (unknown_text word) fault)
 
--- ---- the window of the picture that is asked for: round the marker of its key, or round all where it names none
+-- ---- the view of the picture that is asked for: round the marker of its key, or round all where it names none
 
-abbrev pub IsWindowOf : Option (List ℕ) → Snapshot → List Marker → Box2 → Type 0
-IsWindowOf None s markers window = window ≡ whole_window (shown_extent s)
-IsWindowOf (Some word) s markers window = IsRound s.deck.rules word markers window
+abbrev pub IsViewOf : Option (List ℕ) → Snapshot → List Marker → (limit : ℕ) → View → Type 0
+IsViewOf None s markers limit view =
+    view ≡ record { window = whole_window (shown_extent s); wanted = None; limit = limit }
+IsViewOf (Some word) s markers limit view = IsRound s.deck.rules word markers limit view
 
 -- It isn't there: no marker has the key.
 abbrev pub IsOfKey : Option (List ℕ) → Snapshot → List Marker → FirmFault → Type 0

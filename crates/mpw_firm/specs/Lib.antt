@@ -13,6 +13,7 @@ pub mod Outputs
 pub mod Places
 pub mod Ranges
 pub mod Sentences
+pub mod Shown
 pub mod Sides
 pub mod Sources
 pub mod Status

@@ -6,9 +6,11 @@ use Rattle.mpw_firm.specs.declared.texts.Text.{Text}
 use Rattle.mpw_firm.specs.declared.texts.Text.TheVariants as text
 use Rattle.mpw_firm.specs.Listed.{listed_text}
 use Rattle.mpw_firm.specs.Outputs.{Kept}
+use Rattle.mpw_limits.specs.Limits.{limited_of, limited_text}
 use Rattle.mpw_parts.specs.Text.{part_text}
 use Rattle.mpw_picture.specs.Text.{picture_text}
-use Rattle.mpw_report.specs.Report.{report_text}
+use Rattle.mpw_report.specs.Content.{content_of}
+use Rattle.mpw_report.specs.Report.{full_text}
 
 -- The name of a place's file; none is the standard output's.
 abbrev pub place_of : Place → Option (List ℕ)
@@ -17,7 +19,8 @@ place_of (place.File name) = Some name.now
 
 abbrev pub text_of : Text → List ℕ
 text_of (text.Listing layout book) = listed_text layout.now book.now
-text_of (text.Report layout top book) = report_text layout.now.deck.rules top.now book.now
+text_of (text.Limited listing) = limited_text (limited_of listing.now)
+text_of (text.Report report) = full_text (content_of report.now)
 text_of (text.Picture layout top picture) = picture_text layout.now.deck.rules top.now picture.now
 text_of (text.Part part) = part_text part.now
 text_of (text.Told told) = told.now

@@ -5,6 +5,7 @@ ghost use Rattle.mpw_check.specs.Tiled.{IsOfPlan};
 ghost use Rattle.mpw_job.specs.Layout.{AreLayoutMarkers};
 ghost use Rattle.mpw_firm.specs.Came.{IsChecked, PutsAll, listing_texts};
 ghost use Rattle.mpw_firm.specs.Outputs.{AreApart, Grows, IsUnwritten};
+ghost use Rattle.mpw_firm.specs.Shown.{shown_of};
 ghost use Rattle.mpw_firm.specs.Sides.{IsOfTiles};
 ghost use Rattle.mpw_firm.specs.Told.{Fails, output_text};
 ghost use Rattle.mpw_firm.specs.Uses.{check_inputs, check_outputs};
@@ -18,7 +19,7 @@ use crate::line::Line;
 use crate::looked::{look, tell_looks};
 use crate::options::Options;
 use crate::outputs::Outputs;
-use crate::picture::{picture, window_of};
+use crate::picture::{picture, view_of};
 use crate::progress::tell_summary;
 use crate::report::{list, report};
 use crate::side::many_tiles;
@@ -42,7 +43,7 @@ fn write_listed<O: Outputs>(
     options: &Options,
     checked: &Checked<'_>,
 ) -> Result<(), FirmFault>
-    ensures kept { IfOk result (λ _. Grows (O.kept outputs.old) (O.kept outputs.new) (listing_texts (option_map string_bytes options.now.report) checked.now.top.now checked.now.layout.now checked.now.book.now)) }
+    ensures kept { IfOk result (λ _. Grows (O.kept outputs.old) (O.kept outputs.new) (listing_texts (option_map string_bytes options.now.report) (shown_of checked.now))) }
     ensures refused { IfErr result (λ fault. Fails output_text fault ⊎ IsUnwritten (option_map string_bytes options.now.report) fault) }
 {
     list(outputs, alloc, checked)?;
@@ -56,15 +57,15 @@ fn write_all<O: Outputs>(
     options: &Options,
     checked: &Checked<'_>,
 ) -> Result<(), FirmFault>
-    ensures { IfOk result (λ _. PutsAll options.now checked.now.top.now checked.now.layout.now checked.now.book.now (O.kept outputs.old) (O.kept outputs.new)) }
+    ensures { IfOk result (λ _. PutsAll options.now (shown_of checked.now) (O.kept outputs.old) (O.kept outputs.new)) }
 {
     let Some(wanted) = &options.picture else {
         return write_listed(outputs, alloc, options, checked);
     };
-    let window = window_of(alloc, wanted, checked.layout, checked.book)?;
+    let view = view_of(alloc, wanted, checked)?;
     write_listed(outputs, alloc, options, checked)?;
     let file = wanted.file.as_str();
-    picture(outputs, alloc, file, window, checked)
+    picture(outputs, alloc, file, view, checked)
 }
 
 /// The markers of a layout, while a terminal is told how far the check came.
@@ -119,14 +120,18 @@ pub fn check<O: Outputs>(
     let mut line = Line::new(rt);
     let drawn = drawn_by(rt, options, choices)?;
     let (top, layout) = (&drawn.top, &drawn.layout);
-    let target = Target {
-        file: options.file.as_str(),
-        top,
-    };
+    let file = options.file.as_str();
+    let target = Target { file, top };
     let _ = tell_looks(rt, layout);
     look(rt.alloc(), options.strict, &target, layout)?;
     let book = &found_in(rt, threads, &target, layout, &mut line)?;
-    let checked = Checked { top, layout, book };
+    let checked = Checked {
+        top,
+        layout,
+        book,
+        original: Some(file),
+        limit: choices.limit,
+    };
     let _ = tell_summary(rt, &checked, &line);
     markers_are_flat();
     write_all(outputs, rt.alloc(), options, &checked)?;

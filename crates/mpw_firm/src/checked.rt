@@ -1,5 +1,8 @@
 //! What a check is of, and what came of it.
 
+ghost use Rattle.std.specs.Prelude.{◌≡◌};
+ghost use Rattle.mpw_firm.specs.Shown.{most_of};
+
 use mpw_geom::Name;
 use mpw_markers::Book;
 use mpw_tiles::Snapshot;
@@ -22,6 +25,22 @@ pub struct Checked<'a> {
     pub layout: &'a Snapshot,
     /// Its markers.
     pub book: &'a Book,
+    /// The name of the layout's file, where it is known.
+    pub original: Option<&'a str>,
+    /// How many markers of each rule are listed, written and drawn at most.
+    pub limit: Option<u32>,
+}
+
+impl Checked<'_> {
+    /// The limit as a number: without one the greatest.
+    pub fn most(&self) -> usize
+        ensures { result ≡ most_of self.now.limit }
+    {
+        match self.limit {
+            Some(limit) => limit as usize,
+            None => usize::MAX,
+        }
+    }
 }
 
 /// A structure that is to be checked.

@@ -1,5 +1,5 @@
 //! What a command line chooses of a check beside its files: a part of the tiles, or the whole with what is chosen of it.
-ghost use Rattle.std.specs.Prelude.{◌≡◌, ◌^◌, None, Some, option_map, IfOk, IfErr};
+ghost use Rattle.std.specs.Prelude.{◌≡◌, ◌^◌, ◌-◌, None, Some, option_map, IfOk, IfErr};
 ghost use Rattle.clap.specs.Words.{found_of};
 ghost use Rattle.mpw_spread.specs.Ranges.{range_of};
 ghost use Rattle.mpw_text.specs.Text.{number_of};
@@ -13,6 +13,7 @@ use clap::{Arg, ArgAction, ArgMatches, Command};
 use mpw_choices::{TileSide, read_layers};
 use mpw_geom::Layer;
 use mpw_spread::{TileRange, read_range};
+use mpw_text::read_number;
 use std::alloc::{AllocError, Global};
 
 /// What is chosen of a check of the whole.
@@ -24,6 +25,8 @@ pub struct Choices {
     pub skip: Vec<Layer>,
     /// Whether the structures that the checked one doesn't reach are left out.
     pub unreached: bool,
+    /// How many markers of each rule are listed, written and drawn at most.
+    pub limit: Option<u32>,
     /// Whether all faults of the library's elements are told, where it has one.
     pub faults: bool,
 }
@@ -63,6 +66,12 @@ pub fn with_choices<'a>(alloc: Global, command: Command<'a>) -> Result<Command<'
         .long("faults")
         .action(ArgAction::SetTrue)
         .help("Tells the fault of each element, where the library has one, and not only the first");
+    let limit = free_option(
+        alloc,
+        "limit",
+        "N",
+        "Lists, writes and draws the first N markers of each rule at most",
+    );
     let unreached = Arg::new(alloc, "skip-unreached")
         .long("skip-unreached")
         .action(ArgAction::SetTrue)
@@ -74,6 +83,7 @@ pub fn with_choices<'a>(alloc: Global, command: Command<'a>) -> Result<Command<'
         .arg(tile)?
         .arg(skip)?
         .arg(unreached)?
+        .arg(limit)?
         .arg(faults)
 }
 
@@ -127,6 +137,23 @@ fn read_skip(alloc: Global, skip: Option<&str>) -> Result<Vec<Layer>, FirmFault>
     }
 }
 
+/// The limit that a word names, if there is one.
+fn read_limit(alloc: Global, limit: Option<&str>) -> Result<Option<u32>, FirmFault>
+    ensures read { IfOk result (λ read. option_map (number_of 1 (2 ^ 32 - 1)) (option_map (λ text. text.now) limit.entry) ≡ option_map Some read) }
+    ensures refused { IfErr result IsMisuse }
+{
+    let Some(limit) = limit else {
+        return Ok(None);
+    };
+    match read_number(limit.as_bytes(), 1, u32::MAX) {
+        Some(limit) => Ok(Some(limit)),
+        None => Err(usage(
+            alloc,
+            "error: --limit takes a number of markers, from 1 to 4294967295",
+        )),
+    }
+}
+
 /// Refuses an option beside `--tiles`.
 fn alone(alloc: Global, other: Option<&str>, text: &str) -> Result<(), FirmFault>
     ensures none { IfOk result (λ _. option_map (λ text. text.now) other.entry ≡ None) }
@@ -151,6 +178,8 @@ fn tiles_alone(alloc: Global, matches: &ArgMatches<'_>) -> Result<(), FirmFault>
     alone(alloc, matches.get_str("tile"), tile)?;
     let skip = "error: a part is of the whole library: --skip-layers is for a check of all tiles";
     alone(alloc, matches.get_str("skip-layers"), skip)?;
+    let limit = "error: a part has all markers of its tiles: --limit is for a check of all tiles";
+    alone(alloc, matches.get_str("limit"), limit)?;
     if matches.get_flag("skip-unreached") {
         return Err(usage(
             alloc,
@@ -183,6 +212,7 @@ pub fn read_portion(alloc: Global, matches: &ArgMatches<'_>) -> Result<Portion, 
             tile: read_tile(alloc, matches.get_str("tile"))?,
             skip: read_skip(alloc, matches.get_str("skip-layers"))?,
             unreached: matches.get_flag("skip-unreached"),
+            limit: read_limit(alloc, matches.get_str("limit"))?,
             faults: matches.get_flag("faults"),
         })),
     }

@@ -7,6 +7,7 @@ use crate::checked::Checked;
 use crate::line::Line;
 use mpw_check::tile_count;
 use mpw_deck::Rules;
+use mpw_limits::count_of_rule;
 use mpw_markers::{Marker, TileMarkers};
 use mpw_parts::Part;
 use mpw_tiles::Snapshot;
@@ -52,7 +53,24 @@ pub fn tell_summary(rt: &HostRuntime, checked: &Checked<'_>, line: &Line<'_>) ->
     let shapes = layout.shelf().count(0);
     eprint!(rt; "{shapes} shapes, {tiles} tiles, ")?;
     tell_markers(rt, layout.deck().rules(), checked.book.as_slice())?;
-    tell_time(rt, line.taken())
+    tell_time(rt, line.taken())?;
+    tell_limit(rt, checked)
+}
+
+/// Tells of which rules markers are left out, and how many.
+fn tell_limit(rt: &HostRuntime, checked: &Checked<'_>) -> io::Result<()> {
+    let (markers, most) = (checked.book.as_slice(), checked.most());
+    for (place, rule) in checked.layout.deck().rules().as_slice().iter().enumerate() {
+        let count = count_of_rule(markers, place);
+        if count > most {
+            let left = count - most;
+            eprintln!(rt;
+                "note: rule {}: {left} of {count} markers left out",
+                rule.name.as_str()
+            )?;
+        }
+    }
+    Ok(())
 }
 
 /// How many markers the lists have together, up to 2^64 - 1.

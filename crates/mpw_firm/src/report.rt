@@ -1,18 +1,49 @@
 //! The listing and the report of a check. KLayout's marker browser opens the latter.
-ghost use Rattle.std.specs.Prelude.{◌∷◌, [], option_map, IfOk, IfErr};
+ghost use Rattle.std.specs.Prelude.{◌≡◌, ◌∷◌, [], option_map, IfOk, IfErr};
 ghost use Rattle.std.specs.String.{string_bytes};
 ghost use Rattle.mpw_firm.specs.Came.{on_output, report_texts};
-ghost use Rattle.mpw_firm.specs.Listed.{listed_text};
+ghost use Rattle.mpw_limits.specs.Limits as listing;
+ghost use Rattle.mpw_report.specs.Content as told;
 ghost use Rattle.mpw_firm.specs.Outputs.{Grows, IsUnwritten};
+ghost use Rattle.mpw_firm.specs.Shown.{content_of, limited_of, listing_text, shown_of};
 ghost use Rattle.mpw_firm.specs.Told.{Fails, output_text};
 
 use crate::checked::Checked;
 use crate::fault::FirmFault;
 use crate::outputs::{Outputs, Place, put};
 use crate::texts::Text;
+use mpw_limits::Limited;
+use mpw_report::{Fault, Report};
 use std::alloc::Global;
 
-/// Prints the markers of a layout on the standard output.
+/// The first markers of each rule.
+fn limited<'a>(checked: &Checked<'a>, limit: u32) -> Limited<'a>
+    ensures { listing.limited_of result ≡ limited_of (shown_of checked.now) limit }
+{
+    Limited {
+        top: checked.top,
+        rules: checked.layout.deck().rules().as_slice(),
+        markers: checked.book.as_slice(),
+        limit: limit as usize,
+    }
+}
+
+/// The report of what was checked.
+fn report_of<'a>(checked: &Checked<'a>) -> Report<'a>
+    ensures { told.content_of result ≡ content_of (shown_of checked.now) }
+{
+    let faults: &'a [Fault<'a>] = &[];
+    Report {
+        original: checked.original,
+        top: checked.top,
+        rules: checked.layout.deck().rules().as_slice(),
+        markers: checked.book.as_slice(),
+        limit: checked.most(),
+        faults,
+    }
+}
+
+/// Prints the markers of a layout on the standard output: all, or the first of each rule where there is a limit.
 ///
 /// # Errors
 /// `Device` where that failed, and `Memory`.
@@ -21,11 +52,19 @@ pub fn list<O: Outputs>(
     alloc: Global,
     checked: &Checked<'_>,
 ) -> Result<(), FirmFault>
-    ensures kept { IfOk result (λ _. Grows (O.kept outputs.old) (O.kept outputs.new) (on_output (listed_text checked.now.layout.now checked.now.book.now) ∷ [])) }
+    ensures kept { IfOk result (λ _. Grows (O.kept outputs.old) (O.kept outputs.new) (on_output (listing_text (shown_of checked.now)) ∷ [])) }
     ensures refused { IfErr result (Fails output_text) }
 {
-    let text = Text::Listing(checked.layout, checked.book);
-    put(outputs, alloc, Place::Standard, &text)
+    match checked.limit {
+        None => {
+            let text = Text::Listing(checked.layout, checked.book);
+            put(outputs, alloc, Place::Standard, &text)
+        }
+        Some(limit) => {
+            let listing = limited(checked, limit);
+            put(outputs, alloc, Place::Standard, &Text::Limited(&listing))
+        }
+    }
 }
 
 /// Writes the report that the command line asks for; nothing where it asks for none.
@@ -38,12 +77,13 @@ pub fn report<O: Outputs>(
     file: &Option<String>,
     checked: &Checked<'_>,
 ) -> Result<(), FirmFault>
-    ensures kept { IfOk result (λ _. Grows (O.kept outputs.old) (O.kept outputs.new) (report_texts (option_map string_bytes file.now) checked.now.top.now checked.now.layout.now checked.now.book.now)) }
+    ensures kept { IfOk result (λ _. Grows (O.kept outputs.old) (O.kept outputs.new) (report_texts (option_map string_bytes file.now) (shown_of checked.now))) }
     ensures refused { IfErr result (IsUnwritten (option_map string_bytes file.now)) }
 {
     match file {
         Some(file) => {
-            let text = Text::Report(checked.layout, checked.top, checked.book);
+            let report = report_of(checked);
+            let text = Text::Report(&report);
             put(outputs, alloc, Place::File(file.as_str()), &text)
         }
         None => Ok(()),

@@ -77,6 +77,8 @@ pub fn stitch<O: Outputs>(
         top: &whole.top,
         layout: &whole.layout,
         book: &whole.book,
+        original: None,
+        limit: None,
     };
     list(outputs, alloc, &checked)?;
     report(outputs, alloc, &options.report, &checked)?;

@@ -5,10 +5,11 @@ ghost use Rattle.mpw_firm.specs.Texts.{text_of};
 
 use crate::listing::write_markers;
 use mpw_geom::Name;
+use mpw_limits::{Limited, write_limited};
 use mpw_markers::Book;
 use mpw_parts::{Part, write_part};
 use mpw_picture::{Picture, write_picture};
-use mpw_report::write_report;
+use mpw_report::{Report, write_full_report};
 use mpw_text::put;
 use mpw_tiles::Snapshot;
 use mpw_wire::{Sink, WireFault};
@@ -20,8 +21,10 @@ use std::io::{self, ErrorKind, Write};
 pub enum Text<'a> {
     /// The listing of the markers of a layout of one submission.
     Listing(&'a Snapshot, &'a Book),
-    /// The report of the markers of a structure of that name, under the layout's deck.
-    Report(&'a Snapshot, &'a Name, &'a Book),
+    /// The listing of the first markers of each rule.
+    Limited(&'a Limited<'a>),
+    /// A report.
+    Report(&'a Report<'a>),
     /// Its picture.
     Picture(&'a Snapshot, &'a Name, &'a Picture),
     /// The part of some tiles.
@@ -76,10 +79,8 @@ fn write_bytes<S: Sink>(
 {
     match *text {
         Text::Listing(layout, book) => write_markers(alloc, layout, book.copy()?, &mut writer.sink),
-        Text::Report(layout, top, book) => {
-            let rules = layout.deck().rules().as_slice();
-            outcome(write_report(writer, rules, top, book.as_slice()))
-        }
+        Text::Limited(listing) => outcome(write_limited(writer, listing)),
+        Text::Report(report) => outcome(write_full_report(writer, report)),
         Text::Picture(layout, top, picture) => {
             let rules = layout.deck().rules().as_slice();
             outcome(write_picture(writer, rules, top, picture))

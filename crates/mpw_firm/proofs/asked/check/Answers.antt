@@ -1,3 +1,5 @@
+use Rattle.std.proofs.Common.{Some, subst}
+use Rattle.mpw_firm.specs.Came.{PutsAll}
 use Rattle.mpw_firm.proofs.Flat.{flat_of}
 use Rattle.mpw_firm.proofs.asked.check.Goals as goal
 
@@ -16,5 +18,13 @@ returns g c =
           c.in_ok-drawn.ensures.0 c.in_ok-drawn.ensures.1 c.in_ok-drawn.drawn c.in_ok-book.field-0
           read c.in_ok-book.ensures;
       count = c.len.ensures;
-      kept = c.in_ok-write_all.ensures;
+      kept = subst (λ file. PutsAll c.args.options.now
+          (record {
+            original = Some file;
+            top = c.in_ok-drawn.drawn.top;
+            layout = c.in_ok-drawn.drawn.layout;
+            book = c.in_ok-book.field-0;
+            limit = c.args.choices.now.limit;
+          }) (g.O.Outputs.kept c.args.outputs.now) (g.O.Outputs.kept c.write_all.new.outputs))
+          c.as_str-file.ensures.value c.in_ok-write_all.ensures;
     }

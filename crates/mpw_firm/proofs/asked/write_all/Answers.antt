@@ -6,9 +6,9 @@ pub returns : goal.returns
 returns g c =
     IfOk-weaker c.picture.result _ _
     (λ x p. rw c.in-Some.is (
-      c.in_ok-window.window,
+      c.in_ok-view.view,
       p.0,
-      c.in_ok-window.ensures.window,
+      c.in_ok-view.ensures.view,
       p.1,
       grows_named _ _ _ _ _ _ _ c.as_str-file.ensures.value c.in_ok-write_listed.ensures.kept p.2,
     ))

@@ -1,0 +1,53 @@
+-- What is told of a layout's markers: their listing and their report, of the first of each rule where there is a limit.
+use Rattle.std.specs.Prelude.{ℕ, ◌-◌, ◌^◌, List, [], Option, None, Some, option_map}
+use Rattle.mpw_firm.specs.Listed.{listed_text}
+use Rattle.mpw_firm.specs.declared.checked.Checked.{Checked}
+use Rattle.mpw_limits.specs.Limits.{Limited, limited_text}
+use Rattle.mpw_markers.specs.declared.marker.Marker.{Marker}
+use Rattle.mpw_report.specs.Content.{Content}
+use Rattle.mpw_tiles.specs.Snapshots.{Snapshot}
+
+-- A limit as a number: without one the greatest.
+abbrev pub most_of : Option ℕ → ℕ
+most_of None = 2 ^ 64 - 1
+most_of (Some limit) = limit
+
+-- What is shown of markers: the name of the layout's file, the structure's, the layout, the markers and the limit.
+pub record Shown : Type 0 where
+  pub original : Option (List ℕ)
+  pub top : List ℕ
+  pub layout : Snapshot
+  pub book : List Marker
+  pub limit : Option ℕ
+
+abbrev pub shown_of : Checked → Shown
+shown_of c = record {
+  original = option_map (λ file. file.now) c.original;
+  top = c.top.now;
+  layout = c.layout.now;
+  book = c.book.now;
+  limit = c.limit;
+}
+
+abbrev pub limited_of : Shown → ℕ → Limited
+limited_of s limit =
+    record { top = s.top; rules = s.layout.deck.rules; markers = s.book; limit = limit }
+
+abbrev pub listing_by : Shown → Option ℕ → List ℕ
+listing_by s None = listed_text s.layout s.book
+listing_by s (Some limit) = limited_text (limited_of s limit)
+
+-- The listing: a desk's, or that of the first of each rule.
+abbrev pub listing_text : Shown → List ℕ
+listing_text s = listing_by s s.limit
+
+-- What the report tells: all markers, of which the first of each rule have an item.
+abbrev pub content_of : Shown → Content
+content_of s = record {
+  original = s.original;
+  top = s.top;
+  rules = s.layout.deck.rules;
+  markers = s.book;
+  limit = most_of s.limit;
+  faults = [];
+}

@@ -1,0 +1,2 @@
+-- The lemmas of limited listings.
+mod Rows

@@ -1,0 +1,49 @@
+-- The first markers of each rule, as many as a limit allows, and the text of their listing.
+use Rattle.std.specs.Prelude.{ℕ, ◌-◌, ◌^◌, ◌++◌, List, [], ◌∷◌, codes, length, min, take, sum_by}
+use Rattle.std.specs.List.{concat, enumerate_from, flat_map}
+use Rattle.std.specs.Fmt.{decimal}
+use Rattle.mpw_deck.specs.declared.rule.Rule.{Rule}
+use Rattle.mpw_markers.specs.Markers.{key_of}
+use Rattle.mpw_markers.specs.declared.marker.Marker.{Marker}
+use Rattle.mpw_report.specs.Content.{of_rule}
+use Rattle.mpw_wire.specs.Keys.{key_text, spot_of}
+use Rattle.mpw_limits.specs.declared.listing.Limited as declared
+
+-- The structure's name, the rules, the markers, and how many of a rule are listed at most.
+pub record Limited : Type 0 where
+  pub top : List ℕ
+  pub rules : List Rule
+  pub markers : List Marker
+  pub limit : ℕ
+
+abbrev pub limited_of : declared.Limited → Limited
+limited_of l = record { top = l.top.now; rules = l.rules.now; markers = l.markers.now; limit = l.limit }
+
+-- The line of a marker of that rule: its key and the structure's name.
+unfoldable pub line_text : List ℕ → Rule → Marker → List ℕ
+line_text top rule m =
+    key_text rule.name (spot_of (key_of m)) ++ concat (codes " " ∷ top ∷ codes "\n" ∷ [])
+
+-- How many there are of the rule with that place in the deck.
+abbrev pub count_of : List Marker → ℕ → ℕ
+count_of markers place = length (of_rule markers place)
+
+-- The lines of the first of a rule, in their order.
+abbrev pub rule_lines : Limited → ℕ × Rule → List ℕ
+rule_lines l row = flat_map (line_text l.top row.1) (take l.limit (of_rule l.markers row.0))
+
+-- How many of a rule are listed.
+abbrev pub listed_of : Limited → ℕ × Rule → ℕ
+listed_of l row = min l.limit (count_of l.markers row.0)
+
+-- How many are listed, up to the greatest number of 64 bits.
+unfoldable pub listed_count : Limited → ℕ
+listed_count l = min (sum_by (listed_of l) (enumerate_from 0 l.rules)) (2 ^ 64 - 1)
+
+unfoldable pub head_text : ℕ → List ℕ
+head_text count = concat (codes "OK " ∷ decimal count ∷ codes "\n" ∷ [])
+
+-- Their number, and the lines of each rule in order.
+unfoldable pub limited_text : Limited → List ℕ
+limited_text l =
+    head_text (listed_count l) ++ flat_map (rule_lines l) (enumerate_from 0 l.rules)
