@@ -197,7 +197,9 @@ def judge(asked, told, may_close=False):
             refused += 1
             continue
         if may_close and reply == [STORE]:
-            if any(later != [CLOSED] for later in told[place + 1:]):
+            # Where there is no room to read a line, the connection ends.
+            rest = told[place + 1:-1] if told[-1] == [MEMORY] else told[place + 1:]
+            if any(later != [CLOSED] for later in rest):
                 raise Difference(f"after {STORE}: {told[place + 1:][:3]}")
             return desk, refused, "closed", accepted, line
         wanted = desk.ask(request, payload)
