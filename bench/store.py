@@ -15,6 +15,7 @@ import random
 import re
 import shutil
 import sqlite3
+import struct
 import subprocess
 import sys
 import tempfile
@@ -453,14 +454,26 @@ def peak_of(words, text=b""):
     return time.time() - began, usage.ru_maxrss / 1024
 
 
-def large(folder, count=64):
-    """A store of a gigabyte of libraries: what it takes to make it, and to open it again."""
-    from serve import large_library
+def library_of_texts():
+    """A library of nearly 2^24 bytes with one square and else TEXT elements, which a reader passes over."""
+    def record(kind, data=b""):
+        return struct.pack(">HH", 4 + len(data), kind) + data
 
-    library = large_library()
+    units = bytes.fromhex("3E4189374BC6A7F03944B82FA09B5A54")
+    head = record(0x0002, b"\2\x58") + record(0x0102, bytes(24)) + record(0x0206, b"LB") + record(0x0305, units)
+    head += record(0x0502, bytes(24)) + record(0x0606, b"TOP\0")
+    layer, corners = record(0x0D02, b"\0\1"), struct.pack(">10i", 0, 0, 10, 0, 10, 10, 0, 10, 0, 0)
+    square = record(0x0800) + layer + record(0x0E02, bytes(2)) + record(0x1003, corners) + record(0x1100)
+    text = record(0x0C00) + layer + record(0x1602, bytes(2)) + record(0x1003, bytes(8)) + record(0x1906, b"a" * 400) + record(0x1100)
+    tail = record(0x0700) + record(0x0400)
+    return head + square + text * ((2**24 - len(head + square + tail)) // len(text)) + tail
+
+
+def large(folder, library, count=64):
+    """A store of a gigabyte of libraries: what it takes to make it, and to open it again."""
     lines = b"open root abc\nactivate officer\nadduser ann abc\naddrole alpha\nassign ann alpha\ngrant submit pad alpha\nclose\nopen ann abc\nactivate alpha\n"
     text = lines + b"".join(b"submit pad TOP %d\n" % len(library) + library for _ in range(count))
-    store = os.path.join(folder, "large.db")
+    store = os.path.join(folder, f"large-{len(library)}.db")
     taken, peak = peak_of(command(store), text)
     size = os.stat(store).st_size
     print(f"large: {count} libraries of {len(library)} bytes are stored in {taken:.1f} s with {peak:.0f} MB; the file has {size / 1e6:.0f} MB")
@@ -469,7 +482,9 @@ def large(folder, count=64):
 
 
 def times():
-    """Appends, reopenings and memory."""
+    """Appends, reopenings and memory: of libraries that are shapes alone, and of such as have next to none."""
+    from serve import large_library
+
     with tempfile.TemporaryDirectory(dir=os.environ.get("MPW_BENCH_FOLDER", TOP)) as folder:
         count = 4090
         began = time.time()
@@ -482,7 +497,8 @@ def times():
         rows = len(rows_of(store))
         taken, peak = peak_of(command(store))
         print(f"reopening: {rows} small rows in {taken:.2f} s, {rows / taken:.0f} a second, {peak:.0f} MB")
-        large(folder)
+        large(folder, large_library())
+        large(folder, library_of_texts())
     return 0
 
 
