@@ -18,7 +18,6 @@ use Rattle.mpw_job.specs.Layers.{Coverage, first_squares, second_squares}
 use Rattle.mpw_columns.specs.declared.column.Column.{Column}
 use Rattle.mpw_columns.specs.Seen.{seen_box, seen_on}
 use Rattle.mpw_columns.specs.Columns.{AreColumns}
-use Rattle.mpw_columns.specs.Internal.Found.{IsStretch, AreHalvesOf}
 use Rattle.mpw_columns.proofs.Showing.{seen_has}
 
 -- ---- columns that follow on one another
@@ -109,25 +108,6 @@ pub moved : (a b : Axis) (low x y : ℤ) (cs : List Column) → a ≡ b → x �
     → AreColumns a low x cs → AreColumns b low y cs
 moved a b low x y cs e f h =
     subst (λ (d : Axis). AreColumns d low y cs) e (subst (λ (z : ℤ). AreColumns a low z cs) f h)
-
-pub stretch_left : (c left right : Column) → IsStretch c → AreHalvesOf c left right → IsStretch left
-stretch_left c left right s h =
-    let l = s.left in let r = s.right in let f = h.from_is in let a = h.at in let t = h.to_is in
-    let more = h.some_right in record {
-      left = omega (arith, ints, l, f);
-      some = h.some_left;
-      right = omega (arith, ints, r, a, t, more);
-    }
-
-pub stretch_right : (c left right : Column) → IsStretch c → AreHalvesOf c left right
-    → IsStretch right
-stretch_right c left right s h =
-    let l = s.left in let r = s.right in let f = h.from_is in let a = h.at in let t = h.to_is in
-    let more = h.some_left in record {
-      left = omega (arith, ints, l, f, a, more);
-      some = h.some_right;
-      right = omega (arith, ints, r, t);
-    }
 
 -- ---- where the first edge of a step stands
 

@@ -1,6 +1,6 @@
 -- Rectangles that are added to a list, by the squares that are seen of them.
-use Rattle.std.proofs.Common.{◌≡◌, ℕ, ◌+◌, ◌<◌, ◌≤◌, List, [], ◌∷◌, ◌++◌, length, get_or, take, Option, Some, None, ◌⊎◌, inl, inr, refl, sym, subst, ap, ◌∙◌}
-use Rattle.std.specs.Prelude.{Contains, ◌↔◌}
+use Rattle.std.proofs.Common.{◌≡◌, ℕ, ◌+◌, ◌<◌, ◌≤◌, List, [], ◌∷◌, ◌++◌, length, get_or, take, ◌⊎◌, inl, inr, refl, sym, subst, ap, ◌∙◌}
+use Rattle.std.specs.Prelude.{◌↔◌}
 use Rattle.std.proofs.lemmas.List.{take_all}
 use Rattle.mpw_region.specs.Exchange.{exchanged_box}
 use Rattle.mpw_region.proofs.Held.{Held-nil, Held-push_left, Held-push_new, Held-push_cases}
@@ -17,9 +17,9 @@ use Rattle.mpw_tiles.specs.declared.place.PlacedShape.{PlacedShape}
 use Rattle.mpw_tiles.specs.Listing.{IsListed, HasSquareOf}
 use Rattle.mpw_tiles.specs.Internal.Listing.{HasPlacedSquare}
 use Rattle.mpw_tiles.specs.Placed.{IsShapeOf, IsRectangleOf}
-use Rattle.mpw_tiles.specs.Shown.{ShowsSquare, layer_of}
+use Rattle.mpw_tiles.specs.Shown.{ShowsSquare}
 use Rattle.mpw_tiles.proofs.Added.{none_more, next_more, same_more}
-use Rattle.mpw_tiles.proofs.Showing.{no_boxes, boxes_at, boxes_show, none_shown, shown_more}
+use Rattle.mpw_tiles.proofs.Showing.{no_boxes, boxes_at, boxes_show, shown_more}
 use Rattle.mpw_columns.specs.Seen.{seen_box, seen_square}
 use Rattle.mpw_columns.specs.Internal.Listed.{seen_rectangle, AddsSeen, AddsShown, ShowSeen}
 
@@ -94,21 +94,6 @@ all_boxes_seen axis boxes n shape old new le h =
     (take_all n boxes le) h
 
 -- ---- shapes
-
-pub nothing_shown : (layers : List Layer) (axis : Axis) (old : List Rectangle) (item : Item)
-    → layer_of item.element ≡ None → AddsShown layers axis old old (ShowsSquare item)
-nothing_shown layers axis old item e layer origin s c plane =
-    none_more (none_shown item e layer origin s)
-
-pub other_layer : (layers : List Layer) (axis : Axis) (old : List Rectangle) (item : Item)
-    (shape : PlacedShape) → IsShapeOf item shape → (Contains layers shape.layer → ⊥)
-    → AddsShown layers axis old old (ShowsSquare item)
-other_layer layers axis old item shape is none layer origin s c plane =
-    none_more (λ h. none (subst (Contains layers) (one layer (sym is.on_layer ∙ h.on_layer)) c))
-  where
-    one : (layer : Layer) → (let some : Option Layer = Some shape.layer in some) ≡ Some layer
-        → layer ≡ shape.layer
-    one layer e = cc
 
 pub shape_shown : (layers : List Layer) (axis : Axis) (old new : List Rectangle) (item : Item)
     (seen boxes : List Box2) (shape : PlacedShape) → IsShapeOf item shape

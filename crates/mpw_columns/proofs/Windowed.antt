@@ -1,5 +1,5 @@
 -- The rectangles of what meets a window have the squares of the layout there, as they are seen along an axis.
-use Rattle.std.proofs.Common.{◌≡◌, ℕ, Bool, true, false, cond, List, [], ◌∷◌, Option, inl, inr, refl, sym, subst, ap, ◌∙◌, arith}
+use Rattle.std.proofs.Common.{◌≡◌, ℕ, Bool, true, false, cond, List, [], ◌∷◌, Option, inl, inr, sym, subst, ap, ◌∙◌, arith}
 use Rattle.std.specs.Prelude.{Contains, filter, ◌↔◌}
 use Rattle.std.specs.Int.{int_min, int_max}
 use Rattle.std.proofs.lemmas.Bool.{and_from}
@@ -85,10 +85,6 @@ shown_met law window items layer origin s k = (
 )
 
 -- ---- what is listed
-
-seen_twice : (axis : Axis) (s : Square) → seen_square axis (seen_square axis s) ≡ s
-seen_twice V s = refl
-seen_twice H s = refl
 
 agree_at : SquaresLieInBoxes → (layers : List Layer) (axis : Axis) (items : List Item)
     (listed : List Rectangle) (window : Box2)
