@@ -18,7 +18,8 @@ use Rattle.mpw_deck.specs.declared.rule.Rule.{Rule}
 use Rattle.mpw_deck.specs.declared.rule.Check.{Check}
 use Rattle.mpw_deck.specs.Decks.{Deck}
 use Rattle.mpw_deck.specs.Named.{DifferByName, HasPlainName, AreNamed}
-use Rattle.mpw_deck.specs.Reading.{◌>>=◌, is_rule_name, rule_name, layer_from, layer_of, distance_of, one_layer, same_layer, two_layers, one_layer_key, one_check, two_layer_key, two_check, rule_of, is_tile_line, has_rule, next_rule, rules_of, tile_of, at_line, deck_of_lines, deck_of}
+use Rattle.mpw_geom.specs.Layers.{same_layer}
+use Rattle.mpw_deck.specs.Reading.{◌>>=◌, is_rule_name, rule_name, layer_from, layer_of, distance_of, one_layer, two_layers, one_layer_key, one_check, two_layer_key, two_check, rule_of, is_tile_line, has_rule, next_rule, rules_of, tile_of, at_line, deck_of_lines, deck_of}
 
 -- ---- what a part of the reading tells: a value with a property, or a fault that isn't want of memory
 

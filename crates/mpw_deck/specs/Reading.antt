@@ -3,6 +3,7 @@ use Rattle.std.specs.Prelude.{ℕ, ◌+◌, ◌^◌, Bool, false, ◌&&◌, not,
 use Rattle.std.specs.Option.{ok_or}
 use Rattle.std.specs.List.{slice_split, list_any, list_all}
 use Rattle.mpw_geom.specs.declared.plane.Layer.{Layer}
+use Rattle.mpw_geom.specs.Layers.{same_layer}
 use Rattle.mpw_geom.specs.Names.{name_eq}
 use Rattle.mpw_deck.specs.declared.deck.DeckKind.{DeckKind}
 use Rattle.mpw_deck.specs.declared.deck.DeckKind.TheVariants as kinds
@@ -54,9 +55,6 @@ one_layer check name layer distance = do
   l ← layer_of layer
   d ← distance_of distance
   Ok (record { name = n; check = check l; distance = d })
-
-abbrev pub same_layer : Layer → Layer → Bool
-same_layer a b = (a.layer == b.layer) && (a.datatype == b.datatype)
 
 -- a rule of two layers, which differ
 unfoldable pub two_layers : (Layer → Layer → Check) → List ℕ → List ℕ → List ℕ → List ℕ

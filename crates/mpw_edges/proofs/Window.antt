@@ -12,7 +12,8 @@ use Rattle.mpw_edges.specs.declared.run.Piece.{Piece}
 use Rattle.mpw_edges.specs.Edges.{Squares, exchanged, IsRise, IsFall}
 use Rattle.mpw_edges.specs.Steps.{IsPair}
 use Rattle.mpw_edges.specs.Pieces.{HasVerticalStep, HasStep, IsPiece}
-use Rattle.mpw_edges.specs.Laws.{widened, AreSameIn, other_axis, exchanged_piece}
+use Rattle.mpw_geom.specs.Plane.{widened}
+use Rattle.mpw_edges.specs.Laws.{AreSameIn, other_axis, exchanged_piece}
 use Rattle.mpw_edges.proofs.Maximal.{run_of_piece, piece_of_run}
 
 -- ---- exchange

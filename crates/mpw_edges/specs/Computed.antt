@@ -1,4 +1,4 @@
--- The tests that decide pair steps: markers of a layout are defined by them, and worked examples can be computed.
+-- The tests that decide pair steps: worked examples can be computed by them, and proofs go by them.
 use Rattle.std.specs.Prelude.{◌≡◌, ℕ, zero, suc, ℤ, pos, negsuc, ◌+ℤ◌, ◌-ℤ◌, int_le, int_lt, Bool, true, ◌&&◌, ◌||◌, not, ◌==◌, ◌↔◌}
 use Rattle.mpw_deck.specs.declared.rule.Check.{Check}
 use Rattle.mpw_deck.specs.declared.rule.Check.TheVariants.{Width, Space, Separation, Enclosing}

@@ -1,6 +1,7 @@
 -- Laws of the definitions alone.
 use Rattle.std.specs.Prelude.{◌≡◌, ℕ, ◌+◌, ◌≤◌, ℤ, pos, ◌+ℤ◌, ◌-ℤ◌, ◌≤ℤ◌, ◌<ℤ◌, ◌↔◌}
 use Rattle.mpw_geom.specs.declared.plane.Box2.{Box2}
+use Rattle.mpw_geom.specs.Plane.{widened}
 use Rattle.mpw_region.specs.Exchange.{exchanged_box}
 use Rattle.mpw_deck.specs.declared.rule.Rule.{Rule}
 use Rattle.mpw_edges.specs.declared.run.Axis.{Axis}
@@ -23,11 +24,6 @@ ExchangeExchangesAxes =
     (rule : Rule) (a b : Squares) (core : Box2) (p : Piece)
     → IsPiece rule a b core p ↔ IsPiece rule (exchanged a) (exchanged b) (exchanged_box core)
     (exchanged_piece p)
-
--- the box, wider on each side
-abbrev pub widened : Box2 → ℕ → Box2
-widened b n =
-    record { x0 = b.x0 -ℤ pos n; y0 = b.y0 -ℤ pos n; x1 = b.x1 +ℤ pos n; y1 = b.y1 +ℤ pos n }
 
 -- the squares are the same in the window
 abbrev pub AreSameIn : Box2 → Squares → Squares → Type 0

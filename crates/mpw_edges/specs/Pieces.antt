@@ -13,6 +13,11 @@ use Rattle.mpw_edges.specs.declared.run.Piece.{Piece}
 use Rattle.mpw_edges.specs.Edges.{Squares, exchanged}
 use Rattle.mpw_edges.specs.Steps.{IsPairStep}
 
+-- a pair step on an axis, over the whole plane: H is V with the coordinates exchanged
+abbrev pub IsStepOn : Rule → Squares → Squares → Axis → ℕ → ℤ → ℤ → ℤ → Type 0
+IsStepOn rule a b V = IsPairStep rule.check rule.distance a b
+IsStepOn rule a b H = IsPairStep rule.check rule.distance (exchanged a) (exchanged b)
+
 -- the point lies in the half-open core
 abbrev pub IsInCore : Box2 → ℤ → ℤ → Type 0
 IsInCore core x y = (core.x0 ≤ℤ x) × (x <ℤ core.x1) × (core.y0 ≤ℤ y) × (y <ℤ core.y1)
@@ -60,3 +65,11 @@ piece_of axis r = record {
   y0 = r.from;
   y1 = r.to;
 }
+
+-- the closed box of a run: on axis V from x1 to x2 over its rows, on H with the coordinates exchanged
+abbrev pub box_on : Axis → (x1 x2 y0 y1 : ℤ) → Box2
+box_on V x1 x2 y0 y1 = record { x0 = x1; y0 = y0; x1 = x2; y1 = y1 }
+box_on H x1 x2 y0 y1 = record { x0 = y0; y0 = x1; x1 = y1; y1 = x2 }
+
+abbrev pub piece_box : Piece → Box2
+piece_box p = box_on p.axis p.x1 p.x2 p.y0 p.y1

@@ -4,8 +4,7 @@ use Rattle.mpw_geom.specs.declared.plane.Point.{Point}
 use Rattle.mpw_geom.specs.declared.plane.Orient.{Orient}
 use Rattle.mpw_geom.specs.declared.plane.Orient.TheVariants.{R0, R90, R180, R270, M0, M90, M180, M270}
 use Rattle.mpw_geom.specs.Plane.{Square}
-use Rattle.mpw_geom.specs.Placing.{oriented_point, oriented_square}
-use Rattle.mpw_geom.specs.Internal.{undoing}
+use Rattle.mpw_geom.specs.Placing.{oriented_point, oriented_square, undoing}
 use Rattle.mpw_geom.proofs.Turns.{negated_twice, mirrored_row}
 
 pub undone_point : (o : Orient) (p : Point) → oriented_point (undoing o) (oriented_point o p) ≡ p

@@ -1,4 +1,5 @@
-pub mod Internal
+pub mod Layers
+pub mod Meeting
 pub mod Least
 pub mod Links
 pub mod Name

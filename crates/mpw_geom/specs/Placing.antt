@@ -38,6 +38,17 @@ times turn (suc n) a = turn (times turn n a)
 abbrev pub by_orient : {A : Type 0} → (A → A) → (A → A) → Orient → A → A
 by_orient mirror turn o a = times turn (quarter_turns o) (if is_mirrored o then mirror a else a)
 
+-- the orientation that undoes another: a quarter turn is undone by the other one, and the others undo themselves
+abbrev pub undoing : Orient → Orient
+undoing R0 = R0
+undoing R90 = R270
+undoing R180 = R180
+undoing R270 = R90
+undoing M0 = M0
+undoing M90 = M90
+undoing M180 = M180
+undoing M270 = M270
+
 -- on points: the mirror about the x axis, and the quarter turn that takes (x, y) to (-y, x)
 abbrev pub mirrored_point : Point → Point
 mirrored_point p = record { x = p.x; y = neg_ℤ p.y }

@@ -1,5 +1,5 @@
 -- Coordinates, unit squares, and the points and squares of a box. All lengths are in nm.
-use Rattle.std.specs.Prelude.{◌≤ℤ◌, ◌<ℤ◌, ◌^◌, Bool, ◌&&◌, ℤ, pos, neg_ℤ, ◌+ℤ◌, int_lt, int_le, List}
+use Rattle.std.specs.Prelude.{◌≤ℤ◌, ◌<ℤ◌, ◌^◌, ℕ, Bool, ◌&&◌, ℤ, pos, neg_ℤ, ◌+ℤ◌, ◌-ℤ◌, int_lt, int_le, List}
 use Rattle.std.specs.List.{list_any}
 use Rattle.std.specs.Int.{int_min, int_max}
 use Rattle.mpw_geom.specs.declared.plane.Box2.{Box2}
@@ -67,6 +67,11 @@ joined a b = record {
   x1 = int_max a.x1 b.x1;
   y1 = int_max a.y1 b.y1;
 }
+
+-- the box, wider by so many nm on each side
+abbrev pub widened : Box2 → ℕ → Box2
+widened b n =
+    record { x0 = b.x0 -ℤ pos n; y0 = b.y0 -ℤ pos n; x1 = b.x1 +ℤ pos n; y1 = b.y1 +ℤ pos n }
 
 -- what the two boxes share; where they share no point, its corners are out of order
 abbrev pub intersection : Box2 → Box2 → Box2

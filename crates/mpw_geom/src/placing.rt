@@ -5,8 +5,7 @@
 
 ghost use Rattle.std.specs.Prelude.{◌≡◌, ◌↔◌, IsTrue};
 ghost use Rattle.mpw_geom.specs.Plane.{IsInPlane, IsBoxInPlane, IsOrdered, Square, has_point, has_square};
-ghost use Rattle.mpw_geom.specs.Placing.{oriented_point, oriented_square, mirrored_point, mirrored_square, turned_point, turned_square, placed_point, placed_square, PlacedSquaresHavePlacedPoints};
-ghost use Rattle.mpw_geom.specs.Internal.{undoing};
+ghost use Rattle.mpw_geom.specs.Placing.{oriented_point, oriented_square, undoing, mirrored_point, mirrored_square, turned_point, turned_square, placed_point, placed_square, PlacedSquaresHavePlacedPoints};
 ghost use Rattle.mpw_geom.specs.declared.plane.Point.{Point};
 
 use crate::plane::{Box2, Orient, Point};

@@ -198,12 +198,12 @@ module _ (es : List Element) (i : ℕ) (e : Element) (h : i < length es)
         (rw here (child some means more)))
 
 -- a list of which no shape, or one at least, is told
-pub none_told : {X : Type 0} (xs : List X) (told : ℕ) → told ≡ min (2 ^ 20 + 1) (length xs)
+pub none_told : {X : Type 0} (xs : List X) (told : ℕ) → told ≡ min (2 ^ 40 + 1) (length xs)
     → told ≤ 0 → xs ≡ []
 none_told [] told e le = refl
 none_told (x ∷ xs) told e le = absurd (omega (arith, e, le))
 
-pub some_told : {X : Type 0} (xs : List X) (told : ℕ) → told ≡ min (2 ^ 20 + 1) (length xs)
+pub some_told : {X : Type 0} (xs : List X) (told : ℕ) → told ≡ min (2 ^ 40 + 1) (length xs)
     → 0 < told → 0 < length xs
 some_told xs told e lt = omega (arith, e, lt)
 

@@ -49,9 +49,9 @@ module _ (ss : List Submission) (s : Submission) (nodes : List Node)
       extent here.size.near in
       absurd (let q = sym near ∙ h.far in cc)
 
-  pub nodes_kept : IsLibrary s.library → is_too_large ss s ≡ false → is_too_deep ss s ≡ false
-      → AreNodesOf (flats ss) (heights ss) s nodes
-  nodes_kept library small low = record {
+  pub nodes_kept : (most : ℕ) → most ≤ 2 ^ 40 → IsLibrary s.library → is_too_large most ss s ≡ false
+      → is_too_deep ss s ≡ false → AreNodesOf (flats ss) (heights ss) s nodes
+  nodes_kept most greatest library small low = record {
     library = library;
     each = w.each;
     reached = w.reached;
@@ -61,36 +61,41 @@ module _ (ss : List Submission) (s : Submission) (nodes : List Node)
     some = w.some;
     last = w.last;
     top_named = w.top_named;
-    count = ltb-false (2 ^ 20) (length (flat_of (flats ss) s)) small;
+    count = omega (arith, greatest, ltb-false most (length (flat_of (flats ss) s)) small);
     height = ltb-false 64 (height_of (heights ss) s) low;
   }
 
 -- ---- limits by what is told
 
 -- What the size of the last node tells of the limits.
-pub record IsMeasured (ss : List Submission) (s : Submission) (size : Size) : Type 0 where
+pub record IsMeasured (most : ℕ) (ss : List Submission) (s : Submission) (size : Size) :
+    Type 0 where
   pub near : IsFar ss s → ⊥
-  pub shapes : is_too_large ss s ≡ nat_lt (2 ^ 20) size.count
+  pub shapes : is_too_large most ss s ≡ nat_lt most size.count
   pub levels : is_too_deep ss s ≡ nat_lt 64 size.height
 
-pub measured : (ss : List Submission) (s : Submission) (nodes : List Node) (other : Node)
-    → IsHierarchy ss s nodes → IsMeasured ss s (get_or nodes (length nodes - 1) other).size
-measured ss s nodes other w =
+pub measured : (most : ℕ) → most ≤ 2 ^ 40
+    → (ss : List Submission) (s : Submission) (nodes : List Node) (other : Node)
+    → IsHierarchy ss s nodes → IsMeasured most ss s (get_or nodes (length nodes - 1) other).size
+measured most greatest ss s nodes other w =
     let top = get_or nodes (length nodes - 1) other in
     let within : length nodes - 1 < length nodes = omega (arith, w.some) in
     let last = slice_get-get_or nodes (length nodes - 1) other within in
     let told = last_size ss s nodes w top last in record {
       near = not_far ss s nodes w;
-      shapes = told_limit (2 ^ 20) top.size.count (length (flat_of (flats ss) s)) told.count;
-      levels = told_limit 64 top.size.height (height_of (heights ss) s) told.height;
+      shapes = told_limit (2 ^ 40) most top.size.count (length (flat_of (flats ss) s)) greatest
+          told.count;
+      levels = told_limit 64 64 top.size.height (height_of (heights ss) s) (omega arith)
+          told.height;
     }
 
-module _ {ss : List Submission} {s : Submission} {size : Size} (m : IsMeasured ss s size) where
-  pub large : 2 ^ 20 < size.count → is_too_large ss s ≡ true
-  large lt = m.shapes ∙ lt-ltb (2 ^ 20) size.count lt
+module _ {most : ℕ} {ss : List Submission} {s : Submission} {size : Size}
+    (m : IsMeasured most ss s size) where
+  pub large : most < size.count → is_too_large most ss s ≡ true
+  large lt = m.shapes ∙ lt-ltb most size.count lt
 
-  pub small : size.count ≤ 2 ^ 20 → is_too_large ss s ≡ false
-  small le = m.shapes ∙ le-ltb (2 ^ 20) size.count le
+  pub small : size.count ≤ most → is_too_large most ss s ≡ false
+  small le = m.shapes ∙ le-ltb most size.count le
 
   pub deep : 64 < size.height → is_too_deep ss s ≡ true
   deep lt = m.levels ∙ lt-ltb 64 size.height lt
@@ -98,9 +103,20 @@ module _ {ss : List Submission} {s : Submission} {size : Size} (m : IsMeasured s
   pub low : size.height ≤ 64 → is_too_deep ss s ≡ false
   low le = m.levels ∙ le-ltb 64 size.height le
 
-  pub kept : size.count ≤ 2 ^ 20 → size.height ≤ 64 → has_room_for ss s.cell ≡ true
-      → KeepsLimits ss s
+  pub kept : size.count ≤ most → size.height ≤ 64 → has_room_for ss s.cell ≡ true
+      → KeepsLimits most ss s
   kept few flat room = record { near = m.near; small = small few; low = low flat; room = room }
+
+-- what keeps a lesser limit on shapes keeps a greater one
+pub kept_within : (less most : ℕ) (ss : List Submission) (s : Submission) → less ≤ most
+    → KeepsLimits less ss s → KeepsLimits most ss s
+kept_within less most ss s le k =
+    let few = ltb-false less (length (flat_of (flats ss) s)) k.small in record {
+      near = k.near;
+      small = le-ltb most (length (flat_of (flats ss) s)) (omega (arith, le, few));
+      low = k.low;
+      room = k.room;
+    }
 
 -- ---- the version says nothing of the limits
 
@@ -116,42 +132,42 @@ far_of ss s version h = record {
   far = h.far;
 }
 
-pub kept_as : (ss : List Submission) (s : Submission) (version : ℕ)
-    → KeepsLimits ss (record s { version = version }) → KeepsLimits ss s
-kept_as ss s version k = record {
+pub kept_as : (most : ℕ) (ss : List Submission) (s : Submission) (version : ℕ)
+    → KeepsLimits most ss (record s { version = version }) → KeepsLimits most ss s
+kept_as most ss s version k = record {
   near = λ far. k.near (far_of ss s version far);
   small = k.small;
   low = k.low;
   room = k.room;
 }
 
-pub refused_as : (ss : List Submission) (s : Submission) (version : ℕ) (fault : HierFault)
-    → IsRefused ss (record s { version = version }) fault → IsRefused ss s fault
-refused_as ss s version faults.Memory h = tt
-refused_as ss s version faults.Extent h = far_of ss (record s { version = version }) s.version h
-refused_as ss s version faults.Shapes h = (λ far. h.0 (far_of ss s version far), h.1)
-refused_as ss s version faults.Deep h = (λ far. h.0 (far_of ss s version far), h.1)
-refused_as ss s version faults.Full h = (λ far. h.0 (far_of ss s version far), h.1)
-refused_as ss s version faults.NoTop h = absurd h
-refused_as ss s version faults.Cycle h = absurd h
-refused_as ss s version faults.NoCell h = absurd h
+pub refused_as : (most : ℕ) (ss : List Submission) (s : Submission) (version : ℕ) (fault : HierFault)
+    → IsRefused most ss (record s { version = version }) fault → IsRefused most ss s fault
+refused_as most ss s version faults.Memory h = tt
+refused_as most ss s version faults.Extent h = far_of ss (record s { version = version }) s.version h
+refused_as most ss s version faults.Shapes h = (λ far. h.0 (far_of ss s version far), h.1)
+refused_as most ss s version faults.Deep h = (λ far. h.0 (far_of ss s version far), h.1)
+refused_as most ss s version faults.Full h = (λ far. h.0 (far_of ss s version far), h.1)
+refused_as most ss s version faults.NoTop h = absurd h
+refused_as most ss s version faults.Cycle h = absurd h
+refused_as most ss s version faults.NoCell h = absurd h
 
 -- ---- faults
 
 -- what the making of nodes refuses
-pub refused_nodes : (ss : List Submission) (s : Submission) (fault : HierFault) → IsOfNodes fault
-    → (fault ≡ faults.Extent → IsFar ss s) → IsRefused ss s fault
-refused_nodes ss s faults.Memory of far = tt
-refused_nodes ss s faults.Extent of far = far refl
-refused_nodes ss s faults.NoTop of far = absurd of
-refused_nodes ss s faults.Cycle of far = absurd of
-refused_nodes ss s faults.NoCell of far = absurd of
-refused_nodes ss s faults.Shapes of far = absurd of
-refused_nodes ss s faults.Deep of far = absurd of
-refused_nodes ss s faults.Full of far = absurd of
+pub refused_nodes : (most : ℕ) (ss : List Submission) (s : Submission) (fault : HierFault)
+    → IsOfNodes fault → (fault ≡ faults.Extent → IsFar ss s) → IsRefused most ss s fault
+refused_nodes most ss s faults.Memory of far = tt
+refused_nodes most ss s faults.Extent of far = far refl
+refused_nodes most ss s faults.NoTop of far = absurd of
+refused_nodes most ss s faults.Cycle of far = absurd of
+refused_nodes most ss s faults.NoCell of far = absurd of
+refused_nodes most ss s faults.Shapes of far = absurd of
+refused_nodes most ss s faults.Deep of far = absurd of
+refused_nodes most ss s faults.Full of far = absurd of
 
-pub refused : (A : Type 0) (ss : List Submission) (s : Submission) (result : Result A HierFault)
-    (fault : HierFault) → IsErrAnd result (λ e. e ≡ fault) → IsRefused ss s fault
-    → IfErr result (IsRefused ss s)
-refused A ss s (Ok n) fault h is = absurd h
-refused A ss s (Err e) fault h is = subst (IsRefused ss s) (sym h) is
+pub refused : (A : Type 0) (most : ℕ) (ss : List Submission) (s : Submission)
+    (result : Result A HierFault) (fault : HierFault) → IsErrAnd result (λ e. e ≡ fault)
+    → IsRefused most ss s fault → IfErr result (IsRefused most ss s)
+refused A most ss s (Ok n) fault h is = absurd h
+refused A most ss s (Err e) fault h is = subst (IsRefused most ss s) (sym h) is

@@ -76,7 +76,7 @@ limited_at ss w n lt =
     let items = firsts_at flat_of ss n s.0 [] s.1 in
     let levels = firsts_at height_of ss n s.0 0 s.1 in
     record {
-      few = let small = not_more (2 ^ 20) _ was.kept.small in omega (arith, small, ap length items);
+      few = let small = not_more (2 ^ 40) _ was.kept.small in omega (arith, small, ap length items);
       low = let low = not_more 64 _ was.kept.low in omega (arith, low, levels);
       near = subst (λ is. IsExtentNear (extent_of is)) (sym items) (near_top (take n ss) s.0 was);
     }

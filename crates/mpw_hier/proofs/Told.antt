@@ -35,21 +35,21 @@ least_product limit (suc k) n = elim (cases_lt limit n) [
 -- ---- sizes
 
 pub told_together : (a b : Total) (s o r : Size) → IsToldBy a s → IsToldBy b o
-    → r.count ≡ min (2 ^ 20 + 1) (s.count + o.count) → r.height ≡ max s.height o.height
+    → r.count ≡ min (2 ^ 40 + 1) (s.count + o.count) → r.height ≡ max s.height o.height
     → r.extent ≡ hull s.extent o.extent → IsToldBy (together a b) r
 told_together a b s o r p q count height extent = record {
-  count = count ∙ rw (p.count, q.count) (least_sum (2 ^ 20 + 1) a.count b.count);
+  count = count ∙ rw (p.count, q.count) (least_sum (2 ^ 40 + 1) a.count b.count);
   height = height ∙ rw (p.height, q.height) (omega arith);
   extent = extent ∙ rw (p.extent, q.extent) refl;
   near = subst IsExtentNear (sym extent) (near_hull s.extent o.extent p.near q.near);
 }
 
 pub told_array : (r : Reference) (t : Total) (s o : Size) (h : ℕ) → IsToldBy t s
-    → o.count ≡ min (2 ^ 20 + 1) (r.columns * r.rows * s.count) → h ≡ min s.height 64
+    → o.count ≡ min (2 ^ 40 + 1) (r.columns * r.rows * s.count) → h ≡ min s.height 64
     → o.height ≡ h + 1 → o.extent ≡ array_extent r s.extent → IsExtentNear o.extent
     → IsToldBy (array_total r t) o
 told_array r t s o h p count least height extent near = record {
-  count = count ∙ rw p.count (least_product (2 ^ 20 + 1) (r.columns * r.rows) t.count);
+  count = count ∙ rw p.count (least_product (2 ^ 40 + 1) (r.columns * r.rows) t.count);
   height = height ∙ rw (least, p.height) (omega arith);
   extent = extent ∙ ap (array_extent r) p.extent;
   near = near;
@@ -57,9 +57,10 @@ told_array r t s o h p count least height extent near = record {
 
 -- ---- what a caller reads off
 
--- what is told up to one more than a limit is beyond it where the number is
-pub told_limit : (limit told n : ℕ) → told ≡ min (limit + 1) n → nat_lt limit n ≡ nat_lt limit told
-told_limit limit told n e = grind (arith, nat_tests)
+-- what is told up to one more than a limit is beyond that, or a lesser one, where the number is
+pub told_limit : (limit most told n : ℕ) → most ≤ limit → told ≡ min (limit + 1) n
+    → nat_lt most n ≡ nat_lt most told
+told_limit limit most told n le e = grind (arith, nat_tests)
 
 -- a size for each name, none of which reaches too far
 pub told_length : (items : List ℕ → List Item) (heights : List ℕ → ℕ) (names : List (List ℕ))

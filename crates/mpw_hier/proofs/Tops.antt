@@ -89,7 +89,7 @@ top_size before levels s nodes w top is =
 pub shelf_size : (ss : List Submission) (number : ℕ) (nodes : List Node) → AreNodes ss number nodes
     → (top : Node) → slice_get nodes (length nodes - 1) ≡ Some top
     → IsSizeOf (flat ss number) (height ss number) top.size
-    × ((length (flat ss number) ≤ 2 ^ 20) × (height ss number ≤ 64))
+    × ((length (flat ss number) ≤ 2 ^ 40) × (height ss number ≤ 64))
 unfolding flats heights
 shelf_size ss number nodes w top is =
     let s = w.submission in

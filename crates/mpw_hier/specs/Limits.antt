@@ -25,9 +25,9 @@ pub record IsFar (ss : List Submission) (s : Submission) : Type 0 where
   pub extent : extent_of (structure_items (flats ss) s structure) ≡ Some box
   pub far : is_box_near box ≡ false
 
--- More than 2^20 shapes in the flat list.
-abbrev pub is_too_large : List Submission → Submission → Bool
-is_too_large ss s = nat_lt (2 ^ 20) (length (flat_of (flats ss) s))
+-- More shapes in the flat list than may be at most.
+abbrev pub is_too_large : (most : ℕ) → List Submission → Submission → Bool
+is_too_large most ss s = nat_lt most (length (flat_of (flats ss) s))
 
 -- More than 64 levels.
 abbrev pub is_too_deep : List Submission → Submission → Bool
@@ -48,18 +48,19 @@ pub record IsBound (ss : List Submission) (s : Submission) : Type 0 where
   pub externals : AreExternals s.library s.top names
   pub bound : bound_to ss names ≡ Some s.bound
 
--- All limits are kept.
-pub record KeepsLimits (ss : List Submission) (s : Submission) : Type 0 where
+-- All limits are kept, where the flat list may have so many shapes at most.
+pub record KeepsLimits (most : ℕ) (ss : List Submission) (s : Submission) : Type 0 where
   pub near : IsFar ss s → ⊥
-  pub small : is_too_large ss s ≡ false
+  pub small : is_too_large most ss s ≡ false
   pub low : is_too_deep ss s ≡ false
   pub room : has_room_for ss s.cell ≡ true
 
--- A submission behind others, as it was put on the shelf: read, bound to those before it, within the limits, and with its version.
+-- A submission behind others, as it was put on the shelf: read, bound to those before it, within the limits of any shelf, of which
+-- that on shapes is 2^40, and with its version.
 pub record IsSubmitted (ss : List Submission) (s : Submission) : Type 0 where
   pub read : IsLibrary s.library
   pub bound : IsBound ss s
-  pub kept : KeepsLimits ss s
+  pub kept : KeepsLimits (2 ^ 40) ss s
   pub version : s.version ≡ versions ss s.cell + 1
 
 -- Each submission of a shelf is so behind those before it.
@@ -67,16 +68,17 @@ abbrev pub IsShelf : List Submission → Type 0
 IsShelf ss =
     (number : ℕ) (s : Submission) → slice_get ss number ≡ Some s → IsSubmitted (take number ss) s
 
--- Why a submission that is bound is refused: the first limit that it doesn't keep, or want of memory.
-abbrev pub IsRefused : List Submission → Submission → HierFault → Type 0
-IsRefused ss s faults.Memory = Unit {0}
-IsRefused ss s faults.Extent = IsFar ss s
-IsRefused ss s faults.Shapes = (IsFar ss s → ⊥) × (is_too_large ss s ≡ true)
-IsRefused ss s faults.Deep =
-    (IsFar ss s → ⊥) × ((is_too_large ss s ≡ false) × (is_too_deep ss s ≡ true))
-IsRefused ss s faults.Full = (IsFar ss s → ⊥)
-    × ((is_too_large ss s ≡ false) × ((is_too_deep ss s ≡ false)
+-- Why a submission that is bound is refused, where the flat list may have so many shapes at most: the first limit that it
+-- doesn't keep, or want of memory.
+abbrev pub IsRefused : (most : ℕ) → List Submission → Submission → HierFault → Type 0
+IsRefused most ss s faults.Memory = Unit {0}
+IsRefused most ss s faults.Extent = IsFar ss s
+IsRefused most ss s faults.Shapes = (IsFar ss s → ⊥) × (is_too_large most ss s ≡ true)
+IsRefused most ss s faults.Deep =
+    (IsFar ss s → ⊥) × ((is_too_large most ss s ≡ false) × (is_too_deep ss s ≡ true))
+IsRefused most ss s faults.Full = (IsFar ss s → ⊥)
+    × ((is_too_large most ss s ≡ false) × ((is_too_deep ss s ≡ false)
     × (has_room_for ss s.cell ≡ false)))
-IsRefused ss s faults.NoTop = ⊥
-IsRefused ss s faults.Cycle = ⊥
-IsRefused ss s faults.NoCell = ⊥
+IsRefused most ss s faults.NoTop = ⊥
+IsRefused most ss s faults.Cycle = ⊥
+IsRefused most ss s faults.NoCell = ⊥

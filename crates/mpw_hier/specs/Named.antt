@@ -66,7 +66,7 @@ OuterNamesAreShown =
 -- The last node of a submission has the size of what the submission shows, and keeps to the limits.
 pub record IsShownByLast (ss : List Submission) (number : ℕ) (top : Node) : Type 0 where
   pub size : IsSizeOf (flat ss number) (height ss number) top.size
-  pub few : length (flat ss number) ≤ 2 ^ 20
+  pub few : length (flat ss number) ≤ 2 ^ 40
   pub low : height ss number ≤ 64
 
 abbrev pub LastNodesAreTops : Type 0

@@ -105,7 +105,7 @@ pub record AreNodesOf (before : List (List Item)) (levels : List ℕ) (s : Submi
   pub some : 0 < length nodes
   pub last : slice_get nodes (length nodes - 1) ≡ Some top
   pub top_named : place_of s.library s.top ≡ Some top.structure
-  pub count : length (flat_of before s) ≤ 2 ^ 20
+  pub count : length (flat_of before s) ≤ 2 ^ 40
   pub height : height_of levels s ≤ 64
 
 -- The nodes of the submission of a number on a shelf.

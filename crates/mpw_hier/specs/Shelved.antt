@@ -41,7 +41,7 @@ ShapesAreOfEarlier = (ss : List Submission) (number : ℕ) → All (IsOrigin ss 
 
 -- What the submission of a number shows keeps to the limits.
 pub record IsLimited (ss : List Submission) (number : ℕ) : Type 0 where
-  pub few : count ss number ≤ 2 ^ 20
+  pub few : count ss number ≤ 2 ^ 40
   pub low : height ss number ≤ 64
   pub near : IsExtentNear (extent ss number)
 

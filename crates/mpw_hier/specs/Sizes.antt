@@ -15,9 +15,9 @@ pub record Total : Type 0 where
 abbrev pub IsExtentNear : Option Box2 → Type 0
 IsExtentNear extent = IfSome extent (λ box. is_box_near box ≡ true)
 
--- A size tells a total: a count beyond 2^20 as 2^20 + 1, and levels beyond 64 as 65.
+-- A size tells a total: a count beyond 2^40 as 2^40 + 1, and levels beyond 64 as 65.
 pub record IsToldBy (total : Total) (size : Size) : Type 0 where
-  pub count : size.count ≡ min (2 ^ 20 + 1) total.count
+  pub count : size.count ≡ min (2 ^ 40 + 1) total.count
   pub height : size.height ≡ min 65 total.levels
   pub extent : size.extent ≡ total.extent
   pub near : IsExtentNear size.extent

@@ -22,7 +22,7 @@ pub enum HierFault {
     /// The extent of a structure of the library that the top reaches, the top itself among them, in its own coordinates, goes
     /// beyond -2^30 to 2^30 nm.
     Extent,
-    /// More than 2^20 flat shapes.
+    /// More flat shapes than the shelf was asked to take.
     Shapes,
     /// More than 64 levels.
     Deep,

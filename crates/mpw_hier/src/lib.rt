@@ -36,7 +36,7 @@ pub use laws::{
 pub use node::{Child, Node, Nodes, Target};
 pub use outline::Outline;
 pub use shelf::Shelf;
-pub use size::Size;
+pub use size::{MAX_SHAPES, Size};
 pub use size_box::{hull, is_box_near};
 pub use size_shape::element_box;
 pub use submission::Submission;

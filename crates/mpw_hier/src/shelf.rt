@@ -146,7 +146,7 @@ impl Shelf {
     /// How much the submission of a number shows. Takes no memory.
     fn size(&self, number: u32) -> Option<Size>
         ensures some { IfSome result (IsSizeOf (flat self.now number) (height self.now number)) }
-        ensures few { IfSome result (λ size. count self.now number ≤ 2 ^ 20) }
+        ensures few { IfSome result (λ size. count self.now number ≤ 2 ^ 40) }
         ensures low { IfSome result (λ size. height self.now number ≤ 64) }
         ensures none { IfNone result (slice_get self.now number ≡ None) }
     {
@@ -156,9 +156,10 @@ impl Shelf {
         }
     }
 
-    /// The number of flat shapes of a submission, 0 to 2^20; 0 where there is none of that number.
-    pub fn count(&self, number: u32) -> u32
-        ensures { result ≡ count self.now number }
+    /// The number of flat shapes of a submission, 0 to 2^40; 0 where there is none of that number.
+    pub fn count(&self, number: u32) -> u64
+        ensures count { result ≡ count self.now number }
+        ensures few { result ≤ 2 ^ 40 }
     {
         match self.size(number) {
             Some(size) => size.count,
@@ -217,14 +218,15 @@ impl Shelf {
     }
 
     /// Puts a submission on the shelf, with the next version of its cell. The result is its number. The outline is that of
-    /// its library and top, and its bindings are those of the outline's names. Copies of the shelf stay as they were.
+    /// its library and top, and its bindings are those of the outline's names. It may show `most` flat shapes, which are
+    /// [`crate::MAX_SHAPES`] at most. Copies of the shelf stay as they were.
     ///
     /// Linear in the number of submissions, which share what they hold, and in the library, with a search for each name,
     /// however deep its structures are.
     ///
     /// # Errors
     /// In this order: `Extent` where a structure that the top reaches has an extent beyond -2^30 to
-    /// 2^30 nm in its own coordinates, `Shapes` above 2^20 flat shapes, `Deep` above 64 levels, `Full`
+    /// 2^30 nm in its own coordinates, `Shapes` above `most` flat shapes, `Deep` above 64 levels, `Full`
     /// where there are 4096 submissions, or 1024 cells and this would be another; or want of memory.
     /// The shelf is then as before.
     pub fn put(
@@ -232,20 +234,22 @@ impl Shelf {
         alloc: Global,
         submission: Submission,
         outline: &Outline,
+        most: u64,
     ) -> Result<u32, HierFault>
         requires library { IsLibrary submission.library }
         requires outline { IsOutline submission.library submission.top outline.now }
         requires bound { bound_to self.old outline.now.names ≡ Some submission.bound }
+        requires most { most ≤ 2 ^ 40 }
         ensures ok { OnOk result (self.new ≡ self.old ++ numbered self.old submission ∷ []) }
         ensures number { IfOk result (λ number. number ≡ length self.old) }
-        ensures kept { OnOk result (KeepsLimits self.old submission) }
+        ensures kept { OnOk result (KeepsLimits most self.old submission) }
         ensures err { OnErr result (self.new ≡ self.old) }
-        ensures faults { IfErr result (IsRefused self.old submission) }
+        ensures faults { IfErr result (IsRefused most self.old submission) }
     {
         let mut table = self.table(alloc)?;
         let mut submission = submission;
         submission.version = table.next_version(&submission.cell);
-        let nodes = nodes_within(alloc, &table, &submission, outline)?;
+        let nodes = nodes_within(alloc, &table, &submission, outline, most)?;
         let number = table.append(submission, nodes)?;
         self.table = Some(Arc::new(alloc, table)?);
         Ok(number)
@@ -263,7 +267,7 @@ fn cells_of(alloc: Global, submissions: &[Submission]) -> Result<Names, AllocErr
     Ok(cells)
 }
 
-/// The nodes of a submission that keeps the limits of a table.
+/// The nodes of a submission that keeps the limits of a table, with so many flat shapes at most.
 ///
 /// # Errors
 /// As those of [`Shelf::put`].
@@ -272,16 +276,19 @@ fn nodes_within(
     table: &Table,
     submission: &Submission,
     outline: &Outline,
+    most: u64,
 ) -> Result<Nodes, HierFault>
     requires library { IsLibrary submission.now.library }
     requires outline { IsOutline submission.now.library submission.now.top outline.now }
     requires bound { IsBound table.now submission.now }
+    requires most { most ≤ 2 ^ 40 }
     ensures nodes { IfOk result (λ nodes. AreNodesOf (flats table.now) (heights table.now) submission.now nodes) }
-    ensures kept { OnOk result (KeepsLimits table.now submission.now) }
-    ensures faults { IfErr result (IsRefused table.now submission.now) }
+    ensures kept { OnOk result (KeepsLimits most table.now submission.now) }
+    ensures limited { OnOk result (KeepsLimits (2 ^ 40) table.now submission.now) }
+    ensures faults { IfErr result (IsRefused most table.now submission.now) }
 {
     let nodes = nodes_of(alloc, table, submission, outline)?;
-    table.test_limits(submission, &nodes)?;
+    table.test_limits(submission, &nodes, most)?;
     let shared = Nodes::from_vec(alloc, nodes)?;
     Ok(shared)
 }

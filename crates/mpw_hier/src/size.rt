@@ -20,8 +20,11 @@ use crate::size_shape::element_box;
 use mpw_geom::Box2;
 use mpw_structures::{Element, Reference, Structure};
 
-/// The count that stands for all beyond the limit of 2^20.
-const MANY: u32 = (1 << 20) + 1;
+/// The greatest limit of flat shapes that a shelf may be given for a submission, 2^40. A size tells a count exactly up to it.
+pub const MAX_SHAPES: u64 = 1 << 40;
+
+/// The count that stands for all beyond the limit of 2^40.
+const MANY: u64 = MAX_SHAPES + 1;
 
 /// The height that stands for all beyond the limit of 64.
 const DEEP: u32 = 65;
@@ -29,8 +32,8 @@ const DEEP: u32 = 65;
 /// What a structure shows, up to the limits.
 #[derive(Clone, Copy)]
 pub struct Size {
-    /// Flat shapes, at most 2^20 + 1, which stands for all beyond the limit.
-    pub count: u32,
+    /// Flat shapes, at most 2^40 + 1, which stands for all beyond the limit.
+    pub count: u64,
     /// Levels, at most 65, which stands for all beyond the limit.
     pub height: u32,
     /// The least box of all shapes' boxes, in nm; none without any.
@@ -81,12 +84,11 @@ fn shape_size(element: &Element) -> Option<Size>
 }
 
 /// As many shapes for each instance, up to the limit.
-fn array_count(reference: &Reference, count: u32) -> u32
-    ensures { result ≡ min (2 ^ 20 + 1) (reference.now.columns * reference.now.rows * count) }
+fn array_count(reference: &Reference, count: u64) -> u64
+    ensures { result ≡ min (2 ^ 40 + 1) (reference.now.columns * reference.now.rows * count) }
 {
     let instances = u64::from(reference.columns) * u64::from(reference.rows);
-    let all = instances * u64::from(count);
-    all.min(u64::from(MANY)) as u32
+    instances.saturating_mul(count).min(MANY)
 }
 
 /// The size of all instances of a target; none where they reach beyond 2^30 nm.

@@ -18,9 +18,6 @@ use std::alloc::{AllocError, Global};
 use std::collections::BTreeMap;
 use std::marker::Model;
 
-/// The most flat shapes of a submission.
-const MAX_SHAPES: u32 = 1 << 20;
-
 /// The most levels of a submission.
 const MAX_HEIGHT: u32 = 64;
 
@@ -128,7 +125,7 @@ impl Table {
     /// How much the submission of a number shows. Takes no memory.
     pub fn size(&self, number: u32) -> Option<Size>
         ensures some { IfSome result (IsSizeOf (flat self.now number) (height self.now number)) }
-        ensures few { IfSome result (λ size. count self.now number ≤ 2 ^ 20) }
+        ensures few { IfSome result (λ size. count self.now number ≤ 2 ^ 40) }
         ensures low { IfSome result (λ size. height self.now number ≤ 64) }
         ensures none { IfNone result (slice_get self.now number ≡ None) }
     {
@@ -154,18 +151,25 @@ impl Table {
             && (self.present(cell).is_some() || self.present.len() < MAX_CELLS)
     }
 
-    /// Tests the limits of a submission of these nodes: its shapes, its levels, and the room for it.
+    /// Tests the limits of a submission of these nodes: its shapes, which may be at most so many, its levels, and the room
+    /// for it.
     ///
     /// # Errors
-    /// In this order: `Shapes` above 2^20 flat shapes, `Deep` above 64 levels, `Full` where there are 4096
+    /// In this order: `Shapes` where there are more, `Deep` above 64 levels, `Full` where there are 4096
     /// submissions, or 1024 cells and this would be another.
-    pub fn test_limits(&self, submission: &Submission, nodes: &[Node]) -> Result<(), HierFault>
-        requires { IsHierarchy self.now submission.now nodes.now }
-        ensures kept { OnOk result (KeepsLimits self.now submission.now) }
-        ensures faults { IfErr result (IsRefused self.now submission.now) }
+    pub fn test_limits(
+        &self,
+        submission: &Submission,
+        nodes: &[Node],
+        most: u64,
+    ) -> Result<(), HierFault>
+        requires nodes { IsHierarchy self.now submission.now nodes.now }
+        requires most { most ≤ 2 ^ 40 }
+        ensures kept { OnOk result (KeepsLimits most self.now submission.now) }
+        ensures faults { IfErr result (IsRefused most self.now submission.now) }
     {
         let size = nodes[nodes.len() - 1].size;
-        if size.count > MAX_SHAPES {
+        if size.count > most {
             return Err(HierFault::Shapes);
         }
         if size.height > MAX_HEIGHT {

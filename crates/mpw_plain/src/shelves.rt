@@ -1,10 +1,11 @@
 //! Submissions on a shelf, and roots.
 
+ghost use Rattle.std.specs.Prelude.{◌≤◌, ◌^◌};
 ghost use Rattle.mpw_structures.specs.Library.{IsLibrary};
 
 use anyhow::{Result, bail};
 use mpw_geom::Name;
-use mpw_hier::{HierFault, Outline, Shelf, Submission};
+use mpw_hier::{HierFault, MAX_SHAPES, Outline, Shelf, Submission};
 use mpw_library::read_library;
 use mpw_samples::text_of_library;
 use mpw_structures::Library;
@@ -12,15 +13,17 @@ use mpw_walk::Root;
 use mpw_words::{number, placing};
 use std::alloc::Global;
 
-/// Submits the top of a library as a cell.
+/// Submits the top of a library, which may show so many shapes, as a cell.
 fn put(
     alloc: Global,
     shelf: &mut Shelf,
     cell: Name,
     top: Name,
     library: Library,
+    most: u64,
 ) -> Result<u32, HierFault>
-    requires { IsLibrary library }
+    requires library { IsLibrary library }
+    requires most { most ≤ 2 ^ 40 }
 {
     let outline = Outline::new(alloc, &library, &top)?;
     let bound = shelf.bind(alloc, outline.names.as_slice())?;
@@ -32,7 +35,7 @@ fn put(
         top,
         bound,
     };
-    shelf.put(alloc, submission, &outline)
+    shelf.put(alloc, submission, &outline, most)
 }
 
 /// Submits the top of a library in the samples' notation as a cell.
@@ -49,7 +52,8 @@ pub fn submit(
     submit_text(alloc, shelf, cell, top, &text_of_library(alloc, notation)?)
 }
 
-/// Submits the top of a library as a cell: the number of the submission, or why the shelf refuses it.
+/// Submits the top of a library, which may show so many shapes, as a cell: the number of the submission, or why the shelf
+/// refuses it.
 ///
 /// # Errors
 /// Where the library or a name is refused, or there is no memory.
@@ -59,11 +63,14 @@ pub fn put_text(
     cell: &str,
     top: &str,
     text: &[u8],
-) -> Result<Result<u32, HierFault>> {
+    most: u64,
+) -> Result<Result<u32, HierFault>>
+    requires { most ≤ 2 ^ 40 }
+{
     let library = read_library(alloc, text)?;
     let cell = Name::read(alloc, cell.as_bytes())?;
     let top = Name::read(alloc, top.as_bytes())?;
-    Ok(put(alloc, shelf, cell, top, library))
+    Ok(put(alloc, shelf, cell, top, library, most))
 }
 
 /// Submits the top of a library as a cell.
@@ -77,7 +84,7 @@ pub fn submit_text(
     top: &str,
     text: &[u8],
 ) -> Result<()> {
-    put_text(alloc, shelf, cell, top, text)??;
+    put_text(alloc, shelf, cell, top, text, MAX_SHAPES)??;
     Ok(())
 }
 

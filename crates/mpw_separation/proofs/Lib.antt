@@ -1,3 +1,4 @@
 pub mod BrokenLemmas
+mod FormLemmas
 pub mod NamedLemmas
 pub mod PlacedLemmas

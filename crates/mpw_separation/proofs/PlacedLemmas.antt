@@ -1,73 +1,17 @@
 -- Sets with the places of their roles.
 use Rattle.std.proofs.Common.{◌≡◌, ℕ, zero, suc, ◌<◌, ◌≤◌, Bool, true, false, ◌&&◌, List, [], ◌∷◌, length, filter, get_or, map, refl, sym, ap, subst, ◌∙◌, true≢false, not, cond, Ok, arith}
-use Rattle.std.specs.Prelude.{T, nat_le}
-use Rattle.std.specs.List.{IsDistinct, AllByRecursion}
-use Rattle.std.specs.Ordering.{is_lt, is_eq}
-use Rattle.std.specs.declared.cmp.Ordering.{Ordering}
-use Rattle.std.specs.declared.cmp.Ordering.TheVariants.{Less, Equal, Greater}
-use Rattle.std.specs.Cmp.Lexicographic.{nat_list_cmp_total, texts_ties}
-use Rattle.std.specs.FinMap.Entries.{is_sorted, below_all, is_sorted-put}
-use Rattle.std.proofs.lemmas.Bool.{eqb-true}
-use Rattle.std.proofs.lemmas.Cmp.{nat_list_eq_equiv}
-use Rattle.std.proofs.lemmas.Map.Keys.{IsDistinct-cons}
-use Rattle.std.proofs.lemmas.Map.Made.{IsDistinct-from_count, length-from_keys}
-use Rattle.mpw_geom.specs.Names.{name_eq, name_cmp, placed_by_name, by_name}
-use Rattle.mpw_geom.proofs.NamesLemmas.{in_by_name}
+use Rattle.std.specs.Prelude.{nat_le}
+use Rattle.std.specs.List.{IsDistinct}
+use Rattle.mpw_geom.specs.Names.{name_eq}
 use Rattle.mpw_roles.specs.declared.mask.Mask.{Mask}
 use Rattle.mpw_roles.specs.Hierarchy.{Name, Hierarchy, role_names}
 use Rattle.mpw_roles.specs.Mask.{common}
-use Rattle.mpw_roles.specs.Order.{IsHierarchy}
-use Rattle.mpw_roles.proofs.NamedLemmas.{common-below}
+use Rattle.mpw_roles.specs.Order.{IsHierarchy, are_distinct}
+use Rattle.mpw_roles.proofs.NamedLemmas.{names-apart, common-below}
 use Rattle.mpw_separation.specs.Placed.{IsPlaced, IsBelow, role_lists}
 use Rattle.mpw_separation.specs.Rows as rows
 use Rattle.mpw_separation.specs.Separation.{breaks, has_set, without_set}
-use Rattle.mpw_separation.specs.Set.{SeparationSet, are_distinct, has_form}
-
-abbrev Entry : Type 0
-Entry = Name × Unit {0}
-
-first_part : (a b : Bool) → T (a && b) → T a
-first_part true b t = tt
-first_part false b t = t
-
-second_part : (a b : Bool) → T (a && b) → T b
-second_part true b t = t
-second_part false b t = absurd t
-
-apart_less : (o : Ordering) → T (is_lt o) → is_eq o ≡ false
-apart_less Less t = refl
-apart_less Equal t = absurd t
-apart_less Greater t = refl
-
-below-apart : (n : Name) (es : List Entry) → T (below_all name_cmp n es)
-    → AllByRecursion (λ y. name_eq n y ≡ false) (map (λ (e : Entry). e.0) es)
-below-apart n [] t = tt
-below-apart n (e ∷ es) t = (
-  texts_ties n e.0 ∙ apart_less (name_cmp n e.0) (first_part (is_lt (name_cmp n e.0))
-      (below_all name_cmp n es) t),
-  below-apart n es (second_part (is_lt (name_cmp n e.0)) (below_all name_cmp n es) t),
-)
-
-sorted-apart : (es : List Entry) → T (is_sorted name_cmp es)
-    → IsDistinct name_eq (map (λ (e : Entry). e.0) es)
-unfolding IsDistinct
-sorted-apart [] t = tt
-sorted-apart (e ∷ es) t =
-    IsDistinct-cons name_eq e.0 (map (λ (x : Entry). x.0) es)
-    (below-apart e.0 es (first_part (below_all name_cmp e.0 es) (is_sorted name_cmp es) t))
-    (sorted-apart es (second_part (below_all name_cmp e.0 es) (is_sorted name_cmp es) t))
-
-placed-sorted : (ns : List Name) → T (is_sorted name_cmp (placed_by_name ns))
-placed-sorted [] = tt
-placed-sorted (n ∷ ns) = is_sorted-put name_cmp nat_list_cmp_total n tt _ (placed-sorted ns)
-
--- names that are as many by name, each once, are distinct
-pub distinct-names : (ns : List Name) → are_distinct ns ≡ true → IsDistinct name_eq ns
-distinct-names ns as_many =
-    let counted = length-from_keys nat_list_eq_equiv (by_name ns) ns
-    (sorted-apart (placed_by_name ns) (placed-sorted ns)) (λ q. in_by_name q ns) in
-    IsDistinct-from_count nat_list_eq_equiv ns
-    (sym counted ∙ eqb-true (length (by_name ns)) (length ns) as_many)
+use Rattle.mpw_separation.specs.Set.{SeparationSet, has_form}
 
 last_part : (a b c : Bool) → (a && (b && c)) ≡ true → c ≡ true
 last_part true true c e = e
@@ -75,7 +19,7 @@ last_part true false c e = absurd (true≢false (sym e))
 last_part false b c e = absurd (true≢false (sym e))
 
 pub form-distinct : (set : SeparationSet) → has_form set ≡ true → IsDistinct name_eq set.roles
-form-distinct set form = distinct-names set.roles
+form-distinct set form = names-apart set.roles
     (last_part (nat_le 2 set.cardinality) (nat_le set.cardinality (length set.roles))
     (are_distinct set.roles) form)
 

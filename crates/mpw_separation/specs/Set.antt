@@ -1,16 +1,12 @@
 -- A set of roles of which nobody may have as many as its cardinality (ANSI INCITS 359-2004, 6.3 and 6.4).
-use Rattle.std.specs.Prelude.{ℕ, Bool, ◌&&◌, ◌==◌, nat_le, List, length, Option, Some, None, if◌then◌else◌}
-use Rattle.mpw_geom.specs.Names.{by_name}
+use Rattle.std.specs.Prelude.{ℕ, Bool, ◌&&◌, nat_le, List, length, Option, Some, None, if◌then◌else◌}
 use Rattle.mpw_roles.specs.Hierarchy.{Name}
+use Rattle.mpw_roles.specs.Order.{are_distinct}
 
 pub record SeparationSet : Type 0 where
   pub name : Name
   pub cardinality : ℕ
   pub roles : List Name
-
--- no name stands twice: by name, each once, they are as many
-abbrev pub are_distinct : List Name → Bool
-are_distinct names = length (by_name names) == length names
 
 -- the form of every set: the cardinality is from 2 to the number of the roles, and no role stands twice
 abbrev pub has_form : SeparationSet → Bool

@@ -2,10 +2,10 @@
 ghost use Rattle.std.specs.Prelude.{◌≡◌, ℕ, List, true, nat_le, count_by, IfOk};
 ghost use Rattle.mpw_geom.specs.Names.{contains_name};
 ghost use Rattle.mpw_roles.specs.Hierarchy.{Hierarchy, role_names};
-ghost use Rattle.mpw_roles.specs.Order.{IsHierarchy};
+ghost use Rattle.mpw_roles.specs.Order.{IsHierarchy, are_distinct};
 ghost use Rattle.mpw_separation.specs.Placed.{IsPlaced, IsBelow};
 ghost use Rattle.mpw_separation.specs.Separation.{breaks, is_reached, has_role};
-ghost use Rattle.mpw_separation.specs.Set.{are_distinct, formed, has_form};
+ghost use Rattle.mpw_separation.specs.Set.{formed, has_form};
 
 use mpw_geom::{Name, Names};
 use mpw_lists::Shared;

@@ -7,7 +7,8 @@ use Rattle.mpw_region.specs.Squares.{covers}
 use Rattle.mpw_deck.specs.declared.rule.Rule.{Rule}
 use Rattle.mpw_edges.specs.declared.run.Axis.{Axis}
 use Rattle.mpw_edges.specs.Pieces.{IsInCore, HasStep}
-use Rattle.mpw_edges.specs.Laws.{widened, AreSameIn}
+use Rattle.mpw_geom.specs.Plane.{widened}
+use Rattle.mpw_edges.specs.Laws.{AreSameIn}
 
 -- the pair steps of the boxes' squares in the core
 abbrev pub StepsIn : Rule → List Box2 → List Box2 → Box2 → Axis → Line → ℤ → Type 0

@@ -9,14 +9,14 @@ returns-in_err-nodes-clause-faults c =
     let s = c.args.submission in
     let version = c.next_version.result in
     let fault = c.in_err-nodes.field-0.0 in
-    refused ℕ c.args.self.now s c.from_residual-in_err-nodes.result fault
+    refused ℕ c.args.most c.args.self.now s c.from_residual-in_err-nodes.result fault
     c.from_residual-in_err-nodes.ensures.1
-    (refused_as c.args.self.now s version fault (subst (λ (ss : List Submission). IsRefused ss
+    (refused_as c.args.most c.args.self.now s version fault (subst (λ (ss : List Submission). IsRefused c.args.most ss
     (record s { version = version }) fault) c.in_ok-table.ensures c.in_err-nodes.ensures.faults))
 
 pub returns-clause-kept : goal.returns-clause-kept
 returns-clause-kept c =
     let s = c.args.submission in
     let version = c.next_version.result in
-    kept_as c.args.self.now s version (subst (λ (ss : List Submission). KeepsLimits ss
+    kept_as c.args.most c.args.self.now s version (subst (λ (ss : List Submission). KeepsLimits c.args.most ss
     (record s { version = version })) c.in_ok-table.ensures c.in_ok-nodes.ensures.kept)
