@@ -8,6 +8,7 @@ use Rattle.mpw_geom.specs.declared.plane.Box2.{Box2}
 use Rattle.mpw_geom.specs.declared.plane.Point.{Point}
 use Rattle.mpw_geom.specs.declared.placing.Placing.{Placing}
 use Rattle.mpw_structures.specs.declared.element.Reference.{Reference}
+use Rattle.mpw_structures.specs.Element.{IsReference}
 use Rattle.mpw_hier.specs.declared.node.Target.{Target}
 use Rattle.mpw_hier.specs.declared.submission.Submission.{Submission}
 use Rattle.mpw_hier.specs.Items.{Item, placed_item, placed_again, instance}
@@ -21,6 +22,7 @@ use Rattle.mpw_walk.specs.Turns.{Turn, enter, given, placed_turn}
 use Rattle.mpw_walk.specs.Frames.{named_turns, turns_to_come, turns_within, IsWithin}
 use Rattle.mpw_walk.specs.Internal.Frames.{IsNext, IsNearArray, Shows, ShowsName, behind_instance}
 use Rattle.mpw_walk.specs.Internal.Named.{NamesAreWalked}
+use Rattle.mpw_walk.specs.Internal.Skips.{Skips}
 use Rattle.mpw_walk.specs.Internal.Stack.{Stack}
 use Rattle.mpw_walk.specs.Near.{IsCloseItem}
 use Rattle.mpw_walk.specs.Window.{is_in, taken}
@@ -29,11 +31,10 @@ use Rattle.mpw_walk.proofs.Placings.{then_is}
 use Rattle.mpw_walk.proofs.Given.{given_append, given_placed}
 use Rattle.mpw_walk.proofs.Entered.{named_give}
 use Rattle.mpw_walk.proofs.Shows.{placed_shows}
-use Rattle.mpw_walk.proofs.Nexts.{behind_frame, behind_cases, instance_next}
+use Rattle.mpw_walk.proofs.Nexts.{behind_frame, behind_cases, instance_next, rows_read}
 use Rattle.mpw_walk.proofs.Depth.{frame_high, less_high}
 use Rattle.mpw_walk.proofs.Reach.{all_left, shows_close, first_short, near_array}
-use Rattle.mpw_walk.proofs.Held.{named_holds}
-use Rattle.mpw_walk.proofs.Taken.{taken_out, missed_taken}
+use Rattle.mpw_walk.proofs.Passing.{IsAt, Passes, skip_passes}
 use Rattle.mpw_walk.proofs.Targets.{next_shows}
 use Rattle.mpw_walk.proofs.FrameStacks.{left_more, IsEach, each_front, each_push}
 use Rattle.mpw_walk.proofs.Steps.{Comes, ahead, passes, enters, last_frame, last_low}
@@ -58,6 +59,9 @@ module _ (law : NamesAreWalked) (v : Way) (f : Frame) (w : IsWay v (v.frames.ite
 
   pub child_within : f.child < length f.node.now.children.items
   child_within = slice_get_within f.node.now.children.items f.child x.child x.child_is
+
+  pub read : IsReference r
+  read = rows_read v.shelf.now f (last_frame v f w) x.child.element r x.reference_is
 
   abbrev below : List Item
   below = structure_items (flats (take f.submission v.shelf.now)) (last_frame v f w).submission r.name
@@ -107,6 +111,33 @@ module _ (law : NamesAreWalked) (v : Way) (f : Frame) (w : IsWay v (v.frames.ite
           (append_assoc shown (turns_to_come ss (behind_instance f r)) (ahead v v.frames.items)
           ∙ ap (λ turns. shown ++ turns)
           (sym (left_more ss v.roots.now v.root v.frames.items (behind_instance f r))))
+
+      at_array : IsAt law.extents v.shelf.now v.window target r f
+      at_array = record { frame = last_frame v f w; next = x; over = over; some = some_turns }
+
+      -- what misses the window is passed over
+      passes_over : (h : Frame) → Passes v.shelf.now v.window f h → (stack : Stack)
+          → stack.items ≡ v.frames.items ++ h ∷ []
+          → Comes steps.On v (v.frames.items ++ f ∷ []) (record v { frames = stack })
+      passes_over h p stack is =
+          let ss = v.shelf.now in
+          let front = v.frames.items in
+          let low = last_low v f w in
+          let left : ahead v (front ++ f ∷ []) ≡ p.gone ++ ahead v (front ++ h ∷ []) =
+          left_more ss v.roots.now v.root front f
+          ∙ ap (λ turns. turns ++ ahead v front) p.left
+          ∙ append_assoc p.gone (turns_to_come ss h) (ahead v front)
+          ∙ ap (λ turns. p.gone ++ turns) (sym (left_more ss v.roots.now v.root front h)) in
+          passes v (front ++ f ∷ []) w v.root (front ++ h ∷ []) w.begun
+          (each_push ss front h (each_front ss front f w.each) p.frame
+          (omega (arith, low, p.low)))
+          stack is p.gone left p.none
+          (omega (
+            arith,
+            p.some,
+            length-append front (h ∷ []),
+            length-append front (f ∷ []),
+          ))
 
       placing_short : IsWithin (next_placing f r).by
       placing_short =
@@ -165,16 +196,18 @@ module _ (law : NamesAreWalked) (v : Way) (f : Frame) (w : IsWay v (v.frames.ite
             short
 
         -- the extent of its node, placed
-        told : (b : Bool) → is_in v.window (option_map (placed_box p) g.node.now.size.extent) ≡ b
-            → is_in v.window (extent_there v.shelf.now f r) ≡ b
-        told b h =
+        placed_extent : option_map (placed_box p) g.node.now.size.extent
+            ≡ extent_there v.shelf.now f r
+        placed_extent =
             let size : g.node.now.size.extent
             ≡ extent_of (given (named_turns v.shelf.now f.submission r.name)) =
             inner_shows.size.extent ∙ ap extent_of (sym below_given) in
-            let extent =
             ap (λ t. option_map (placed_box t) g.node.now.size.extent) p_is
-            ∙ ap (option_map (placed_box (next_placing f r))) size in
-            sym (ap (is_in v.window) extent) ∙ h
+            ∙ ap (option_map (placed_box (next_placing f r))) size
+
+        told : (b : Bool) → is_in v.window (option_map (placed_box p) g.node.now.size.extent) ≡ b
+            → is_in v.window (extent_there v.shelf.now f r) ≡ b
+        told b h = sym (ap (is_in v.window) placed_extent) ∙ h
 
         inner_turns : turns_to_come v.shelf.now (record g { placing = p })
             ≡ shown_there v.shelf.now f r
@@ -211,24 +244,14 @@ module _ (law : NamesAreWalked) (v : Way) (f : Frame) (w : IsWay v (v.frames.ite
               length-append v.frames.items (f ∷ []),
             ))
 
-        -- an instance that misses the window is passed over, with all that it shows
-        pub misses_instance : is_in v.window (option_map (placed_box p) g.node.now.size.extent)
-            ≡ false → (stack : Stack) → stack.items ≡ behind
+        -- an instance that misses the window is passed over, with all that it shows, and with those that a step by division leaves out
+        pub misses_instances : is_in v.window (option_map (placed_box p) g.node.now.size.extent)
+            ≡ false → (h : Frame)
+            → Skips f r (option_map (placed_box p) g.node.now.size.extent) v.window h
+            → (stack : Stack) → stack.items ≡ v.frames.items ++ h ∷ []
             → Comes steps.On v (v.frames.items ++ f ∷ []) (record v { frames = stack })
-        misses_instance missed stack is =
-            let q = last_frame v f w in
-            let extent = extent_there v.shelf.now f r in
-            let shown = shown_there v.shelf.now f r in
-            let none : taken v.window (enter extent ∷ shown) ≡ [] =
-            taken_out v.window (enter extent) shown (told false missed)
-            ∙ missed_taken law.extents v.window (next_placing f r)
-            (named_turns v.shelf.now f.submission r.name)
-            (named_holds law.extents.placed v.shelf.now f.submission q.submission q.is r.name)
-            (told false missed) in
-            passes v (v.frames.items ++ f ∷ []) w v.root behind w.begun behind_each stack is
-            (enter extent ∷ shown) missed_left none
-            (omega (
-              arith,
-              length-append v.frames.items (behind_instance f r ∷ []),
-              length-append v.frames.items (f ∷ []),
-            ))
+        misses_instances missed h skips stack is =
+            passes_over h
+            (skip_passes law.extents v.shelf.now v.window target r f at_array (told false missed) h
+            (subst (λ o. Skips f r o v.window h) placed_extent skips))
+            stack is

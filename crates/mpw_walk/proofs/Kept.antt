@@ -10,7 +10,7 @@ use Rattle.mpw_walk.specs.Way.{AreRead}
 -- libraries as reading gives them, and submissions within the limits
 pub record IsKept (ss : List Submission) : Type 0 where
   pub read : AreRead ss
-  pub counts : (number : ℕ) → count ss number ≤ 2 ^ 20
+  pub counts : (number : ℕ) → count ss number ≤ 2 ^ 40
   pub heights : (number : ℕ) → height ss number ≤ 64
 
 pub shelf_kept : ShelvesAreLimited → (ss : List Submission) → IsShelf ss → IsKept ss

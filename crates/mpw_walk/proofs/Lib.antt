@@ -28,3 +28,6 @@ pub mod EnteredRoots
 pub mod Kept
 pub mod Starts
 pub mod Stacked
+pub mod Skipping
+pub mod Lattice
+pub mod Passing

@@ -106,7 +106,7 @@ behind_cases f r P column row child =
     go false e true h = row (grind (arith, nat_tests)) (grind (arith, nat_tests))
     go false e false h = child (grind (arith, nat_tests)) (grind (arith, nat_tests))
 
-rows_read : (ss : List Submission) (f : Frame) (q : IsFrame ss f) (i : ℕ) (r : Reference)
+pub rows_read : (ss : List Submission) (f : Frame) (q : IsFrame ss f) (i : ℕ) (r : Reference)
     → slice_get f.elements.now i ≡ Some (elements.Reference r) → IsReference r
 rows_read ss f q i r e =
     element_read q.submission.library f.node.now.structure q.structure i (elements.Reference r)

@@ -58,18 +58,18 @@ roots_close ss read (root ∷ roots) h =
     (roots_close ss read roots (All-tail (IsRoot ss) root roots h))
 
 roots_few : (ss : List Submission) → IsKept ss → (roots : List Root)
-    → length (roots_turns ss roots) ≤ length roots * 68157440
+    → length (roots_turns ss roots) ≤ length roots * (65 * 2 ^ 40)
 unfolding roots_turns
 roots_few ss kept [] = omega arith
 roots_few ss kept (root ∷ roots) =
     let one = root_few ss root in
     let n = root.submission in
-    let items : length (flat_root ss root) ≤ 1048576 =
+    let items : length (flat_root ss root) ≤ 2 ^ 40 =
     omega (arith, length-map (flat ss n) (placed_item root.placing), kept.counts n) in
     let levels : height ss n + 1 ≤ 65 = omega (arith, kept.heights n) in
-    let most : (height ss n + 1) * length (flat_root ss root) ≤ 65 * 1048576 =
+    let most : (height ss n + 1) * length (flat_root ss root) ≤ 65 * 2 ^ 40 =
     mul-le-mul levels items in
-    let long : length (root_turns ss root) ≤ 68157440 = omega (arith, one, most) in
+    let long : length (root_turns ss root) ≤ 65 * 2 ^ 40 = omega (arith, one, most) in
     omega (
       arith,
       long,
@@ -79,7 +79,7 @@ roots_few ss kept (root ∷ roots) =
     )
 
 pub start_way : (window : Option Box2) (ss : List Submission) (roots : List Root) → IsKept ss
-    → All (IsRoot ss) roots → length roots ≤ 2 ^ 32 → IsOnWay window ss roots 0 0 []
+    → All (IsRoot ss) roots → length roots ≤ 2 ^ 16 → IsOnWay window ss roots 0 0 []
 start_way window ss roots kept near few =
     let left = start_left ss roots in record {
       read = kept.read;

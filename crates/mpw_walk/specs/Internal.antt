@@ -2,6 +2,7 @@
 pub mod Extents
 pub mod Frames
 pub mod Named
+pub mod Skips
 pub mod Stack
 pub mod Turns
 pub mod Way

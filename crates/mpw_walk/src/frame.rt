@@ -1,14 +1,21 @@
 //! A structure that a walk has entered.
 
-ghost use Rattle.std.specs.Prelude.{◌≡◌, ◌<◌, ◌≤◌, ◌-◌, ◌+ℤ◌, ◌*ℤ◌, pos, length, slice_get, slice_index, IfSome, IfNone, None};
+ghost use Rattle.std.specs.Prelude.{◌≡◌, ◌<◌, ◌≤◌, ◌+◌, ◌-◌, ◌+ℤ◌, ◌*ℤ◌, pos, false, length, slice_get, slice_index, option_map, IfSome, IfNone, Some, None};
+ghost use Rattle.mpw_structures.specs.Element.{IsReference};
+ghost use Rattle.mpw_hier.specs.Boxes.{placed_box};
+ghost use Rattle.mpw_hier.specs.Sizes.{IsExtentNear};
+ghost use Rattle.mpw_walk.specs.Window.{do_meet, is_in};
+ghost use Rattle.mpw_walk.specs.Internal.Skips.{behind_rows, behind_columns, Skips};
 ghost use Rattle.mpw_hier.specs.Items.{instance, stepped};
 ghost use Rattle.mpw_hier.specs.Nodes.{AreNodes};
 ghost use Rattle.mpw_walk.specs.Frames.{IsFrame, IsShort, IsWithin};
 ghost use Rattle.mpw_walk.specs.Internal.Frames.{IsFront, ShowsName, IsNext, IsShape, HasReference, IsNearArray, behind_instance};
 
+use crate::fit::placed_box;
 use crate::laws::names_are_walked;
 use crate::root::Placed;
-use mpw_geom::{Orient, Placing, Point};
+use crate::skip::{columns_missed, rows_missed};
+use mpw_geom::{Box2, Orient, Placing, Point};
 use mpw_hier::{Node, Shelf, Target};
 use mpw_structures::{Element, Reference};
 
@@ -156,16 +163,20 @@ impl<'a> Frame<'a> {
         requires column { self.now.column < reference.now.columns }
         ensures { result ≡ behind_instance self.now reference.now }
     {
-        let (columns, rows) = (reference.columns, reference.rows);
-        if self.column + 1 < columns {
+        self.behind_columns(reference, 1)
+    }
+
+    /// The frame behind so many rows, from that of the next instance on.
+    fn behind_rows(&self, reference: &Reference, rows: u16) -> Frame<'a>
+        requires child { self.now.child < length self.now.node.now.children.items }
+        requires rows { self.now.row + rows ≤ reference.now.rows }
+        ensures { result ≡ behind_rows self.now reference.now rows }
+    {
+        let all = reference.rows;
+        let row = self.row + rows;
+        if row < all {
             return Frame {
-                column: self.column + 1,
-                ..*self
-            };
-        }
-        if self.row + 1 < rows {
-            return Frame {
-                row: self.row + 1,
+                row,
                 column: 0,
                 ..*self
             };
@@ -176,5 +187,66 @@ impl<'a> Frame<'a> {
             column: 0,
             ..*self
         }
+    }
+
+    /// The frame behind so many columns of a row, from that of the next instance on.
+    fn behind_columns(&self, reference: &Reference, columns: u16) -> Frame<'a>
+        requires child { self.now.child < length self.now.node.now.children.items }
+        requires row { self.now.row < reference.now.rows }
+        requires columns { self.now.column + columns ≤ reference.now.columns }
+        ensures { result ≡ behind_columns self.now reference.now columns }
+    {
+        let all = reference.columns;
+        let column = self.column + columns;
+        if column < all {
+            return Frame { column, ..*self };
+        }
+        self.behind_rows(reference, 1)
+    }
+
+    /// The frame behind the next instance, whose box misses the window, and behind those after it that miss the window as well, as
+    /// far as division tells: rows, where columns lead along one axis alone, else columns of the row.
+    fn behind_box(&self, reference: &Reference, there: Box2, window: Box2) -> Frame<'a>
+        requires child { self.now.child < length self.now.node.now.children.items }
+        requires row { self.now.row < reference.now.rows }
+        requires column { self.now.column < reference.now.columns }
+        requires reference { IsReference reference.now }
+        requires missed { do_meet there window ≡ false }
+        ensures { Skips self.now reference.now (Some there) (Some window) result }
+    {
+        let across = self.placing.orient.apply(reference.column_step);
+        let up = self.placing.orient.apply(reference.row_step);
+        let rows = rows_missed(there, window, across, up, reference.rows - self.row);
+        if rows > 0 {
+            return self.behind_rows(reference, rows);
+        }
+        let columns = columns_missed(there, window, across, reference.columns - self.column);
+        self.behind_columns(reference, columns.max(1))
+    }
+
+    /// The frame behind the next instance, which misses the window, and behind those after it that division tells miss it as well.
+    pub fn behind_missed(
+        &self,
+        reference: &Reference,
+        window: Option<Box2>,
+        placing: Placing,
+        extent: Option<Box2>,
+    ) -> Frame<'a>
+        requires child { self.now.child < length self.now.node.now.children.items }
+        requires row { self.now.row < reference.now.rows }
+        requires column { self.now.column < reference.now.columns }
+        requires reference { IsReference reference.now }
+        requires near { IsExtentNear extent }
+        requires short { IsWithin placing.by }
+        requires missed { is_in window (option_map (placed_box placing) extent) ≡ false }
+        ensures { Skips self.now reference.now (option_map (placed_box placing) extent) window result }
+    {
+        let Some(extent) = extent else {
+            return self.behind_instance(reference);
+        };
+        let Some(window) = window else {
+            return self.behind_instance(reference);
+        };
+        self.behind_box(reference, placed_box(placing, extent), window)
     }
 }

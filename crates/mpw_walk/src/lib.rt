@@ -3,7 +3,7 @@
 //! [`Walk`] goes through placed submissions and gives each shape that they show with its origin and
 //! its placing. It goes down the hierarchy with a stack of its own of one frame a level, which is of
 //! fixed size. A walk within a window ([`Walk::within`]) gives the shapes whose boxes meet the window, and
-//! goes down into the instances whose placed extents do.
+//! goes down into the instances whose placed extents do. Those of an array are found by division (`skip`).
 #![tactic(auto)]
 
 mod fit;
@@ -11,6 +11,7 @@ mod frame;
 mod frames;
 mod laws;
 mod root;
+mod skip;
 mod walk;
 mod way;
 mod window;

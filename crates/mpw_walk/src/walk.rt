@@ -44,7 +44,7 @@ impl<'a> Walk<'a> {
     /// The walk that takes these turns, before the first.
     fn start(shelf: &'a Shelf, roots: &'a [Root], window: Option<Box2>) -> Walk<'a>
         requires roots { All (IsRoot shelf.now) roots.now }
-        requires few { length roots.now ≤ 2 ^ 32 }
+        requires few { length roots.now ≤ 2 ^ 16 }
         ensures turns { result.turns ≡ 0 }
         ensures left { result.left ≡ taken window (roots_turns shelf.now roots.now) }
     {
@@ -68,7 +68,7 @@ impl<'a> Walk<'a> {
     /// It takes no memory.
     pub fn new(shelf: &'a Shelf, roots: &'a [Root]) -> Walk<'a>
         requires roots { All (IsRoot shelf.now) roots.now }
-        requires few { length roots.now ≤ 2 ^ 32 }
+        requires few { length roots.now ≤ 2 ^ 16 }
         ensures turns { result.turns ≡ 0 }
         ensures left { result.left ≡ roots_turns shelf.now roots.now }
         ensures given { given result.left ≡ flat_roots shelf.now roots.now }
@@ -83,7 +83,7 @@ impl<'a> Walk<'a> {
     /// It takes no memory.
     pub fn within(shelf: &'a Shelf, roots: &'a [Root], window: Box2) -> Walk<'a>
         requires roots { All (IsRoot shelf.now) roots.now }
-        requires few { length roots.now ≤ 2 ^ 32 }
+        requires few { length roots.now ≤ 2 ^ 16 }
         ensures turns { result.turns ≡ 0 }
         ensures left { result.left ≡ turns_met window (roots_turns shelf.now roots.now) }
         ensures given { given result.left ≡ items_met window (flat_roots shelf.now roots.now) }
@@ -92,8 +92,10 @@ impl<'a> Walk<'a> {
     }
 
     /// The next shape; none behind the last. It takes no memory. One turn enters each instance on the way
-    /// to it, and one gives it; a turn takes constant time, and so does leaving what has been shown. With a window each
-    /// instance that is passed over takes constant time, and each shape of what is entered time by the number of its points.
+    /// to it, and one gives it; a turn takes constant time, and so does leaving what has been shown. With a window, an
+    /// array whose columns lead along one axis takes constant time, and so does each row of it that meets the window, beside what
+    /// is entered; of another array each row takes constant time. Each shape of what is entered takes time by the number of its
+    /// points.
     pub fn next(&mut self) -> Option<Placed<'a>>
         ensures some { IfSome result (λ placed. given self.old.left ≡ item_of placed ∷ given self.new.left) }
         ensures placeable { IfSome result IsPlaceable }

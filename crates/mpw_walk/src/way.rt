@@ -74,10 +74,13 @@ impl<'a> Way<'a> {
         names_are_walked();
         let entered = frame.target(self.shelf, target, reference);
         let placing = instance(reference, frame.row, frame.column).then(frame.placing);
-        self.frames.push(frame.behind_instance(reference));
-        if !is_in(self.window, placing, entered.node.size.extent) {
+        let extent = entered.node.size.extent;
+        if !is_in(self.window, placing, extent) {
+            let next = frame.behind_missed(reference, self.window, placing, extent);
+            self.frames.push(next);
             return;
         }
+        self.frames.push(frame.behind_instance(reference));
         self.frames.push(Frame { placing, ..entered });
         self.turns += 1;
     }

@@ -1,6 +1,6 @@
 use Rattle.std.proofs.Common.{refl, arith, sym, ◌∙◌}
 use Rattle.mpw_walk.proofs.Arrays.{in_plane}
-use Rattle.mpw_walk.proofs.EnteredInstances.{grid, child_within, array_near, frames_room, near, short, enters_instance, misses_instance}
+use Rattle.mpw_walk.proofs.EnteredInstances.{grid, child_within, array_near, frames_room, near, short, enters_instance, misses_instances, read}
 use Rattle.mpw_walk.proofs.Steps.{few_frames, last_frame}
 use Rattle.mpw_walk.proofs.way.Way.enter.Goals as goal
 
@@ -47,10 +47,14 @@ push-requires c =
 
 pub push-requires-2 : goal.push-requires-2
 push-requires-2 c =
+    few_frames c.names_are_walked.ensures c.args.self.now c.args.frame.now c.requires.way
+
+pub push-requires-3 : goal.push-requires-3
+push-requires-3 c =
     let room = frames_room c.names_are_walked.ensures c.args.self.now c.args.frame.now
     c.requires.way c.args.target c.args.reference.now c.requires.next c.target-entered.result
     c.target-entered.ensures c.requires.shapes in
-    rw (c.push.ensures, c.behind_instance.ensures) room
+    rw (c.push-2.ensures, c.behind_instance.ensures) room
 
 pub is_in-requires : goal.is_in-requires
 is_in-requires c = record {
@@ -62,14 +66,35 @@ is_in-requires c = record {
       c.instance.ensures c.then-placing.ensures.displacement c.then-placing.ensures.points;
 }
 
+pub behind_missed-next-requires : goal.behind_missed-next-requires
+behind_missed-next-requires c =
+    let law = c.names_are_walked.ensures in
+    let v = c.args.self.now in
+    let f = c.args.frame.now in
+    let at = grid law v f c.requires.way c.args.target c.args.reference.now c.requires.next in
+    record {
+      child = child_within law v f c.requires.way c.args.target c.args.reference.now
+          c.requires.next;
+      row = at.0;
+      column = at.1;
+      reference = read law v f c.requires.way c.args.target c.args.reference.now c.requires.next;
+      near = near law v f c.requires.way c.args.target c.args.reference.now c.requires.next
+          c.target-entered.result c.target-entered.ensures;
+      short = short law v f c.requires.way c.args.target c.args.reference.now c.requires.next
+          c.target-entered.result c.target-entered.ensures c.requires.shapes c.instance.result
+          c.then-placing.result c.instance.ensures c.then-placing.ensures.displacement
+          c.then-placing.ensures.points;
+      missed = sym c.is_in.ensures ∙ c.if-not-is_in.true;
+    }
+
 pub returns-then-not-is_in : goal.returns-then-not-is_in
 returns-then-not-is_in c =
-    let missed = misses_instance c.names_are_walked.ensures c.args.self.now c.args.frame.now
+    let missed = misses_instances c.names_are_walked.ensures c.args.self.now c.args.frame.now
     c.requires.way c.args.target c.args.reference.now c.requires.next c.target-entered.result
     c.target-entered.ensures c.requires.shapes c.instance.result c.then-placing.result
     c.instance.ensures c.then-placing.ensures.displacement c.then-placing.ensures.points
-    (sym c.is_in.ensures ∙ c.if-not-is_in.true) c.push.new.self
-    (rw (c.push.ensures, c.behind_instance.ensures) refl) in
+    (sym c.is_in.ensures ∙ c.if-not-is_in.true) c.behind_missed-next.result
+    c.behind_missed-next.ensures c.push.new.self c.push.ensures in
     record { way = missed.way; does = missed.does }
 
 pub overflow_add-self : goal.overflow_add-self
@@ -78,8 +103,8 @@ overflow_add-self c =
     c.requires.way c.args.target c.args.reference.now c.requires.next c.target-entered.result
     c.target-entered.ensures c.requires.shapes c.instance.result c.then-placing.result
     c.instance.ensures c.then-placing.ensures.displacement c.then-placing.ensures.points
-    (sym c.is_in.ensures ∙ c.if-not-is_in.false) c.push-2.new.self
-    (rw (c.push-2.ensures, c.push.ensures, c.behind_instance.ensures) refl) in
+    (sym c.is_in.ensures ∙ c.if-not-is_in.false) c.push-3.new.self
+    (rw (c.push-3.ensures, c.push-2.ensures, c.behind_instance.ensures) refl) in
     omega (arith, entered.way.few)
 
 pub returns : goal.returns
@@ -88,6 +113,6 @@ returns c =
     c.requires.way c.args.target c.args.reference.now c.requires.next c.target-entered.result
     c.target-entered.ensures c.requires.shapes c.instance.result c.then-placing.result
     c.instance.ensures c.then-placing.ensures.displacement c.then-placing.ensures.points
-    (sym c.is_in.ensures ∙ c.if-not-is_in.false) c.push-2.new.self
-    (rw (c.push-2.ensures, c.push.ensures, c.behind_instance.ensures) refl) in
+    (sym c.is_in.ensures ∙ c.if-not-is_in.false) c.push-3.new.self
+    (rw (c.push-3.ensures, c.push-2.ensures, c.behind_instance.ensures) refl) in
     record { way = entered.way; does = entered.does }
