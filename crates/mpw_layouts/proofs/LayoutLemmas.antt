@@ -1,5 +1,5 @@
 -- The parts of a row as the shelf tells them.
-use Rattle.std.proofs.Common.{◌≡◌, ℕ, Bool, true, false, List, [], ◌∷◌, ◌++◌, length, Option, Some, None, Result, Ok, Err, refl, sym, ap, ◌∙◌}
+use Rattle.std.proofs.Common.{◌≡◌, ℕ, ◌^◌, Bool, true, false, List, [], ◌∷◌, ◌++◌, length, Option, Some, None, Result, Ok, Err, refl, sym, ap, ◌∙◌}
 use Rattle.std.specs.Prelude.{slice_get, ◌↔◌}
 use Rattle.mpw_structures.specs.declared.structures.Structure.{Structure}
 use Rattle.mpw_structures.specs.Places.{place_of}
@@ -52,13 +52,13 @@ not_far : FarExtentsAreFound → (ss : List Submission) (s : Submission) → (Is
     → is_far ss s ≡ false
 not_far far_found ss s near = never_true (is_far ss s) (λ t. near ((far_found ss s).0 t))
 
-pub kept-ok : FarExtentsAreFound → (ss : List Submission) (s : Submission) → KeepsLimits ss s
+pub kept-ok : FarExtentsAreFound → (ss : List Submission) (s : Submission) → KeepsLimits (2 ^ 20) ss s
     → within_limits ss s ≡ Ok (numbered ss s)
 unfolding within_limits
 kept-ok far_found ss s k = rw (not_far far_found ss s k.near, k.small, k.low, k.room) refl
 
 pub kept-err : FarExtentsAreFound → (ss : List Submission) (s : Submission) (fault : HierFault)
-    → IsRefused ss s fault → Told (fault_of fault) (within_limits ss s)
+    → IsRefused (2 ^ 20) ss s fault → Told (fault_of fault) (within_limits ss s)
 unfolding within_limits
 kept-err far_found ss s hier.Memory why = tt
 kept-err far_found ss s hier.Extent why = rw ((far_found ss s).1 why) refl

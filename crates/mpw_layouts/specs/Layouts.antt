@@ -1,5 +1,5 @@
 -- The requests over the shelf: each with its tests in order, and what it gives where all pass.
-use Rattle.std.specs.Prelude.{ℕ, Bool, true, false, not, List, [], ◌∷◌, ◌++◌, map, is_some, slice_get, Option, None, Some, Result, Ok, Err, if◌then◌else◌}
+use Rattle.std.specs.Prelude.{ℕ, ◌^◌, Bool, true, false, not, List, [], ◌∷◌, ◌++◌, map, is_some, slice_get, Option, None, Some, Result, Ok, Err, if◌then◌else◌}
 use Rattle.std.specs.List.{flat_map}
 use Rattle.mpw_geom.specs.Names.{by_name}
 use Rattle.mpw_records.specs.declared.fault.ReadFault.{ReadFault}
@@ -60,12 +60,12 @@ abbrev pub all_bindings : Option (List Binding) → Result (List Binding) Ending
 all_bindings None = Err (ending.Refused code.NoCell)
 all_bindings (Some bindings) = Ok bindings
 
--- the limits, and then the submission with its version
+-- the limits, of which that on shapes is the desk's 2^20, and then the submission with its version
 unfoldable pub within_limits : List Submission → Submission → Result Submission Ending
 within_limits shelf s =
     decided
     ((not (is_far shelf s), ending.Refused code.Extent)
-    ∷ (not (is_too_large shelf s), ending.Refused code.Shapes)
+    ∷ (not (is_too_large (2 ^ 20) shelf s), ending.Refused code.Shapes)
     ∷ (not (is_too_deep shelf s), ending.Refused code.Deep)
     ∷ (has_room_for shelf s.cell, ending.Refused code.Full)
     ∷ [])

@@ -8,3 +8,4 @@ mod rows;
 mod sight;
 
 pub use answer::{LayoutAnswer, answer_request};
+pub use rows::MAX_SHAPES;

@@ -103,6 +103,9 @@ pub(crate) struct Shelved {
     pub(crate) version: u32,
 }
 
+/// The most flat shapes that a submission on the desk may show, 2^20. (A shelf by itself takes more.)
+pub const MAX_SHAPES: u64 = 1 << 20;
+
 /// The shelf with one more submission, if that keeps the limits.
 #[tactic(auto, unfolding(crate::specs::Layouts::within_limits))]
 fn keep(
@@ -119,7 +122,7 @@ fn keep(
 {
     reaching_is_decided();
     let mut shelf = shelf.copy(alloc)?;
-    match shelf.put(alloc, submission, outline) {
+    match shelf.put(alloc, submission, outline, MAX_SHAPES) {
         Ok(number) => {
             let version = version_of(&shelf, number);
             Ok(Shelved { shelf, version })

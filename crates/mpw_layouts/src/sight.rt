@@ -10,8 +10,8 @@ use mpw_rbac::Policy;
 use mpw_replies::ShapeListing;
 use std::alloc::{AllocError, Global};
 
-/// The listing of a submission, as the connection's session may see it: one look-up for each submission on the shelf, and
-/// the turns of a walk over the submission's shapes.
+/// The listing of a submission, as the connection's session may see it: one look-up for each submission on the shelf, and a pass
+/// over the structures of those that this one reaches.
 ///
 /// # Errors
 /// Where there is no room.
@@ -26,5 +26,5 @@ pub(crate) fn shapes_of(
     ensures { IfOk result (λ listing. listing ≡ flat_map (readable_shape policy.now shelf.now connection) (flat shelf.now number)) }
 {
     let seen = seen_by(alloc, policy, connection, shelf.submissions())?;
-    Ok(ShapeListing::new(shelf.copy(alloc)?, number, seen))
+    ShapeListing::new(alloc, shelf.copy(alloc)?, number, seen)
 }

@@ -36,6 +36,15 @@ pub counts_same : (ss : List Submission) (ps : List Placement)
     → roots_count ss (roots_of ps) ≡ shape_count ss ps
 counts_same ss ps = counts_from ss 0 ps
 
+one_more : (ss : List Submission) (ps : List Placement) (p : Placement)
+    → shape_count ss (ps ++ p ∷ []) ≡ shape_count ss ps + (0 + count ss p.root.submission)
+one_more ss ps p = sum_by-append (λ q. count ss q.root.submission) ps (p ∷ [])
+
+-- with at most 2^20 shapes a snapshot can have the roots
+few_shapes : (ss : List Submission) (ps : List Placement) → shape_count ss ps ≤ 2 ^ 20
+    → roots_count ss (roots_of ps) ≤ 2 ^ 40
+few_shapes ss ps small = let same = counts_same ss ps in omega (arith, same, small)
+
 all_roots : (P : Root → Type 0) (ps : List Placement) → All P (roots_of ps) → All (λ p. P p.root) ps
 all_roots P [] all = All-nil (λ p. P p.root)
 all_roots P (p ∷ ps) all = All-cons (λ p. P p.root) p ps (All-head P p.root (roots_of ps) all)
@@ -47,6 +56,7 @@ pub none_kept : (ss : List Submission) → ArePlacings ss []
 none_kept ss = record {
   apart = λ i j d lt within. absurd (omega arith);
   cells = All-nil (IsOfItsCell ss);
+  small = omega arith;
   roots = record { few = omega arith; fit = All-nil (IsRoot ss); small = omega arith };
 }
 
@@ -55,7 +65,7 @@ none_kept ss = record {
 more_roots : (ss : List Submission) (ps after : List Placement) (cell label : List ℕ)
     (placing : Placing) → IsPlaced ss ps after cell label placing → (number : ℕ)
     → IsRoot ss (record { submission = number; placing = placing })
-    → nat_lt (2 ^ 20) (shape_count ss ps + count ss number) ≡ false
+    → shape_count ss (ps ++ placement_of cell label placing number ∷ []) ≤ 2 ^ 20
     → nat_le 4096 (length ps) ≡ false → AreRoots ss (roots_of ps)
     → AreRoots ss (roots_of (ps ++ placement_of cell label placing number ∷ []))
 more_roots ss ps after cell label placing is number root small room roots =
@@ -63,16 +73,11 @@ more_roots ss ps after cell label placing is number root small room roots =
     let long : length (roots_of (ps ++ p ∷ [])) ≡ length ps + 1 =
     length-map (ps ++ p ∷ []) (λ q. q.root) ∙ length-append ps (p ∷ []) in
     let fewer : length ps < 4096 = leb-false 4096 (length ps) room in
-    let sum : roots_count ss (roots_of (ps ++ p ∷ [])) ≡ shape_count ss ps + (0 + count ss number) =
-    counts_same ss (ps ++ p ∷ []) ∙ sum_by-append (λ q. count ss q.root.submission) ps
-    (p ∷ []) in
-    let most : shape_count ss ps + count ss number ≤ 2 ^ 20 =
-    ltb-false (2 ^ 20) (shape_count ss ps + count ss number) small in
     record {
       few = omega (arith, long, fewer);
       fit = subst (All (IsRoot ss)) (sym (map-append (λ q. q.root) ps (p ∷ [])))
           (All-push (IsRoot ss) (roots_of ps) p.root roots.fit root);
-      small = omega (arith, sum, most);
+      small = few_shapes ss (ps ++ p ∷ []) small;
     }
 
 place_more : (ss : List Submission) (ps after : List Placement) (cell label : List ℕ)
@@ -82,11 +87,15 @@ place_more : (ss : List Submission) (ps after : List Placement) (cell label : Li
 place_more ss ps after cell label placing present_are kept is =
     let p : Placement = placement_of cell label placing is.number in
     let of_cell : IsOfCell ss cell is.number = present_are ss cell is.number is.is in
+    let most : shape_count ss ps + count ss is.number ≤ 2 ^ 20 =
+    ltb-false (2 ^ 20) (shape_count ss ps + count ss is.number) is.small in
+    let small : shape_count ss (ps ++ p ∷ []) ≤ 2 ^ 20 = omega (arith, one_more ss ps p, most) in
     record {
       apart = all_pairs_push DifferInName ps p kept.apart (apart_from_all ps p is.new);
       cells = All-push (IsOfItsCell ss) ps p kept.cells of_cell;
+      small = small;
       roots = more_roots ss ps after cell label placing is is.number
-          (root_from_test ss p.root of_cell.within is.near) is.small is.room kept.roots;
+          (root_from_test ss p.root of_cell.within is.near) small is.room kept.roots;
     }
 
 pub place_kept : PresentAreOfTheirCell
@@ -108,18 +117,17 @@ filter_kept ss ps keep kept =
     let both = length-filter_both keep (λ q. not (keep q)) (λ q. refl) ps in
     let sums = sum_by-filter_both keep (λ q. not (keep q)) (λ q. refl)
     (λ q. count ss q.root.submission) ps in
-    let before = counts_same ss ps in
-    let after = counts_same ss (filter keep ps) in
     let few = kept.roots.few in
-    let small = kept.roots.small in
+    let small : shape_count ss (filter keep ps) ≤ 2 ^ 20 = omega (arith, sums, kept.small) in
     record {
       apart = AllPairs-filter DifferInName keep ps kept.apart;
       cells = All-filter keep (IsOfItsCell ss) ps kept.cells;
+      small = small;
       roots = record {
         few = omega (arith, long, whole, both, few);
         fit = All-map (IsRoot ss) (λ q. q.root) (filter keep ps)
             (All-filter keep (λ q. IsRoot ss q.root) ps (all_roots (IsRoot ss) ps kept.roots.fit));
-        small = omega (arith, sums, before, after, small);
+        small = few_shapes ss (filter keep ps) small;
       };
     }
 
@@ -160,14 +168,22 @@ later_kept stay roots_stay again counted ss later ps kept =
     let sum : roots_count (ss ++ later) (roots_of ps) ≡ roots_count ss (roots_of ps) =
     sym (counted (ss ++ later) (roots_of ps)) ∙ ap length (again ss later (roots_of ps) fit)
     ∙ counted ss (roots_of ps) in
+    let small : shape_count (ss ++ later) ps ≤ 2 ^ 20 = omega (
+      arith,
+      sum,
+      counts_same ss ps,
+      counts_same (ss ++ later) ps,
+      kept.small,
+    ) in
     record {
       apart = kept.apart;
       cells = All-weaker (IsOfItsCell ss) (IsOfItsCell (ss ++ later)) (cell_stays stay ss later) ps
           kept.cells;
+      small = small;
       roots = record {
         few = kept.roots.few;
         fit = All-weaker (IsRoot ss) (IsRoot (ss ++ later))
             (λ root is. (roots_stay ss later root is.present).0 is) (roots_of ps) fit;
-        small = subst (λ (n : ℕ). n ≤ 2 ^ 20) (sym sum) kept.roots.small;
+        small = few_shapes (ss ++ later) ps small;
       };
     }

@@ -1,5 +1,5 @@
 -- The placements on the wafer, here called placings. Each is known by its cell and label together.
-use Rattle.std.specs.Prelude.{◌≡◌, ◌≢◌, ℕ, Bool, false, ◌&&◌, not, List, map, slice_get, All, AllPairs, Option, Some, None}
+use Rattle.std.specs.Prelude.{◌≡◌, ◌≢◌, ℕ, ◌≤◌, ◌^◌, Bool, false, ◌&&◌, not, List, map, slice_get, All, AllPairs, Option, Some, None}
 use Rattle.std.specs.List.{list_any, find, sum_by}
 use Rattle.mpw_geom.specs.Names.{name_eq}
 use Rattle.mpw_geom.specs.declared.plane.Box2.{Box2}
@@ -57,9 +57,10 @@ DifferInName p q = p.cell ≡ q.cell → p.label ≢ q.label
 abbrev pub IsOfItsCell : List Submission → Placement → Type 0
 IsOfItsCell ss p = IsOfCell ss p.cell p.root.submission
 
--- Placings on a shelf: no two have the same cell and label, each is of a submission of its cell, and a snapshot can have their
--- roots: at most 4096, each on the shelf and near where it is placed, with at most 2^20 shapes together.
+-- Placings on a shelf: no two have the same cell and label, each is of a submission of its cell, all show at most 2^20 shapes
+-- together, and a snapshot can have their roots: at most 4096, each on the shelf and near where it is placed.
 pub record ArePlacings (ss : List Submission) (ps : List Placement) : Type 0 where
   pub apart : AllPairs DifferInName ps
   pub cells : All (IsOfItsCell ss) ps
+  pub small : shape_count ss ps ≤ 2 ^ 20
   pub roots : AreRoots ss (roots_of ps)

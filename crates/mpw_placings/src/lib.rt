@@ -18,6 +18,7 @@ mod wafer;
 
 pub use fault::PlacingFault;
 pub use laws::{each_change_keeps, later_submissions_keep};
+pub use limits::MAX_SHAPES;
 pub use placement::{Placement, PlacementRef};
 pub use placings::Placings;
 pub use wafer::Wafer;

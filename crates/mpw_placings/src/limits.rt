@@ -15,15 +15,18 @@ pub(crate) fn is_far(shelf: &Shelf, root: &Root) -> bool
     !root.fits(shelf)
 }
 
+/// The most flat shapes that all placings on a wafer may show together, 2^20. (A snapshot may show more.)
+pub const MAX_SHAPES: u64 = 1 << 20;
+
 /// How many flat shapes the roots show. Linear in the roots.
 pub(crate) fn shape_count(shelf: &Shelf, roots: &[Root]) -> u64
     requires { length roots.now ≤ 4096 }
     ensures count { result ≡ roots_count shelf.now roots.now }
-    ensures most { result ≤ 2 ^ 44 }
+    ensures most { result ≤ 2 ^ 52 }
 {
     let mut count = 0u64;
     for root in roots {
-        count += u64::from(shelf.count(root.submission));
+        count += shelf.count(root.submission);
     }
     count
 }

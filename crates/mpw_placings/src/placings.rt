@@ -10,12 +10,12 @@ ghost use Rattle.mpw_placings.specs.Placements.{is_taken, placement_shown, roots
 ghost use Rattle.mpw_placings.specs.Rows.{refusal, placings_with, placings_without, GivesPlacements};
 
 use crate::fault::PlacingFault;
-use crate::limits::{is_far, shape_count};
+use crate::limits::{MAX_SHAPES, is_far, shape_count};
 use crate::map::PlacementMap;
 use crate::placement::{Placement, PlacementRef};
 use mpw_geom::{Name, Placing};
 use mpw_hier::{Shelf, shelves_have_their_numbers};
-use mpw_tiles::{MAX_ROOTS, MAX_SHAPES};
+use mpw_tiles::MAX_ROOTS;
 use mpw_walk::Root;
 use std::alloc::{AllocError, Global};
 use std::marker::Model;
@@ -139,7 +139,7 @@ impl Placings {
     /// How many flat shapes all placings show. Linear in the placings.
     fn shape_count(&self, shelf: &Shelf) -> u64
         ensures count { result ≡ shape_count shelf.now self.now }
-        ensures most { result ≤ 2 ^ 45 }
+        ensures most { result ≤ 2 ^ 53 }
     {
         shape_count(shelf, self.settled.roots()) + shape_count(shelf, self.latest.roots())
     }
@@ -155,7 +155,7 @@ impl Placings {
         if is_far(shelf, root) {
             return Some(PlacingFault::Extent);
         }
-        if self.shape_count(shelf) + u64::from(shelf.count(root.submission)) > MAX_SHAPES {
+        if self.shape_count(shelf) + shelf.count(root.submission) > MAX_SHAPES {
             return Some(PlacingFault::Shapes);
         }
         if self.len() >= MAX_ROOTS {

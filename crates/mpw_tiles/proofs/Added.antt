@@ -4,10 +4,9 @@ use Rattle.std.specs.Prelude.{Contains, All, ◌↔◌}
 use Rattle.mpw_region.proofs.Held.{Held-nil}
 use Rattle.mpw_geom.specs.declared.plane.Layer.{Layer}
 use Rattle.mpw_geom.specs.Plane.{Square, has_square}
-use Rattle.mpw_tiles.specs.Grid.{ShareSquare}
 use Rattle.mpw_tiles.specs.declared.listing.Rectangle.{Rectangle}
 use Rattle.mpw_tiles.specs.Plan.{Tiling, tiles, tile_window}
-use Rattle.mpw_tiles.specs.Listing.{IsListed, HasSquareOf}
+use Rattle.mpw_tiles.specs.Listing.{IsListed, HasSquareOf, AreWindowsOf, ListNear}
 use Rattle.mpw_tiles.specs.Internal.Listing.{AddsSquares}
 
 abbrev Tiles : Type 0
@@ -77,36 +76,35 @@ adds_same plan a b P R agree f = record {
   near = f.near;
 }
 
--- windows that list just these squares, and nothing that has none of their squares
-pub record HaveSquares (plan : Tiling) (windows : Tiles) (P : Layer → ℕ → Square → Type 0) : Type 0
-  where
-    pub count : length windows ≡ tiles plan
-    pub squares : (tile : ℕ) (s : Square) (layer : Layer) (origin : ℕ) → tile < tiles plan
-        → has_square (tile_window plan tile) s ≡ true
-        → IsListed (get_or windows tile []) layer origin s ↔ P layer origin s
-    pub near : (tile : ℕ) (r : Rectangle) → tile < tiles plan → Contains (get_or windows tile []) r
-        → ShareSquare (tile_window plan tile) r.area
-
 -- what was added to empty windows is all that they have
+was_empty : (plan : Tiling) (old : Tiles) → length old ≡ tiles plan
+    → All (λ (w : List Rectangle). w ≡ []) old → (tile : ℕ) → tile < tiles plan
+    → get_or old tile [] ≡ []
+was_empty plan old e none tile u = none tile [] (subst (λ (n : ℕ). tile < n) (sym e) u)
+
 pub added_to_none : (plan : Tiling) (old new : Tiles) (P : Layer → ℕ → Square → Type 0)
     → length old ≡ tiles plan → All (λ (w : List Rectangle). w ≡ []) old
-    → AddsSquares plan old new P → HaveSquares plan new P
+    → AddsSquares plan old new P → AreWindowsOf plan P new
 added_to_none plan old new P e none f = record {
   count = f.count ∙ e;
-  squares = λ tile s layer origin u w. (
-    λ l. elim ((f.squares tile s layer origin u w).0 l) [
-      | inl k ↦ absurd (Held-nil (λ (r : Rectangle). HasSquareOf r layer origin s)
-          (subst (λ (xs : List Rectangle). IsListed xs layer origin s) (empty tile u) k))
-      | inr p ↦ p
-    ],
-    λ p. (f.squares tile s layer origin u w).1 (inr p),
-  );
-  near = λ tile r u l. elim (f.near tile r u l) [
-    | inl k ↦ absurd (let c = subst (λ (xs : List Rectangle). Contains xs r) (empty tile u) k in
-        omega (arith, c.1))
-    | inr q ↦ q
-  ];
+  each = λ tile u. record {
+    squares = λ s layer origin w. (
+      λ l. elim ((f.squares tile s layer origin u w).0 l) [
+        | inl k ↦ absurd (Held-nil (λ (r : Rectangle). HasSquareOf r layer origin s)
+            (subst (λ (xs : List Rectangle). IsListed xs layer origin s)
+            (was_empty plan old e none tile u) k))
+        | inr p ↦ p
+      ],
+      λ p. (f.squares tile s layer origin u w).1 (inr p),
+    );
+  };
 }
-  where
-    empty : (tile : ℕ) → tile < tiles plan → get_or old tile [] ≡ []
-    empty tile u = none tile [] (subst (λ (n : ℕ). tile < n) (sym e) u)
+
+pub added_near : (plan : Tiling) (old new : Tiles) (P : Layer → ℕ → Square → Type 0)
+    → length old ≡ tiles plan → All (λ (w : List Rectangle). w ≡ []) old
+    → AddsSquares plan old new P → ListNear plan new
+added_near plan old new P e none f tile r u l = elim (f.near tile r u l) [
+  | inl k ↦ absurd (let c = subst (λ (xs : List Rectangle). Contains xs r)
+      (was_empty plan old e none tile u) k in omega (arith, c.1))
+  | inr q ↦ q
+]

@@ -316,7 +316,7 @@ near_mapped : (t : Placing) (o : Option Box2) → IfSome o (λ b. is_box_near (p
 near_mapped t None h = tt
 near_mapped t (Some b) h = h
 
-near_roots : (ss : List Submission) (roots : List Root) → All (IsRoot ss) roots
+pub near_roots : (ss : List Submission) (roots : List Root) → All (IsRoot ss) roots
     → IfSome (roots_extent ss roots) (λ b. is_box_near b ≡ true)
 unfolding roots_extent
 near_roots ss [] h = tt

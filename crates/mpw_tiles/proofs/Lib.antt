@@ -12,3 +12,4 @@ pub mod Showing
 pub mod Looking
 pub mod Bounds
 pub mod Told
+mod Planes

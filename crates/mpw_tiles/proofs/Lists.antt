@@ -15,9 +15,9 @@ use Rattle.mpw_tiles.specs.Grid.{Cells, columns, column_of, row_of, IsInBlock, S
 use Rattle.mpw_tiles.proofs.Cells.{number_column, number_row, same_number}
 use Rattle.mpw_tiles.specs.declared.listing.Rectangle.{Rectangle}
 use Rattle.mpw_tiles.specs.Plan.{Tiling, tiles, tile_window}
-use Rattle.mpw_tiles.specs.Listing.{IsListed, HasSquareOf, AreWindowsOf}
+use Rattle.mpw_tiles.specs.Listing.{IsListed, HasSquareOf}
 use Rattle.mpw_tiles.specs.Internal.Listing.{Lists, IsInRow, IsInRows, AddsSquares}
-use Rattle.mpw_tiles.proofs.Added.{adds_none, adds_next, added_to_none}
+use Rattle.mpw_tiles.proofs.Added.{adds_none, adds_next}
 
 abbrev Tiles : Type 0
 Tiles = List (List Rectangle)
@@ -258,10 +258,3 @@ adds_more plan a b c rs i d h f g =
     adds_next plan a b c (IsListed (take i rs)) (HasSquareOf (get_or rs i d))
     (IsListed (take (i + 1) rs)) (λ tile s layer origin u w. listed_more rs i d layer origin s h) f
     g
-
-pub are_windows : (plan : Tiling) (old new : Tiles) (rs : List Rectangle) → length old ≡ tiles plan
-    → All (λ (w : List Rectangle). w ≡ []) old → AddsSquares plan old new (IsListed rs)
-    → AreWindowsOf plan rs new
-are_windows plan old new rs e empty f =
-    let h = added_to_none plan old new (IsListed rs) e empty f in
-    record { count = h.count; squares = h.squares; near = h.near }

@@ -24,13 +24,12 @@ use Rattle.mpw_walk.specs.Turns.{flat_roots}
 use Rattle.mpw_walk.specs.Roots.{root_extent, roots_extent}
 use Rattle.std.specs.Result.{result_ok}
 use Rattle.mpw_tiles.specs.declared.listing.Rectangle.{Rectangle}
-use Rattle.mpw_tiles.specs.Internal.Listing.{AddsSquares}
+use Rattle.mpw_tiles.specs.Listing.{AreWindowsOf, ListNear}
 use Rattle.mpw_tiles.specs.Shown.{IsShown}
-use Rattle.mpw_tiles.specs.Snapshots.{Snapshot, shown, plan_for, AreWindowsFor, StandFor}
+use Rattle.mpw_tiles.specs.Snapshots.{Snapshot, shown, plan_for, AreWindowsFor, StandFor, ListNearby}
 use Rattle.mpw_tiles.specs.Plan.{Tiling, greatest_distance, plan_of, tiles, tile_window}
 use Rattle.mpw_tiles.specs.Placed.{WindowsLieInPlane}
 use Rattle.mpw_tiles.specs.Internal.Placed.{nearest_point}
-use Rattle.mpw_tiles.proofs.Added.{added_to_none}
 
 -- what is near is not moved to the edge of the plane
 unmoved : (p q : Point) → is_box_near (box_between p q) ≡ true
@@ -118,13 +117,18 @@ pub if_ok_same : {A E : Type 0} (P : A → Type 0) (x : A) (r : Result A E) → 
 if_ok_same P x (Ok y) p e = subst P (sym e) p
 if_ok_same P x (Err f) p e = tt
 
-pub stand_for : (s : Snapshot) (plan : Tiling) (old new : List (List Rectangle))
-    → plan_for s ≡ Some plan → length old ≡ tiles plan → All (λ (w : List Rectangle). w ≡ []) old
-    → AddsSquares plan old new (IsShown (shown s)) → StandFor s new
-stand_for s plan old new e count empty f =
-    let h = added_to_none plan old new (IsShown (shown s)) count empty f in
-    subst (λ (o : Option Tiling). AreWindowsFor o (shown s) new) (sym e)
-    (record { count = h.count; squares = h.squares; near = h.near })
+pub stand_for : (s : Snapshot) (plan : Tiling) (new : List (List Rectangle))
+    → plan_for s ≡ Some plan → AreWindowsOf plan (IsShown (shown s)) new → StandFor s new
+stand_for s plan new e h =
+    subst (λ (o : Option Tiling). AreWindowsFor o (shown s) new) (sym e) h
+
+pub list_nearby : (s : Snapshot) (plan : Tiling) (new : List (List Rectangle))
+    → plan_for s ≡ Some plan → ListNear plan new → ListNearby s new
+list_nearby s plan new e h own f =
+    subst (λ (q : Tiling). ListNear q new) (same_some plan own (sym e ∙ f)) h
+  where
+    same_some : (p q : Tiling) → Some p ≡ Some q → p ≡ q
+    same_some p q e = cc
 
 pub same_shown : (s : Snapshot) (shelf : List Submission) (roots : List Root) → shelf ≡ s.shelf
     → roots ≡ s.roots → flat_roots shelf roots ≡ shown s

@@ -16,13 +16,13 @@ use Rattle.mpw_edges.specs.declared.run.Axis.TheVariants.{V, H}
 use Rattle.mpw_edges.specs.declared.run.Piece.{Piece}
 use Rattle.mpw_edges.specs.Edges.{Squares, exchanged}
 use Rattle.mpw_edges.specs.Steps.{IsPair}
-use Rattle.mpw_edges.specs.Pieces.{IsInCore, IsPiece}
+use Rattle.mpw_edges.specs.Pieces.{IsInCore, IsPiece, IsStepOn}
 use Rattle.mpw_edges.specs.Laws.{AreSameIn}
 use Rattle.mpw_edges.proofs.Window.{window, step_same, back}
 use Rattle.mpw_tiles.specs.Grid.{core_of, found_cell}
 use Rattle.mpw_tiles.proofs.Cells.{only_cell}
 use Rattle.mpw_tiles.specs.Plan.{Tiling, greatest_distance, plan_of, tile_core, tile_window}
-use Rattle.mpw_tiles.specs.Laws.{EachWindowDecidesRows, LieIn, IsStepOn, IsOnlyTile}
+use Rattle.mpw_tiles.specs.Laws.{EachWindowDecidesRows, LieIn, IsOnlyTile}
 
 -- ---- where a pair step stands
 

@@ -1,9 +1,9 @@
 -- What the window of a tile tells of the layout.
-use Rattle.std.proofs.Common.{◌≡◌, ℕ, ◌+◌, ◌≤◌, Bool, true, false, List, Option, Some, None, refl, sym, subst, arith}
+use Rattle.std.proofs.Common.{◌≡◌, ℕ, ◌+◌, ◌≤◌, Bool, true, false, List, [], get_or, Option, Some, None, refl, sym, subst, arith}
 use Rattle.std.specs.Prelude.{ℤ, pos, ◌-ℤ◌, ◌≤ℤ◌, if◌then◌else◌, nat_le}
 use Rattle.std.proofs.lemmas.Int.{ints}
 use Rattle.mpw_geom.specs.declared.plane.Box2.{Box2}
-use Rattle.mpw_geom.specs.Plane.{Square, has_square, closed_square}
+use Rattle.mpw_geom.specs.Plane.{Square, has_square, closed_square, widened}
 use Rattle.mpw_geom.proofs.Tests.{PointIn-from_test, SquareIn, test_from_SquareIn, same_tests}
 use Rattle.mpw_region.specs.Exchange.{exchanged_box}
 use Rattle.mpw_deck.specs.declared.rule.Rule.{Rule}
@@ -11,16 +11,19 @@ use Rattle.mpw_deck.specs.Decks.{Deck}
 use Rattle.mpw_edges.specs.declared.run.Axis.{Axis}
 use Rattle.mpw_edges.specs.declared.run.Axis.TheVariants.{V, H}
 use Rattle.mpw_edges.specs.Edges.{Squares, exchanged}
-use Rattle.mpw_edges.specs.Pieces.{HasStep, IsPiece}
-use Rattle.mpw_tiles.specs.Grid.{widened}
+use Rattle.mpw_edges.specs.Pieces.{HasStep, IsPiece, box_on, piece_box}
 use Rattle.mpw_tiles.specs.declared.listing.Rectangle.{Rectangle}
+use Rattle.mpw_tiles.specs.Listing.{IsListed, AreWindowsOf}
+use Rattle.mpw_tiles.specs.Shown.{IsShown}
 use Rattle.mpw_tiles.specs.Plan.{Tiling, greatest_distance, plan_of, tiles, tile_core, tile_window}
-use Rattle.mpw_tiles.specs.Snapshots.{Snapshot, shown, shown_extent, plan_over, plan_for, ShowItems, AreWindowsFor, StandFor}
-use Rattle.mpw_tiles.specs.Laws.{Meet, box_on, piece_box, WindowsShowLayers, WindowsListWhatIsShown, MetSquaresLieInWindows, WindowsTellMet}
+use Rattle.mpw_tiles.specs.Snapshots.{Snapshot, shown, shown_extent, plan_over, plan_for, AreWindowsFor, StandFor}
+use Rattle.mpw_geom.specs.Meeting.{Meet}
+use Rattle.mpw_tiles.specs.Laws.{WindowsShowLayers, WindowsListWhatIsShown, MetSquaresLieInWindows, WindowsTellMet}
 use Rattle.mpw_tiles.proofs.Tiles.{no_greater}
 
 windows_show : (s : Snapshot) (plan : Tiling) (windows : List (List Rectangle))
-    → plan_for s ≡ Some plan → StandFor s windows → ShowItems plan (shown s) windows
+    → plan_for s ≡ Some plan → StandFor s windows
+    → AreWindowsOf plan (IsShown (shown s)) windows
 windows_show s plan windows e f =
     subst (λ (o : Option Tiling). AreWindowsFor o (shown s) windows) e f
 
@@ -31,21 +34,21 @@ show_layers s plan windows tile layer a listed e stand u shows lists i j l r d t
     let q : Square = record { column = i; row = j } in
     let w = test_from_SquareIn (tile_window plan tile) q
     (record { left = l; right = r; bottom = d; top = t }) in
-    let f = windows_show s plan windows e stand in
+    let f = (windows_show s plan windows e stand).each tile u in
     same_tests (a i j) (listed i j)
-    (λ k. let p = shows.shown i j k in lists.all i j p.0 ((f.squares tile q layer p.0 u w).1 p.1))
+    (λ k. let p = shows.shown i j k in lists.all i j p.0 ((f.squares q layer p.0 w).1 p.1))
     (λ k. let p = lists.listed_at i j k in
-    shows.all i j p.0 ((f.squares tile q layer p.0 u w).0 p.1))
+    shows.all i j p.0 ((f.squares q layer p.0 w).0 p.1))
 
 pub list_shown : WindowsListWhatIsShown
-list_shown s plan windows tile r e stand u c =
-    let f = windows_show s plan windows e stand in
-    let n = f.near tile r u c in
+list_shown s plan windows tile r e stand near u c =
+    let f = (windows_show s plan windows e stand).each tile u in
+    let n = near tile r u c in
     record {
       square = n.square;
       inside = n.first;
       has = n.second;
-      shown_there = (f.squares tile n.square r.layer r.origin u n.first).0
+      shown_there = (f.squares n.square r.layer r.origin n.first).0
           (r, c, record { on_layer = refl; of_origin = refl; has = n.second });
     }
 
@@ -114,41 +117,37 @@ small : (t : Bool) (q plan : Tiling) → (if t then Some q else None) ≡ Some p
 small true q plan e = sym cc
 small false q plan e = cc
 
-record IsOver (deck : Deck) (plan : Tiling) : Type 0 where
-  extent : Box2
-  is : plan ≡ plan_of extent deck
+pub record IsOver (deck : Deck) (o : Option Box2) (plan : Tiling) : Type 0 where
+  pub extent : Box2
+  pub found : o ≡ Some extent
+  pub is : plan ≡ plan_of extent deck
 
-plan_is : (deck : Deck) (o : Option Box2) (plan : Tiling) → plan_over deck o ≡ Some plan
-    → IsOver deck plan
+pub plan_is : (deck : Deck) (o : Option Box2) (plan : Tiling) → plan_over deck o ≡ Some plan
+    → IsOver deck o plan
 plan_is deck None plan e = cc
 plan_is deck (Some extent) plan e =
     record {
       extent = extent;
+      found = refl;
       is = small (nat_le (tiles (plan_of extent deck)) 4096)
           (plan_of extent deck) plan e;
     }
 
 pub tell_met : WindowsTellMet
 tell_met s plan windows rule tile a b p origin e stand u c piece =
-    let f = windows_show s plan windows e stand in
+    let f = (windows_show s plan windows e stand).each tile u in
     let over = plan_is s.deck (shown_extent s) plan e in
     let within : (q : Square) → Meet (closed_square q) (piece_box p)
     → has_square (tile_window plan tile) q ≡ true =
     λ q m. subst (λ (x : Tiling). has_square (tile_window x tile) q ≡ true) (sym over.is)
     (met_in_window over.extent s.deck rule tile a b p q c
     (subst (λ (x : Tiling). IsPiece rule a b (tile_core x tile) p) over.is piece) m) in (
-      λ h. record {
-        layer = h.layer;
-        square = h.square;
-        is_listed = (f.squares tile h.square h.layer origin u (within h.square h.meets)).1
-            h.shown;
-        meets = h.meets;
-      },
-      λ h. record {
-        layer = h.layer;
-        square = h.square;
-        shown = (f.squares tile h.square h.layer origin u (within h.square h.meets)).0
-            h.is_listed;
-        meets = h.meets;
-      },
+      λ h.
+          let l = (f.squares h.0 h.1.0 origin (within h.0 h.2)).1 h.1.1 in
+          (h.0, (l.0, l.1, l.2.of_origin, l.2.has), h.2),
+      λ h.
+          let r = h.1.0 in
+          let l : IsListed (get_or windows tile []) r.layer origin h.0 =
+          (r, h.1.1, record { on_layer = refl; of_origin = h.1.2; has = h.1.3 }) in
+          (h.0, (r.layer, (f.squares h.0 r.layer origin (within h.0 h.2)).0 l), h.2),
     )

@@ -2,7 +2,7 @@
 use Rattle.std.specs.Prelude.{◌≡◌, ◌≤◌, ◌<◌, ◌^◌, ℕ, ◌+◌, ◌*◌, ◌/◌, ◌%◌, ℤ, pos, neg_ℤ, ◌+ℤ◌, ◌-ℤ◌, ◌≤ℤ◌, unsigned_abs, true}
 use Rattle.mpw_geom.specs.declared.plane.Box2.{Box2}
 use Rattle.mpw_geom.specs.declared.plane.Point.{Point}
-use Rattle.mpw_geom.specs.Plane.{IsBoxInPlane, IsOrdered, Square, has_square}
+use Rattle.mpw_geom.specs.Plane.{IsBoxInPlane, IsOrdered, Square, has_square, widened}
 use Rattle.mpw_tiles.specs.declared.grid.Block.{Block}
 
 -- A grid, by the extent that it covers and the side of its cells.
@@ -42,11 +42,6 @@ row_of g cell = cell / columns g
 
 abbrev pub core_of : Cells → ℕ → Box2
 core_of g cell = core_at g (column_of g cell) (row_of g cell)
-
--- The box, wider on each side.
-abbrev pub widened : Box2 → ℕ → Box2
-widened b n =
-    record { x0 = b.x0 -ℤ pos n; y0 = b.y0 -ℤ pos n; x1 = b.x1 +ℤ pos n; y1 = b.y1 +ℤ pos n }
 
 -- A window is its core, wider by the margin on each side.
 abbrev pub window_at : Cells → ℕ → (column row : ℕ) → Box2

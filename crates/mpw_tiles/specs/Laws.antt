@@ -1,17 +1,15 @@
 -- Laws of tiles.
-use Rattle.std.specs.Prelude.{◌≡◌, ◌≤◌, ◌<◌, ℕ, ℤ, true, IsTrue, List, [], slice_index_or, Option, Some, All, Contains, ◌↔◌}
+use Rattle.std.specs.Prelude.{◌≡◌, ◌≤◌, ◌<◌, ℕ, ℤ, true, List, [], slice_index_or, Option, Some, All, Contains, ◌↔◌}
 use Rattle.mpw_geom.specs.declared.plane.Layer.{Layer}
-use Rattle.mpw_geom.specs.declared.plane.Point.{Point}
 use Rattle.mpw_geom.specs.declared.plane.Box2.{Box2}
-use Rattle.mpw_geom.specs.Plane.{Square, has_point, has_square, closed_square}
+use Rattle.mpw_geom.specs.Meeting.{Meet, IsMet}
+use Rattle.mpw_geom.specs.Plane.{Square, has_square, closed_square}
 use Rattle.mpw_deck.specs.declared.rule.Rule.{Rule}
 use Rattle.mpw_deck.specs.Decks.{Deck}
 use Rattle.mpw_edges.specs.declared.run.Axis.{Axis}
-use Rattle.mpw_edges.specs.declared.run.Axis.TheVariants.{V, H}
 use Rattle.mpw_edges.specs.declared.run.Piece.{Piece}
-use Rattle.mpw_edges.specs.Edges.{Squares, exchanged}
-use Rattle.mpw_edges.specs.Steps.{IsPairStep}
-use Rattle.mpw_edges.specs.Pieces.{HasStep, IsPiece}
+use Rattle.mpw_edges.specs.Edges.{Squares}
+use Rattle.mpw_edges.specs.Pieces.{IsStepOn, HasStep, IsPiece, piece_box}
 use Rattle.mpw_edges.specs.Laws.{AreSameIn}
 use Rattle.mpw_hier.specs.declared.submission.Submission.{Submission}
 use Rattle.mpw_hier.specs.Items.{Item}
@@ -20,20 +18,15 @@ use Rattle.mpw_walk.specs.declared.root.Root.{Root}
 use Rattle.mpw_walk.specs.Turns.{flat_roots}
 use Rattle.mpw_walk.specs.Walk.{IsRoot}
 use Rattle.mpw_tiles.specs.declared.listing.Rectangle.{Rectangle}
-use Rattle.mpw_tiles.specs.Listing.{IsListed}
-use Rattle.mpw_tiles.specs.Placed.{IsSquareInPlane}
-use Rattle.mpw_tiles.specs.Shown.{ShowsSquare, IsShown}
-use Rattle.mpw_tiles.specs.Snapshots.{Snapshot, shown, plan_for, StandFor}
+use Rattle.mpw_tiles.specs.Listing.{IsListed, HasListed, ListNear}
+use Rattle.mpw_tiles.specs.Placed.{IsSquareInPlane, WindowsLieInPlane}
+use Rattle.mpw_tiles.specs.Shown.{ShowsSquare, IsShown, HasShown, AreShownOn}
+use Rattle.mpw_tiles.specs.Snapshots.{Snapshot, IsSnapshot, shown, plan_for, StandFor}
 use Rattle.mpw_tiles.specs.Plan.{Tiling, plan_of, tiles, tile_core, tile_window}
 
 -- The squares lie in the box.
 abbrev pub LieIn : Box2 → Squares → Type 0
 LieIn box a = (i j : ℤ) → a i j ≡ true → has_square box (record { column = i; row = j }) ≡ true
-
--- The pair steps on an axis, over the whole plane: H is V with the coordinates exchanged.
-abbrev pub IsStepOn : Rule → Squares → Squares → Axis → ℕ → ℤ → ℤ → ℤ → Type 0
-IsStepOn rule a b V = IsPairStep rule.check rule.distance a b
-IsStepOn rule a b H = IsPairStep rule.check rule.distance (exchanged a) (exchanged b)
 
 -- The pair step belongs to the core of this tile, and to no other.
 pub record IsOnlyTile (plan : Tiling) (rule : Rule) (a b : Squares) (axis : Axis) (side : ℕ)
@@ -72,13 +65,6 @@ EachWindowDecidesRows =
     → HasStep rule a b (tile_core (plan_of extent deck) tile) axis side x1 x2 j
     ↔ HasStep rule a' b' (tile_core (plan_of extent deck) tile) axis side x1 x2 j
 
--- The squares are those that shapes of the list have on the layer.
-pub record AreShownOn (items : List Item) (layer : Layer) (a : Squares) : Type 0 where
-  pub shown : (i j : ℤ) → a i j ≡ true
-      → (origin : ℕ) × IsShown items layer origin (record { column = i; row = j })
-  pub all : (i j : ℤ) (origin : ℕ) → IsShown items layer origin (record { column = i; row = j })
-      → a i j ≡ true
-
 -- The squares are those that the listed rectangles have on the layer.
 pub record AreListedOn (listed : List Rectangle) (layer : Layer) (a : Squares) : Type 0 where
   pub listed_at : (i j : ℤ) → a i j ≡ true
@@ -114,6 +100,11 @@ SquaresLieInPlane =
     → All (IsRoot ss) roots
     → IsShown (flat_roots ss roots) layer origin s → IsSquareInPlane s
 
+-- The windows of a snapshot's plan lie in the plane.
+abbrev pub PlansLieInPlane : Type 0
+PlansLieInPlane = (s : Snapshot) (plan : Tiling) → IsSnapshot s → plan_for s ≡ Some plan
+    → WindowsLieInPlane plan
+
 -- In the window of a tile, the rectangles that are listed for it have the squares of the shapes on each layer.
 abbrev pub WindowsShowLayers : Type 0
 WindowsShowLayers =
@@ -135,21 +126,9 @@ abbrev pub WindowsListWhatIsShown : Type 0
 WindowsListWhatIsShown =
     (snapshot : Snapshot) (plan : Tiling) (windows : List (List Rectangle)) (tile : ℕ)
     (r : Rectangle)
-    → plan_for snapshot ≡ Some plan → StandFor snapshot windows → tile < tiles plan
-    → Contains (slice_index_or windows tile []) r
+    → plan_for snapshot ≡ Some plan → StandFor snapshot windows → ListNear plan windows
+    → tile < tiles plan → Contains (slice_index_or windows tile []) r
     → ListsWhatIsShown (shown snapshot) (tile_window plan tile) r
-
--- The closed box of a run: on the axis V from x1 to x2 over its rows, on H with the coordinates exchanged.
-abbrev pub box_on : Axis → (x1 x2 y0 y1 : ℤ) → Box2
-box_on V x1 x2 y0 y1 = record { x0 = x1; y0 = y0; x1 = x2; y1 = y1 }
-box_on H x1 x2 y0 y1 = record { x0 = y0; y0 = x1; x1 = y1; y1 = x2 }
-
-abbrev pub piece_box : Piece → Box2
-piece_box p = box_on p.axis p.x1 p.x2 p.y0 p.y1
-
--- The closed boxes share a point.
-abbrev pub Meet : Box2 → Box2 → Type 0
-Meet a b = (p : Point) × IsTrue (has_point a p) × IsTrue (has_point b p)
 
 -- A closed unit square that meets the closed box of a run inside a tile's core lies in the tile's window.
 abbrev pub MetSquaresLieInWindows : Type 0
@@ -160,19 +139,6 @@ MetSquaresLieInWindows =
     → Meet (closed_square s) (piece_box p)
     → has_square (tile_window (plan_of extent deck) tile) s ≡ true
 
--- On some layer, a closed unit square of that origin meets the closed box: one of a shape of the list, and one of a listed rectangle.
-pub record IsMet (items : List Item) (box : Box2) (origin : ℕ) : Type 0 where
-  pub layer : Layer
-  pub square : Square
-  pub shown : IsShown items layer origin square
-  pub meets : Meet (closed_square square) box
-
-pub record IsListedMet (listed : List Rectangle) (box : Box2) (origin : ℕ) : Type 0 where
-  pub layer : Layer
-  pub square : Square
-  pub is_listed : IsListed listed layer origin square
-  pub meets : Meet (closed_square square) box
-
 -- Which origins meet the box of a run that a tile's core finds, its window alone tells.
 abbrev pub WindowsTellMet : Type 0
 WindowsTellMet =
@@ -181,5 +147,5 @@ WindowsTellMet =
     → plan_for snapshot ≡ Some plan → StandFor snapshot windows → tile < tiles plan
     → Contains snapshot.deck.rules rule
     → IsPiece rule a b (tile_core plan tile) p
-    → IsMet (shown snapshot) (piece_box p) origin ↔ IsListedMet (slice_index_or windows tile [])
-    (piece_box p) origin
+    → IsMet (HasShown (shown snapshot)) (piece_box p) origin
+    ↔ IsMet (HasListed (slice_index_or windows tile [])) (piece_box p) origin

@@ -1,10 +1,7 @@
 -- What a run looks at, and the windows that stand for it.
-use Rattle.std.specs.Prelude.{◌≡◌, ◌≤◌, ◌<◌, ◌^◌, ◌↔◌, ℕ, true, List, [], length, slice_index_or, All, Contains, Option, Some, None, nat_le, if◌then◌else◌}
+use Rattle.std.specs.Prelude.{◌≡◌, ◌≤◌, ◌^◌, List, [], length, All, Option, Some, None, nat_le, if◌then◌else◌}
 use Rattle.mpw_geom.specs.declared.plane.Box2.{Box2}
-use Rattle.mpw_geom.specs.declared.plane.Layer.{Layer}
-use Rattle.mpw_geom.specs.Plane.{Square, has_square}
 use Rattle.mpw_deck.specs.Decks.{Deck, IsDeck}
-use Rattle.mpw_tiles.specs.Grid.{ShareSquare}
 use Rattle.mpw_hier.specs.declared.submission.Submission.{Submission}
 use Rattle.mpw_hier.specs.Boxes.{extent_of}
 use Rattle.mpw_hier.specs.Items.{Item}
@@ -14,8 +11,8 @@ use Rattle.mpw_walk.specs.Roots.{roots_count}
 use Rattle.mpw_walk.specs.Turns.{flat_roots}
 use Rattle.mpw_walk.specs.Walk.{IsRoot}
 use Rattle.mpw_tiles.specs.declared.listing.Rectangle.{Rectangle}
-use Rattle.mpw_tiles.specs.Listing.{IsListed}
-use Rattle.mpw_tiles.specs.Plan.{Tiling, plan_of, tiles, tile_window}
+use Rattle.mpw_tiles.specs.Listing.{AreWindowsOf, ListNear}
+use Rattle.mpw_tiles.specs.Plan.{Tiling, plan_of, tiles}
 use Rattle.mpw_tiles.specs.Shown.{IsShown}
 
 -- A deck, placed submissions in order, and the shelf that they are on.
@@ -24,11 +21,11 @@ pub record Snapshot : Type 0 where
   pub roots : List Root
   pub shelf : List Submission
 
--- There are at most 4096 roots, each fits the shelf, and together they show at most 2^20 shapes.
+-- There are at most 4096 roots, each fits the shelf, and together they show at most 2^40 shapes.
 pub record AreRoots (shelf : List Submission) (roots : List Root) : Type 0 where
   pub few : length roots ≤ 4096
   pub fit : All (IsRoot shelf) roots
-  pub small : roots_count shelf roots ≤ 2 ^ 20
+  pub small : roots_count shelf roots ≤ 2 ^ 40
 
 -- What is true of a snapshot.
 pub record IsSnapshot (s : Snapshot) : Type 0 where
@@ -55,21 +52,15 @@ plan_over deck (Some extent) = small_plan (plan_of extent deck)
 abbrev pub plan_for : Snapshot → Option Tiling
 plan_for s = plan_over s.deck (shown_extent s)
 
--- One window a tile. In each, by layer and origin, a listed rectangle has a unit square of the window exactly where a shape has it.
--- Nothing is listed that has no square of the window.
-pub record ShowItems (plan : Tiling) (items : List Item) (windows : List (List Rectangle)) :
-    Type 0 where
-  pub count : length windows ≡ tiles plan
-  pub squares : (tile : ℕ) (s : Square) (layer : Layer) (origin : ℕ) → tile < tiles plan
-      → has_square (tile_window plan tile) s ≡ true
-      → IsListed (slice_index_or windows tile []) layer origin s ↔ IsShown items layer origin s
-  pub near : (tile : ℕ) (r : Rectangle) → tile < tiles plan
-      → Contains (slice_index_or windows tile []) r → ShareSquare (tile_window plan tile) r.area
-
 abbrev pub AreWindowsFor : Option Tiling → List Item → List (List Rectangle) → Type 0
 AreWindowsFor None items windows = windows ≡ []
-AreWindowsFor (Some plan) items windows = ShowItems plan items windows
+AreWindowsFor (Some plan) items windows = AreWindowsOf plan (IsShown items) windows
 
--- The windows stand for the snapshot: those of its plan show the shapes of its roots. Without a plan there are none.
+-- The windows stand for the snapshot: those of its plan show just the squares that the shapes of its roots have. Without a plan there
+-- are none.
 abbrev pub StandFor : Snapshot → List (List Rectangle) → Type 0
 StandFor s windows = AreWindowsFor (plan_for s) (shown s) windows
+
+-- Each rectangle that they list has a unit square of its tile's window.
+abbrev pub ListNearby : Snapshot → List (List Rectangle) → Type 0
+ListNearby s windows = (plan : Tiling) → plan_for s ≡ Some plan → ListNear plan windows

@@ -6,7 +6,7 @@ ghost use Rattle.std.specs.Prelude.{◌≡◌, ◌≤◌, ◌<◌, [], length, A
 ghost use Rattle.mpw_geom.specs.Plane.{IsBoxInPlane};
 ghost use Rattle.mpw_tiles.specs.Grid.{columns, rows, column_of, row_of, IsInBlock};
 ghost use Rattle.mpw_tiles.specs.Plan.{tiles};
-ghost use Rattle.mpw_tiles.specs.Listing.{HasSquareOf, IsListed, AreWindowsOf};
+ghost use Rattle.mpw_tiles.specs.Listing.{HasSquareOf, IsListed, AreWindowsOf, ListNear};
 ghost use Rattle.mpw_tiles.specs.Internal.Listing.{Lists, IsInRow, AddsSquares};
 
 use crate::grid::Block;
@@ -114,7 +114,8 @@ pub fn windows_of(
     rectangles: &[Rectangle],
 ) -> Result<Windows, AllocError>
     requires plane { All (λ r. IsBoxInPlane r.area) rectangles.now }
-    ensures { IfOk result (AreWindowsOf plan.now rectangles.now) }
+    ensures windows { IfOk result (AreWindowsOf plan.now (IsListed rectangles.now)) }
+    ensures near { IfOk result (ListNear plan.now) }
 {
     let mut lists = empty_lists(alloc, plan.tiles())?;
     list_all(&mut lists, plan, rectangles)?;

@@ -8,12 +8,14 @@ ghost use Rattle.mpw_tiles.specs.Laws.{
   SquaresLieInExtents,
   LayersLieInExtents,
   SquaresLieInPlane,
+  PlansLieInPlane,
   WindowsShowLayers,
   WindowsListWhatIsShown,
   MetSquaresLieInWindows,
   WindowsTellMet,
 };
 
+use crate::grid_laws::windows_reach_no_further;
 use mpw_hier::extents_are_least_boxes;
 use mpw_walk::roots_show_what_their_submissions_do;
 
@@ -42,14 +44,23 @@ pub fn squares_lie_in_boxes()
     roots_show_what_their_submissions_do();
 }
 
+/// The windows of a snapshot's plan lie in the plane of coordinates from -2^48 to 2^48.
+pub fn plans_lie_in_plane()
+    ensures { PlansLieInPlane }
+{
+    windows_reach_no_further();
+    extents_are_least_boxes();
+    roots_show_what_their_submissions_do();
+}
+
 /// Of windows that stand for a snapshot: in its window, what is listed for a tile has the squares of the shapes on each
 /// layer.
 pub fn windows_show_layers()
     ensures { WindowsShowLayers }
 {}
 
-/// Of windows that stand for a snapshot: each rectangle that is listed for a tile has a unit square of the tile's window that
-/// a shape of its layer and origin has. So a window tells nothing of a submission that shows nothing in it.
+/// Of windows that stand for a snapshot and list nothing that has no square of its window, as those of [`cut`](crate::cut): each
+/// rectangle that is listed for a tile has a unit square of the tile's window that a shape of its layer and origin has. So a window tells nothing of a submission that shows nothing in it.
 pub fn windows_list_what_is_shown()
     ensures { WindowsListWhatIsShown }
 {}

@@ -29,8 +29,8 @@ pub use fill::windows_of;
 pub use grid::{Block, Grid};
 pub use grid_laws::{each_point_has_one_core, windows_reach_no_further};
 pub use laws::{
-    each_step_has_one_tile, each_window_decides, each_window_tells_met, squares_lie_in_boxes,
-    windows_list_what_is_shown, windows_show_layers,
+    each_step_has_one_tile, each_window_decides, each_window_tells_met, plans_lie_in_plane,
+    squares_lie_in_boxes, windows_list_what_is_shown, windows_show_layers,
 };
 pub use listing::{Rectangle, Window, Windows};
 pub use place::PlacedShape;

@@ -7,7 +7,7 @@ ghost use Rattle.mpw_hier.specs.Boxes.{is_box_near};
 ghost use Rattle.mpw_geom.specs.Plane.{IsOrdered};
 ghost use Rattle.mpw_walk.specs.Roots.{roots_count};
 ghost use Rattle.mpw_tiles.specs.Placed.{WindowsLieInPlane};
-ghost use Rattle.mpw_tiles.specs.Snapshots.{AreRoots, IsSnapshot, shown_extent, plan_for, StandFor};
+ghost use Rattle.mpw_tiles.specs.Snapshots.{AreRoots, IsSnapshot, shown_extent, plan_for, StandFor, ListNearby};
 
 use crate::extent::roots_extent;
 use crate::fill::empty_lists;
@@ -26,8 +26,8 @@ use std::marker::Model;
 /// The most roots of a snapshot.
 pub const MAX_ROOTS: usize = 4096;
 
-/// The most shapes of all roots of a snapshot together.
-pub const MAX_SHAPES: u64 = 1 << 20;
+/// The most shapes of all roots of a snapshot together: as many as one submission of a shelf may show.
+pub const MAX_SHAPES: u64 = mpw_hier::MAX_SHAPES;
 
 /// How many shapes the roots show.
 fn shape_count(shelf: &Shelf, roots: &[Root]) -> u64
@@ -36,12 +36,12 @@ fn shape_count(shelf: &Shelf, roots: &[Root]) -> u64
 {
     let mut count = 0u64;
     for root in roots {
-        count += u64::from(shelf.count(root.submission));
+        count += shelf.count(root.submission);
     }
     count
 }
 
-/// Whether the roots can be those of a snapshot: at most 4096, each fits the shelf, and together they show at most 2^20
+/// Whether the roots can be those of a snapshot: at most 4096, each fits the shelf, and together they show at most 2^40
 /// shapes. Linear in the roots; takes no memory.
 pub fn are_roots(shelf: &Shelf, roots: &[Root]) -> bool
     ensures { IsTrue result ↔ AreRoots shelf.now roots.now }
@@ -56,7 +56,7 @@ pub fn are_roots(shelf: &Shelf, roots: &[Root]) -> bool
 }
 
 /// A deck, roots in order, and a shelf: contracts see the three values. There are at most 4096 roots, each fits the shelf,
-/// and together they show at most 2^20 shapes. Copies share all three.
+/// and together they show at most 2^40 shapes. Copies share all three.
 pub struct Snapshot {
     deck: Deck,
     roots: SharedList<Root>,
@@ -231,7 +231,8 @@ impl Snapshot {
 /// # Errors
 /// Where there is no memory.
 pub fn cut(alloc: Global, snapshot: &Snapshot) -> Result<Windows, AllocError>
-    ensures { IfOk result (StandFor snapshot.now) }
+    ensures windows { IfOk result (StandFor snapshot.now) }
+    ensures near { IfOk result (ListNearby snapshot.now) }
 {
     let Some(plan) = snapshot.plan() else {
         return Windows::from_vec(alloc, Vec::new(alloc));

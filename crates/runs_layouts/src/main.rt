@@ -4,17 +4,21 @@
 //!
 //! - `outside TOP | ..` prints the names outside that a top shows;
 //! - `new` begins with an empty shelf, `copy` goes on with a copy, `cells` prints the cells;
-//! - `submit CELL TOP | ..` puts a library on the shelf, and prints what it shows;
+//! - `submit CELL TOP | ..` puts a library on the shelf, which may show 2^20 shapes as on a desk, and prints what it shows;
+//! - `take MOST CELL TOP | ..` does so of one that may show so many;
 //! - `fill C N | ..` submits the library's `TOP` to the cells C0 to C(N-1), and `again CELL N | ..` N times to one;
 //! - `same N N` compares two submissions and their libraries by value, `apart CELL TOP | ..` a copy of the shelf before
 //!   and after a submission to the copy alone;
 //! - `walk N R90 x y, ..` prints each shape of placed submissions, `count N R90 x y, ..` their number;
 //! - `within x0 y0 x1 y1, N R90 x y, ..` prints each shape of placed submissions that meets a window;
-//! - `walks N` compares walks over random shelves with a plain flattening.
+//! - `seen N 101` prints how many shapes of a submission come from those submissions with a `1`, by number, of how many;
+//!   with `walked` behind it, how many a walk gives too;
+//! - `walks N` compares walks over random shelves with a plain flattening, and numbers of seen shapes with walks.
 #![tactic(auto)]
 
 mod flat;
 mod random;
+mod seen;
 mod shelves;
 mod walks;
 
@@ -40,6 +44,8 @@ fn answer(rt: &(impl Print + AllocGlobal), shelf: &mut Shelf, line: &str) -> Res
     match words.as_slice() {
         ["outside", top] => shelves::outside(rt, top, notation),
         ["walks", count] => walks::compared(rt, count),
+        ["seen", number, flags] => seen::print_seen(rt, shelf, number, flags),
+        ["seen", number, flags, "walked"] => seen::print_walked(rt, shelf, number, flags),
         words => shelves::answer(rt, shelf, words, notation),
     }
 }

@@ -17,7 +17,7 @@ use std::alloc::{AllocError, Global};
 const NAMES: [&str; 8] = ["A", "B", "C", "D", "E", "F", "G", "H"];
 
 /// The most flat shapes of a root.
-const MAX_SHAPES: u32 = 2000;
+const MAX_SHAPES: u64 = 2000;
 
 /// A linear congruential generator (Knuth, MMIX), and the layer of the last shape.
 #[derive(Drop)]
@@ -60,6 +60,15 @@ impl Random {
             .wrapping_add(1442695040888963407);
         let high = (self.state >> 40) % u64::from(bound.max(1));
         u16::try_from(high).unwrap_or(0)
+    }
+
+    /// So many flags, half of them set.
+    pub fn flags(&mut self, alloc: Global, count: usize) -> Result<Vec<bool>> {
+        let mut flags = Vec::new(alloc);
+        for _ in 0..count {
+            flags.push(self.below(2) == 1)?;
+        }
+        Ok(flags)
     }
 
     /// -500 to 500 nm.
@@ -215,7 +224,7 @@ impl Random {
         let bytes = text_of_library(alloc, notation.as_str())?;
         let top = self.top(plan);
         let cell = name_of(self.below(4));
-        put_text(alloc, shelf, cell, top, &bytes)??;
+        put_text(alloc, shelf, cell, top, &bytes, mpw_hier::MAX_SHAPES)??;
         Ok(())
     }
 

@@ -1,12 +1,17 @@
 //! A shelf of submissions.
 
+ghost use Rattle.std.specs.Prelude.{◌≤◌, ◌^◌, IfOk};
+
 use anyhow::{Result, bail};
 use mpw_geom::{Box2, Name};
-use mpw_hier::{Outline, Shelf};
+use mpw_hier::{MAX_SHAPES, Outline, Shelf};
 use mpw_library::read_library;
 use mpw_plain::put_text;
 use mpw_samples::text_of_library;
 use mpw_words::number;
+
+/// The most shapes that a submission may show where a line names no limit: those of a desk's.
+const DESK: u64 = 1 << 20;
 
 /// What a submission shows.
 fn print_shown(rt: &impl Print, shelf: &Shelf, number: u32) -> Result<()> {
@@ -19,17 +24,30 @@ fn print_shown(rt: &impl Print, shelf: &Shelf, number: u32) -> Result<()> {
     }
 }
 
-/// Prints what the submission shows, or why there is none.
+/// Submits what may show so many shapes, and prints what it shows, or why there is none.
 fn submit(
     rt: &(impl Print + AllocGlobal),
     shelf: &mut Shelf,
     cell: &str,
     top: &str,
     bytes: &[u8],
-) -> Result<()> {
-    match put_text(rt.alloc(), shelf, cell, top, bytes)? {
+    most: u64,
+) -> Result<()>
+    requires { most ≤ 2 ^ 40 }
+{
+    match put_text(rt.alloc(), shelf, cell, top, bytes, most)? {
         Ok(number) => print_shown(rt, shelf, number),
         Err(fault) => Ok(println!(rt; "    {fault}")?),
+    }
+}
+
+/// A limit of shapes that a shelf may be given.
+fn limit(word: &str) -> Result<u64>
+    ensures { IfOk result (λ most. most ≤ 2 ^ 40) }
+{
+    match word.parse::<u64>() {
+        Ok(most) if most <= MAX_SHAPES => Ok(most),
+        _ => bail!("a limit"),
     }
 }
 
@@ -44,7 +62,7 @@ fn fill(
     let mut last = 0;
     for k in 0..number(count)? {
         let cell = format!(in rt.alloc(); "{cell}{k}")?;
-        last = put_text(rt.alloc(), shelf, cell.as_str(), "TOP", bytes)??;
+        last = put_text(rt.alloc(), shelf, cell.as_str(), "TOP", bytes, DESK)??;
     }
     print_shown(rt, shelf, last)
 }
@@ -59,7 +77,7 @@ fn again(
 ) -> Result<()> {
     let mut last = 0;
     for _ in 0..number(count)? {
-        last = put_text(rt.alloc(), shelf, cell, "TOP", bytes)??;
+        last = put_text(rt.alloc(), shelf, cell, "TOP", bytes, DESK)??;
     }
     print_shown(rt, shelf, last)
 }
@@ -88,7 +106,7 @@ fn apart(
 ) -> Result<()> {
     let mut copy = shelf.copy(rt.alloc())?;
     let before = told(copy.is_same(shelf));
-    put_text(rt.alloc(), &mut copy, cell, top, bytes)??;
+    put_text(rt.alloc(), &mut copy, cell, top, bytes, DESK)??;
     let behind = told(copy.is_same(shelf));
     let (ours, theirs) = (shelf.submissions().len(), copy.submissions().len());
     Ok(println!(rt; "    {before}, then {behind}: {ours} submissions and {theirs}")?)
@@ -136,7 +154,8 @@ pub fn answer(
 ) -> Result<()> {
     let bytes = text_of_library(rt.alloc(), notation)?;
     match words {
-        ["submit", cell, top] => submit(rt, shelf, cell, top, &bytes),
+        ["submit", cell, top] => submit(rt, shelf, cell, top, &bytes, DESK),
+        ["take", most, cell, top] => submit(rt, shelf, cell, top, &bytes, limit(most)?),
         ["fill", cell, count] => fill(rt, shelf, cell, count, &bytes),
         ["again", cell, count] => again(rt, shelf, cell, count, &bytes),
         ["same", first, second] => same(rt, shelf, first, second),

@@ -2,6 +2,7 @@
 
 use crate::flat::{flat_list, gives};
 use crate::random::Random;
+use crate::seen::agree;
 use anyhow::{Result, bail};
 use mpw_geom::Point;
 use mpw_hier::Shelf;
@@ -85,7 +86,7 @@ fn told(shelf: &Shelf, roots: &[Root]) -> usize {
     count
 }
 
-/// Walks over a random shelf, and tells how many shapes it shows, or none where the flat list differs.
+/// Walks over a random shelf, and tells how many shapes it shows, or none where the flat list, or a number of seen shapes, differs.
 fn compared_one(alloc: Global, random: &mut Random) -> Result<Option<usize>> {
     let shelf = random.shelf(alloc)?;
     let roots = random.roots(alloc, &shelf)?;
@@ -93,14 +94,17 @@ fn compared_one(alloc: Global, random: &mut Random) -> Result<Option<usize>> {
         bail!("roots that fit");
     }
     let list = flat_list(alloc, &shelf, &roots)?;
+    let seen = random.flags(alloc, shelf.submissions().len())?;
+    let mut again = Walk::new(&shelf, &roots);
+    let seen_agree = agree(alloc, &shelf, &roots, &mut again, &seen)?;
     let mut walk = Walk::new(&shelf, &roots);
-    if gives(&mut walk, &list) && list.len() == told(&shelf, &roots) {
+    if seen_agree && gives(&mut walk, &list) && list.len() == told(&shelf, &roots) {
         return Ok(Some(list.len()));
     }
     Ok(None)
 }
 
-/// Compares walks over so many random shelves with a plain flattening.
+/// Compares walks over so many random shelves with a plain flattening, and numbers of seen shapes with walks.
 pub fn compared(rt: &(impl Print + AllocGlobal), word: &str) -> Result<()> {
     let Ok(shelves) = word.parse::<u32>() else {
         bail!("a number");
