@@ -1,39 +1,66 @@
 -- Listings of shapes: how many lines they have, and that what is seen is what may be read.
-use Rattle.std.proofs.Common.{◌≡◌, ◌≤◌, Bool, true, false, cond, Option, Some, None, List, [], ◌∷◌, ◌++◌, length, refl, sym, ap, ◌∙◌, arith}
-use Rattle.std.specs.Prelude.{slice_get}
+use Rattle.std.proofs.Common.{◌≡◌, ℕ, ◌<◌, inl, inr, Bool, true, false, cond, Option, Some, None, List, [], ◌∷◌, ◌++◌, length, refl, sym, ap, ◌∙◌, arith}
+use Rattle.std.specs.Prelude.{slice_get, All}
 use Rattle.std.specs.List.{flat_map}
 use Rattle.std.proofs.lemmas.List.{length-append}
+use Rattle.std.proofs.lemmas.List.Elements.{All-head, All-tail}
+use Rattle.std.proofs.lemmas.List.Sums.{sum_by-cons}
+use Rattle.std.proofs.lemmas.Option.{slice_get_cases}
 use Rattle.mpw_hier.specs.declared.submission.Submission.{Submission}
 use Rattle.mpw_hier.specs.Items.{Item}
-use Rattle.mpw_replies.specs.Listing.{Listed, shape_line, line_if, is_seen, seen_line, seen_lines}
+use Rattle.mpw_hier.specs.Shelved.{ShapesAreOfEarlier}
+use Rattle.mpw_hier.specs.Values.{flat}
+use Rattle.mpw_walk.specs.declared.root.Root.{Root}
+use Rattle.mpw_walk.specs.Turns.{flat_roots}
+use Rattle.mpw_walk.specs.Walk.{IsRoot}
+use Rattle.mpw_seen.specs.Seen.{is_seen, seen_items}
+use Rattle.mpw_replies.specs.Listing.{Listed, line_if, seen_line, seen_lines, IsListing}
 
 -- ---- how many lines
 
-one_line : (test : Submission → Bool) (o : Option Submission) (item : Item)
-    → length (line_if test o item) ≤ 1
-one_line test None item = omega arith
-one_line test (Some s) item = elim (test s) as
-    (λ b. length (cond b (shape_line s item ∷ []) []) ≤ 1) [
-      | true ↦ omega arith
-      | false
-          ↦ omega arith
-    ]
+-- a shape that is seen has one line
+abbrev one_if : List Bool → Item → ℕ
+one_if seen i = cond (is_seen (slice_get seen i.origin)) 1 0
 
-pub lines_few : (shelf : List Submission) (seen : List Bool) (items : List Item)
-    → length (seen_lines shelf seen items) ≤ length items
-unfolding seen_lines
-lines_few shelf seen [] = omega arith
-lines_few shelf seen (item ∷ items) =
-    let one =
-    one_line (λ s. is_seen (slice_get seen item.origin)) (slice_get shelf item.origin) item in
-    let rest = lines_few shelf seen items in
-    omega (
-      arith,
-      one,
-      rest,
-      length-append (seen_line shelf seen item)
-          (flat_map (seen_line shelf seen) items),
-    )
+one_line : (seen : Bool) (o : Option Submission) (item : Item) → (o ≡ None → ⊥)
+    → length (line_if (λ s. seen) o item) ≡ cond seen 1 0
+one_line true (Some s) item there = refl
+one_line false (Some s) item there = refl
+one_line true None item there = absurd (there refl)
+one_line false None item there = absurd (there refl)
+
+there_within : {X : Type 0} (xs : List X) (i : ℕ) → i < length xs → slice_get xs i ≡ None → ⊥
+there_within xs i h none = elim (slice_get_cases xs i).1 [
+  | inl p ↦ let e = sym p.2 ∙ none in absurd cc
+  | inr p ↦ absurd (omega (arith, h, p.0))
+]
+
+-- a line for each shape that is seen, where all come from the shelf
+pub lines_many : (shelf : List Submission) (seen : List Bool) (items : List Item)
+    → All (λ (i : Item). i.origin < length shelf) items
+    → length (seen_lines shelf seen items) ≡ seen_items seen items
+unfolding seen_lines seen_items
+lines_many shelf seen [] within = refl
+lines_many shelf seen (item ∷ items) within =
+    let on = All-head (λ (i : Item). i.origin < length shelf) item items within in
+    let p = length-append (seen_line shelf seen item) (flat_map (seen_line shelf seen) items) in
+    let q = one_line (is_seen (slice_get seen item.origin)) (slice_get shelf item.origin) item
+    (there_within shelf item.origin on) in
+    let r = lines_many shelf seen items
+    (All-tail (λ (i : Item). i.origin < length shelf) item items within) in
+    let t = sum_by-cons (one_if seen) item items in
+    omega (arith, p, q, r, t)
+
+-- a listing of a submission: its lines are as many as were counted
+pub listing_is : (shelf : List Submission) (seen : List Bool) (number count : ℕ) (root : Root)
+    → IsRoot shelf root → flat_roots shelf (root ∷ []) ≡ flat shelf number → ShapesAreOfEarlier
+    → count ≡ seen_items seen (flat shelf number) → IsListing shelf root seen count
+listing_is shelf seen number count root is shapes origins counted = record {
+  root_is = is;
+  count_is = counted ∙ sym (lines_many shelf seen (flat shelf number)
+      (λ k d h. (origins shelf number k d h).within))
+      ∙ ap (λ items. length (seen_lines shelf seen items)) (sym shapes);
+}
 
 -- ---- one shape more
 

@@ -1,5 +1,5 @@
 -- The lines of an accepted request's reply. A listing of shapes is kept as what it lists: the shelf, and which submissions may be seen.
-use Rattle.std.specs.Prelude.{◌≡◌, ℕ, Bool, false, List, [], ◌∷◌, length, slice_get, Option, None, Some, if◌then◌else◌}
+use Rattle.std.specs.Prelude.{◌≡◌, ℕ, Bool, List, [], ◌∷◌, length, slice_get, Option, None, Some, if◌then◌else◌}
 use Rattle.std.specs.List.{flat_map}
 use Rattle.mpw_geom.specs.declared.placing.Placing.{Placing}
 use Rattle.mpw_structures.specs.declared.element.Element.{Element}
@@ -10,6 +10,7 @@ use Rattle.mpw_walk.specs.Turns.{flat_roots}
 use Rattle.mpw_walk.specs.Walk.{IsRoot}
 use Rattle.mpw_markers.specs.declared.marker.Key.{Key}
 use Rattle.mpw_roles.specs.Hierarchy.{Name}
+pub use Rattle.mpw_seen.specs.Seen.{is_seen}
 use Rattle.mpw_replies.specs.declared.reply.Line.{Line}
 use Rattle.mpw_replies.specs.declared.entry.Entry.{Entry}
 
@@ -33,11 +34,6 @@ line_if test None item = []
 line_if test (Some s) item = if test s then shape_line s item ∷ [] else []
 
 -- ---- what is kept of a listing
-
--- whether the submission of that number may be seen
-abbrev pub is_seen : Option Bool → Bool
-is_seen None = false
-is_seen (Some seen) = seen
 
 -- the line of a shape, where the submission that it comes from may be seen
 abbrev pub seen_line : List Submission → List Bool → Item → List Listed

@@ -2,7 +2,7 @@
 //!
 //! A listing holds the shelf, which submission it lists, and which submissions may be seen; copies of a reply share it. Its
 //! lines are made one by one by a walk, which takes no memory.
-ghost use Rattle.std.specs.Prelude.{◌≡◌, ◌<◌, ◌≤◌, ◌^◌, ◌∷◌, ◌++◌, [], length, All, IfSome, IfNone};
+ghost use Rattle.std.specs.Prelude.{◌≡◌, ◌<◌, ◌≤◌, ◌∷◌, ◌++◌, [], length, All, IfOk, IfSome, IfNone};
 ghost use Rattle.mpw_hier.specs.Values.{flat};
 ghost use Rattle.mpw_walk.specs.Turns.{given, flat_roots};
 ghost use Rattle.mpw_walk.specs.Walk.{IsRoot};
@@ -11,11 +11,12 @@ ghost use Rattle.mpw_replies.specs.Listing.{seen_line, seen_lines};
 ghost use Rattle.mpw_replies.specs.Shapes.{IsPlaceableView, line_of};
 ghost use Rattle.mpw_replies.specs.Internal.Shapes.{lines_of};
 
-use crate::sight::is_seen;
 use mpw_geom::{Name, Placing};
 use mpw_hier::{Shelf, shelves_have_their_numbers};
+use mpw_seen::{is_seen, seen_count};
 use mpw_structures::Element;
 use mpw_walk::{Placed, Root, Walk};
+use std::alloc::{AllocError, Global};
 use std::marker::Model;
 use std::slice;
 
@@ -84,24 +85,32 @@ impl<'a> Model for ShapeViews<'a> {
 }
 
 impl ShapeListing {
-    /// The listing of a submission's shapes, as far as they may be seen. It goes over the flat list once.
-    pub fn new(shelf: Shelf, number: u32, seen: Vec<bool>) -> ShapeListing
+    /// The listing of a submission's shapes, as far as they may be seen. The lines are counted by [`seen_count`], at its cost in time
+    /// and memory: the flat list isn't gone over.
+    ///
+    /// # Errors
+    /// Want of memory.
+    pub fn new(
+        alloc: Global,
+        shelf: Shelf,
+        number: u32,
+        seen: Vec<bool>,
+    ) -> Result<ShapeListing, AllocError>
         requires { number < length shelf }
-        ensures { result ≡ seen_lines shelf seen.items (flat shelf number) }
+        ensures { IfOk result (λ listing. listing ≡ seen_lines shelf seen.items (flat shelf number)) }
     {
-        shelf.is_shelf();
         shelves_have_their_numbers();
+        let count = seen_count(alloc, &shelf, number, &seen)? as usize;
         let root = Root::at_origin(&shelf, number);
-        let count = count_lines(&shelf, slice::from_ref(&root), &seen);
-        ShapeListing {
+        Ok(ShapeListing {
             shelf,
             root,
             seen,
             count,
-        }
+        })
     }
 
-    /// The number of lines, at most 2^20.
+    /// The number of lines, at most 2^40.
     pub fn len(&self) -> usize
         ensures { result ≡ length self.now }
     {
@@ -170,19 +179,4 @@ fn view_of<'a>(shelf: &'a Shelf, seen: &[bool], placed: &Placed<'a>) -> Option<S
         placing: placed.placing,
         element: placed.element,
     })
-}
-
-/// The number of lines of roots that show at most 2^20 shapes.
-fn count_lines(shelf: &Shelf, roots: &[Root], seen: &[bool]) -> usize
-    requires roots { All (IsRoot shelf.now) roots.now }
-    requires few { length roots.now ≤ 1 }
-    requires shapes { length (flat_roots shelf.now roots.now) ≤ 2 ^ 20 }
-    ensures { result ≡ length (seen_lines shelf.now seen.now (flat_roots shelf.now roots.now)) }
-{
-    let mut views = views_of(shelf, roots, seen);
-    let mut count = 0usize;
-    while let Some(_) = views.next() {
-        count += 1;
-    }
-    count
 }

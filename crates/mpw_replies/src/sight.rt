@@ -1,20 +1,11 @@
 //! What is seen of a marker, by which of the submissions that it meets may be seen.
 ghost use Rattle.std.specs.Prelude.{◌≡◌, slice_get};
 ghost use Rattle.std.specs.List.{list_all, list_any};
-ghost use Rattle.mpw_replies.specs.Listing.{is_seen};
+ghost use Rattle.mpw_seen.specs.Seen.{is_seen};
 ghost use Rattle.mpw_replies.specs.Sight.{is_full, is_masked};
 
 use mpw_markers::Marker;
-
-/// Whether the submission of a number may be seen.
-pub(crate) fn is_seen(seen: &[bool], number: u32) -> bool
-    ensures { result ≡ is_seen (slice_get seen.now number) }
-{
-    match seen.get(number as usize) {
-        Some(seen) => *seen,
-        None => false,
-    }
-}
+use mpw_seen::is_seen;
 
 /// Whether each of the submissions may be seen. One pass over their numbers.
 fn are_all_seen(seen: &[bool], met: &[u32]) -> bool

@@ -1,0 +1,5 @@
+pub mod Sums
+pub mod Placed
+pub mod Children
+pub mod Nodes
+pub mod Reaching

@@ -1,0 +1,5 @@
+use Rattle.mpw_seen.specs.Internal.Marks.{AreMarked}
+use Rattle.mpw_seen.proofs.marks.mark_bound.Given as goal
+
+abbrev pub invariant-loop-binding : goal.invariant-loop-binding
+invariant-loop-binding l = AreMarked l.bindings l.binding-index l.below l.initial.marks l.marks
