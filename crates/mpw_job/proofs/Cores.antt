@@ -17,45 +17,28 @@ use Rattle.mpw_tiles.specs.Grid.{core_at}
 use Rattle.mpw_hier.specs.Items.{Item}
 use Rattle.mpw_tiles.specs.declared.listing.Rectangle.{Rectangle}
 use Rattle.mpw_tiles.specs.Laws as tiling
+use Rattle.mpw_tiles.proofs.Told.{plan_is}
 use Rattle.mpw_tiles.specs.Placed.{IsSquareInPlane}
 use Rattle.mpw_tiles.specs.Plan.{Tiling, plan_of, tiles, tile_core, tile_window}
 use Rattle.mpw_tiles.specs.Snapshots.{Snapshot, shown, shown_extent, plan_over, plan_for, StandFor}
 use Rattle.mpw_markers.specs.declared.marker.Key.{Key}
 use Rattle.mpw_markers.specs.declared.marker.Marker.{Marker}
 use Rattle.mpw_markers.specs.Markers as marks
-use Rattle.mpw_markers.specs.Whole.{IsMet, IsMaximal, IsMarkerOf, AreMarkersOf}
+use Rattle.mpw_geom.specs.Meeting.{IsMet}
+use Rattle.mpw_markers.specs.Whole.{IsMaximal, IsMarkerOf, AreMarkersOf}
 use Rattle.mpw_markers.specs.Laws.{steps_in}
 use Rattle.mpw_edges.specs.Computed.{TestDecidesPairSteps}
-use Rattle.mpw_job.specs.Layers.{first_squares, second_squares, steps_of}
+use Rattle.mpw_job.specs.Computed.{steps_of, shown_on}
+use Rattle.mpw_job.specs.Layers.{first_squares, second_squares}
 use Rattle.mpw_job.specs.Internal.Cores.{is_in_core}
-use Rattle.mpw_job.specs.Answers.{HasListed, listed_on, IsFoundIn, run_of, Answers}
+use Rattle.mpw_tiles.specs.Listing.{HasListed}
+use Rattle.mpw_job.specs.Answers.{listed_on, IsFoundIn, run_of, Answers}
 use Rattle.mpw_job.specs.Internal.Keys.{run_at}
-use Rattle.mpw_job.specs.Layout.{shown_on}
 use Rattle.mpw_job.specs.Laws.{tile_job_of, CoresLieInPlane}
 use Rattle.mpw_job.proofs.Tests.{same_first, same_second, get_contains, maximal_from, run_from, rule_of}
 use Rattle.mpw_job.proofs.Shapes.{tests_tell, tests_tell_listed, shown_by, by_from, by_as}
 
--- ---- plans
-
-small : (t : Bool) (q plan : Tiling) → (if t then Some q else None) ≡ Some plan → plan ≡ q
-small true q plan e = sym cc
-small false q plan e = cc
-
-pub record IsOver (deck : Deck) (o : Option Box2) (plan : Tiling) : Type 0 where
-  pub extent : Box2
-  pub found : o ≡ Some extent
-  pub is : plan ≡ plan_of extent deck
-
-pub plan_is : (deck : Deck) (o : Option Box2) (plan : Tiling) → plan_over deck o ≡ Some plan
-    → IsOver deck o plan
-plan_is deck None plan e = cc
-plan_is deck (Some extent) plan e =
-    record {
-      extent = extent;
-      found = refl;
-      is = small (nat_le (tiles (plan_of extent deck)) 4096)
-          (plan_of extent deck) plan e;
-    }
+-- ---- cores
 
 -- a core with area, whose squares' margin lies in the plane, lies in it
 core_near : (core : Box2) (margin : ℕ) → core.x0 <ℤ core.x1 → core.y0 <ℤ core.y1
@@ -114,44 +97,14 @@ core_high : (plan : Tiling) (tile : ℕ) → 1 ≤ plan.grid.side
 unfolding core_at
 core_high plan tile h = omega (arith, ints)
 
-pub cores_in_plane : CoresLieInPlane
-cores_in_plane s plan tile h e near u =
+pub cores_in_plane : tiling.PlansLieInPlane → CoresLieInPlane
+cores_in_plane in_plane s plan tile h e u =
     let over = plan_is s.deck (shown_extent s) plan e in
     let least = h.deck.short in
     let side : 1 ≤ plan.grid.side = subst (λ (q : Tiling). 1 ≤ q.grid.side) (sym over.is)
     (omega arith) in
     core_near (tile_core plan tile) plan.margin (core_wide plan tile side)
-    (core_high plan tile side) (λ q w. near tile q u w)
-
--- ---- boxes and what they meet
-
-pub same_boxes : (axis : Axis) (x1 x2 y0 y1 : ℤ)
-    → marks.box_on axis x1 x2 y0 y1 ≡ tiling.box_on axis x1 x2 y0 y1
-same_boxes V x1 x2 y0 y1 = refl
-same_boxes H x1 x2 y0 y1 = refl
-
-pub to_listed : (listed : List Rectangle) (b : Box2) (origin : ℕ)
-    → IsMet (HasListed listed) b origin → tiling.IsListedMet listed b origin
-to_listed listed b origin h = record {
-  layer = h.1.0.layer;
-  square = h.0;
-  is_listed = (h.1.0, h.1.1, record { on_layer = refl; of_origin = h.1.2; has = h.1.3 });
-  meets = h.2;
-}
-
-pub from_listed : (listed : List Rectangle) (b : Box2) (origin : ℕ)
-    → tiling.IsListedMet listed b origin → IsMet (HasListed listed) b origin
-from_listed listed b origin h =
-    (h.square, (h.is_listed.0, h.is_listed.1, h.is_listed.2.of_origin, h.is_listed.2.has), h.meets)
-
-pub to_shown : (items : List Item) (b : Box2) (origin : ℕ)
-    → IsMet (λ o s. shown_by items o s ≡ true) b origin → tiling.IsMet items b origin
-to_shown items b origin h = let p = by_from items origin h.0 h.1 in
-    record { layer = p.0; square = h.0; shown = p.1; meets = h.2 }
-
-pub from_shown : (items : List Item) (b : Box2) (origin : ℕ) → tiling.IsMet items b origin
-    → IsMet (λ o s. shown_by items o s ≡ true) b origin
-from_shown items b origin h = (h.square, by_as items origin h.square (h.layer, h.shown), h.meets)
+    (core_high plan tile side) (λ q w. in_plane s plan h e tile q u w)
 
 -- ---- a tile's answer
 
@@ -203,19 +156,11 @@ met_alike : Laws → (s : Snapshot) (extent : Box2) (windows : List (List Rectan
     → IsMet (λ o q. shown_by (shown s) o q ≡ true) (marks.box_of m) origin
     ↔ IsMet (HasListed (get_or windows tile [])) (marks.box_of m) origin
 met_alike laws s extent windows tile rule m origin e stand u c run =
-    let box = same_boxes m.axis m.x1 m.x2 m.y0 m.y1 in
     let tell = laws.met s (plan_of extent s.deck) windows rule tile
     (first_squares rule.check (shown_on (shown s)))
-    (second_squares rule.check (shown_on (shown s))) (run_of m) origin e stand u c run in
-    let listed = get_or windows tile [] in (
-      λ h. subst (λ (b : Box2). IsMet (HasListed listed) b origin) (sym box)
-          (from_listed listed _ origin (tell.0
-          (to_shown (shown s) _ origin (subst
-          (λ (b : Box2). IsMet (λ o q. shown_by (shown s) o q ≡ true) b origin) box h)))),
-      λ h. subst (λ (b : Box2). IsMet (λ o q. shown_by (shown s) o q ≡ true) b origin) (sym box)
-          (from_shown (shown s) _ origin (tell.1
-          (to_listed listed _ origin (subst (λ (b : Box2). IsMet (HasListed listed) b origin) box
-          h)))),
+    (second_squares rule.check (shown_on (shown s))) (run_of m) origin e stand u c run in (
+      λ h. tell.0 (h.0, by_from (shown s) origin h.0 h.1, h.2),
+      λ h. let i = tell.1 h in (i.0, by_as (shown s) origin i.0 i.1, i.2),
     )
 
 -- the answer of a tile has just the markers of its core

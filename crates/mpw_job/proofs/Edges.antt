@@ -17,17 +17,21 @@ use Rattle.mpw_edges.specs.Edges.{Squares, exchanged}
 use Rattle.mpw_edges.specs.Steps.{IsPairStep}
 use Rattle.mpw_edges.specs.Computed.{TestDecidesPairSteps}
 use Rattle.mpw_hier.specs.Items.{Item}
-use Rattle.mpw_tiles.specs.Laws.{IsStepOn, SquaresLieInExtents}
+use Rattle.mpw_tiles.specs.Laws.{SquaresLieInExtents}
 use Rattle.mpw_tiles.specs.Snapshots.{shown, shown_extent}
 use Rattle.mpw_markers.specs.declared.marker.Key.{Key}
-use Rattle.mpw_markers.specs.Markers.{key_of, line_of_key, box_on}
+use Rattle.mpw_edges.specs.Pieces.{box_on, IsStepOn}
+use Rattle.mpw_markers.specs.Markers.{key_of, line_of_key}
 use Rattle.mpw_markers.specs.Book.{IsBook}
-use Rattle.mpw_markers.specs.Whole.{IsMet, IsMaximal}
-use Rattle.mpw_job.specs.Layers.{Coverage, first_squares, second_squares, steps_of}
-use Rattle.mpw_job.specs.Layout.{shown_on, HasShown}
+use Rattle.mpw_geom.specs.Meeting.{IsMet}
+use Rattle.mpw_markers.specs.Whole.{IsMaximal}
+use Rattle.mpw_job.specs.Computed.{steps_of, shown_on}
+use Rattle.mpw_job.specs.Layers.{Coverage, first_squares, second_squares}
+use Rattle.mpw_tiles.specs.Shown.{HasShown}
 use Rattle.mpw_job.specs.Laws.{EachMarkerMeetsSome, NoShapesNoMarkers}
 use Rattle.mpw_job.proofs.Tests.{step_on, rule_of}
 use Rattle.mpw_job.proofs.Shapes.{tests_tell}
+use Rattle.mpw_job.proofs.Flat.{flat_from, tested_from}
 
 -- a square in the row beside the first edge
 record IsBeside (P : ℤ → ℤ → Type 0) (x1 x2 j : ℤ) : Type 0 where
@@ -189,7 +193,7 @@ key_met law rules items k m =
 
 pub each_meets : TestDecidesPairSteps → EachMarkerMeetsSome
 each_meets law s markers m h c =
-    let k = h.1.sound m c in
+    let k = (tested_from law s.deck.rules (shown s) markers h).1.sound m c in
     let p = key_met law s.deck.rules (shown s) (key_of m) k.run in
     (p.0, (k.met p.0).1 p.1)
 
@@ -201,7 +205,7 @@ empty_book = record {
 }
 
 pub none_without : TestDecidesPairSteps → SquaresLieInExtents → NoShapesNoMarkers
-none_without law lie s e = (
+none_without law lie s e = flat_from law s.deck.rules (shown s) [] (
   empty_book,
   record {
     sound = λ m c. absurd (omega (arith, c.1));

@@ -1,5 +1,6 @@
 pub mod Tests
 pub mod Shapes
+pub mod Flat
 pub mod Cores
 pub mod Made
 pub mod Edges

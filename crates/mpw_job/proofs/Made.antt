@@ -21,13 +21,16 @@ use Rattle.mpw_markers.specs.declared.marker.Line.{Line}
 use Rattle.mpw_markers.specs.declared.marker.Marker.{Marker}
 use Rattle.mpw_markers.specs.Whole.{AreMarkersOf}
 use Rattle.mpw_markers.specs.Laws.{AreListedByCores, StitchedIsWhole}
-use Rattle.mpw_job.specs.Layers.{Coverage, first_squares, second_squares, steps_of}
+use Rattle.mpw_job.specs.Computed.{steps_of, shown_on}
+use Rattle.mpw_job.specs.Layers.{Coverage, first_squares, second_squares}
 use Rattle.mpw_job.specs.Internal.Cores.{square_on, is_in_core}
-use Rattle.mpw_job.specs.Layout.{HasShown, shown_on}
+use Rattle.mpw_tiles.specs.Shown.{HasShown}
 use Rattle.mpw_job.specs.Laws.{AnswerTiles, AnswersMakeTheLayout}
 use Rattle.mpw_job.proofs.Tests.{step_on, step_test, rule_of}
 use Rattle.mpw_job.proofs.Shapes.{tests_tell, shown_by, by_from, by_as}
-use Rattle.mpw_job.proofs.Cores.{Laws, plan_is, answer_is}
+use Rattle.mpw_job.proofs.Flat.{flat_from}
+use Rattle.mpw_tiles.proofs.Told.{plan_is}
+use Rattle.mpw_job.proofs.Cores.{Laws, answer_is}
 
 lie_first : (check : Check) (box : Box2) (on : Coverage) → ((layer : Layer) → LieIn box (on layer))
     → LieIn box (first_squares check on)
@@ -132,7 +135,8 @@ pub made : All → AnswersMakeTheLayout
 made laws s plan windows run lists book h e stand answers stitched =
     let over = plan_is s.deck (shown_extent s) plan e in
     let e' : plan_for s ≡ Some (plan_of over.extent s.deck) = e ∙ ap Some over.is in
-    let answers' = subst (λ (q : Tiling). AnswerTiles s q windows run lists) over.is answers in (
+    let answers' = subst (λ (q : Tiling). AnswerTiles s q windows run lists) over.is answers in
+    flat_from laws.each.decides s.deck.rules (shown s) book (
       stitched.markers,
       as_shown (shown s) (steps_of s.deck.rules (shown_on (shown s))) book
           (laws.whole (steps_of s.deck.rules (shown_on (shown s)))

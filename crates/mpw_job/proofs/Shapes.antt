@@ -5,21 +5,20 @@ use Rattle.std.specs.List.{list_any}
 use Rattle.std.proofs.lemmas.Bool.{false≢true, and_parts, and_from, eqb-true, eq-eqb}
 use Rattle.std.proofs.lemmas.Int.{ints}
 use Rattle.mpw_geom.specs.declared.plane.Layer.{Layer}
-use Rattle.mpw_geom.specs.declared.plane.Orient.{Orient}
-use Rattle.mpw_geom.specs.declared.plane.Orient.TheVariants.{R0, R90, R180, R270, M0, M90, M180, M270}
 use Rattle.mpw_geom.specs.declared.placing.Placing.{Placing}
 use Rattle.mpw_geom.specs.Plane.{Square, has_square}
-use Rattle.mpw_geom.specs.Placing.{oriented_square, moved_square, placed_square}
+use Rattle.mpw_geom.specs.Placing.{oriented_square, moved_square, placed_square, undoing}
+use Rattle.mpw_geom.proofs.Undone.{square_undone, undone_square}
 use Rattle.mpw_structures.specs.declared.element.Element.{Element}
 use Rattle.mpw_structures.specs.declared.element.Element.TheVariants as elements
 use Rattle.mpw_shapes.specs.Element.{element_has}
 use Rattle.mpw_hier.specs.Items.{Item}
 use Rattle.mpw_tiles.specs.declared.listing.Rectangle.{Rectangle}
 use Rattle.mpw_tiles.specs.Laws.{AreListedOn}
-use Rattle.mpw_tiles.specs.Shown.{layer_of, ShowsSquare}
-use Rattle.mpw_job.specs.Layers.{same_layer}
+use Rattle.mpw_tiles.specs.Shown.{layer_of, ShowsSquare, HasShown}
+use Rattle.mpw_geom.specs.Layers.{same_layer}
 use Rattle.mpw_job.specs.Answers.{listed_on}
-use Rattle.mpw_job.specs.Layout.{undoing, square_before, item_has, is_layer, HasShown}
+use Rattle.mpw_job.specs.Computed.{square_before, item_has, is_layer}
 use Rattle.mpw_job.specs.Laws.{TestsTellShown}
 use Rattle.mpw_job.proofs.Tests.{same_from, same_as, some_passes, passes_some}
 
@@ -31,41 +30,16 @@ same_square s t e f =
     let second : ℤ → Square = λ n. record { column = t.column; row = n } in
     ap first e ∙ ap second f
 
-undone : (o : Orient) (s : Square) → oriented_square o (oriented_square (undoing o) s) ≡ s
-unfolding oriented_square
-undone R0 s = refl
-undone R90 s = same_square _ s (omega (arith, ints)) (omega (arith, ints))
-undone R180 s = same_square _ s (omega (arith, ints)) (omega (arith, ints))
-undone R270 s = same_square _ s (omega (arith, ints)) (omega (arith, ints))
-undone M0 s = same_square _ s (omega (arith, ints)) (omega (arith, ints))
-undone M90 s = same_square _ s (omega (arith, ints)) (omega (arith, ints))
-undone M180 s = same_square _ s (omega (arith, ints)) (omega (arith, ints))
-undone M270 s = same_square _ s (omega (arith, ints)) (omega (arith, ints))
-
-twice : (o : Orient) → undoing (undoing o) ≡ o
-twice R0 = refl
-twice R90 = refl
-twice R180 = refl
-twice R270 = refl
-twice M0 = refl
-twice M90 = refl
-twice M180 = refl
-twice M270 = refl
-
-done_again : (o : Orient) (s : Square) → oriented_square (undoing o) (oriented_square o s) ≡ s
-done_again o s = subst (λ (q : Orient). oriented_square (undoing o) (oriented_square q s) ≡ s)
-    (twice o) (undone (undoing o) s)
-
 pub placed_before : (t : Placing) (s : Square) → placed_square t (square_before t s) ≡ s
 unfolding placed_square square_before
-placed_before t s = ap (moved_square t.by) (undone t.orient _)
+placed_before t s = ap (moved_square t.by) (square_undone t.orient _)
     ∙ same_square _ s (omega (arith, ints)) (omega (arith, ints))
 
 pub before_placed : (t : Placing) (s : Square) → square_before t (placed_square t s) ≡ s
 unfolding placed_square square_before
 before_placed t s = ap (oriented_square (undoing t.orient))
     (same_square _ (oriented_square t.orient s) (omega (arith, ints)) (omega (arith, ints)))
-    ∙ done_again t.orient s
+    ∙ undone_square t.orient s
 
 -- ---- layers of shapes
 

@@ -16,16 +16,17 @@ use Rattle.mpw_deck.specs.declared.rule.Check.TheVariants.{Width, Space, Separat
 use Rattle.mpw_edges.specs.declared.run.Axis.{Axis}
 use Rattle.mpw_edges.specs.declared.run.Axis.TheVariants.{V, H}
 use Rattle.mpw_edges.specs.Edges.{Squares, exchanged}
-use Rattle.mpw_edges.specs.Pieces.{HasStep}
+use Rattle.mpw_edges.specs.Pieces.{HasStep, IsStepOn}
 use Rattle.mpw_edges.specs.Computed.{TestDecidesPairSteps}
 use Rattle.mpw_edges.specs.Laws.{AreSameIn}
-use Rattle.mpw_tiles.specs.Laws.{IsStepOn}
 use Rattle.mpw_markers.specs.declared.marker.Line.{Line}
 use Rattle.mpw_markers.specs.declared.marker.Key.{Key}
 use Rattle.mpw_markers.specs.Markers.{line_of_key}
 use Rattle.mpw_markers.specs.Whole.{IsMaximal}
 use Rattle.mpw_markers.specs.Laws.{steps_in}
-use Rattle.mpw_job.specs.Layers.{same_layer, Coverage, first_squares, second_squares, has_step_on, has_step_of, steps_of}
+use Rattle.mpw_geom.specs.Layers.{same_layer}
+use Rattle.mpw_job.specs.Computed.{has_step_on, has_step_of, steps_of}
+use Rattle.mpw_job.specs.Layers.{Coverage, first_squares, second_squares, HasPairStep}
 use Rattle.mpw_job.specs.Internal.Cores.{square_on, is_in_core}
 use Rattle.mpw_job.specs.Answers.{IsFoundIn}
 use Rattle.mpw_job.specs.Internal.Keys.{run_at}
@@ -98,6 +99,13 @@ pub step_on : TestDecidesPairSteps → (rule : Rule) (a b : Squares) (axis : Axi
 step_on law rule a b V side x1 x2 j e = (law rule.check rule.distance a b side x1 x2 j).0 e
 step_on law rule a b H side x1 x2 j e =
     (law rule.check rule.distance (exchanged a) (exchanged b) side x1 x2 j).0 e
+
+pub test_on : TestDecidesPairSteps → (rule : Rule) (a b : Squares) (axis : Axis) (side : ℕ)
+    (x1 x2 j : ℤ) → IsStepOn rule a b axis side x1 x2 j
+    → has_step_on rule a b axis side x1 x2 j ≡ true
+test_on law rule a b V side x1 x2 j h = (law rule.check rule.distance a b side x1 x2 j).1 h
+test_on law rule a b H side x1 x2 j h =
+    (law rule.check rule.distance (exchanged a) (exchanged b) side x1 x2 j).1 h
 
 pub step_test : TestDecidesPairSteps
     → (rule : Rule) (a b : Squares) (core : Box2) (axis : Axis) (side : ℕ) (x1 x2 j : ℤ)
@@ -194,3 +202,22 @@ pub rule_of : (rules : List Rule) (on : Coverage) (line : Line) (j : ℤ)
     → steps_of rules on line j ≡ true → HasRule rules on line j
 rule_of rules on line j e = let p = some_rule (slice_get rules line.rule) on line j e in
     record { rule = p.0; at = p.1; step = p.2 }
+
+-- ---- the test of rows, and the relation
+
+pub row_has_step : TestDecidesPairSteps → (rules : List Rule) (on : Coverage) (line : Line) (j : ℤ)
+    → steps_of rules on line j ≡ true → HasPairStep rules on line j
+row_has_step law rules on line j e =
+    let r = rule_of rules on line j e in (
+      r.rule,
+      r.at,
+      step_on law r.rule (first_squares r.rule.check on) (second_squares r.rule.check on) line.axis
+          line.side line.x1 line.x2 j r.step,
+    )
+
+pub row_passes : TestDecidesPairSteps → (rules : List Rule) (on : Coverage) (line : Line) (j : ℤ)
+    → HasPairStep rules on line j → steps_of rules on line j ≡ true
+row_passes law rules on line j h =
+    subst (λ (o : Option Rule). has_step_of o on line j ≡ true) (sym h.1)
+    (test_on law h.0 (first_squares h.0.check on) (second_squares h.0.check on) line.axis line.side
+    line.x1 line.x2 j h.2)

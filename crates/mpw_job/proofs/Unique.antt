@@ -11,11 +11,15 @@ use Rattle.mpw_markers.specs.declared.marker.Marker.{Marker}
 use Rattle.mpw_markers.specs.Book.{IsBook}
 use Rattle.mpw_markers.specs.Markers.{line_of, line_of_key, key_of, box_of, IsFilled}
 use Rattle.mpw_markers.specs.Order.{StandsBefore}
-use Rattle.mpw_markers.specs.Whole.{IsMet, AreMarkersOf}
+use Rattle.mpw_geom.specs.Meeting.{IsMet}
+use Rattle.mpw_markers.specs.Whole.{AreMarkersOf}
 use Rattle.mpw_markers.proofs.Order.{line_total, line_before}
 use Rattle.mpw_markers.proofs.Unique.{same_in_order, same_numbers, same_marker}
+use Rattle.mpw_edges.specs.Computed.{TestDecidesPairSteps}
+use Rattle.mpw_tiles.specs.Snapshots.{shown}
 use Rattle.mpw_job.specs.Internal.Keys.{key_box}
 use Rattle.mpw_job.specs.Laws.{LayoutDeterminesMarkers}
+use Rattle.mpw_job.proofs.Flat.{tested_from}
 
 abbrev Precedes : Marker → Marker → Type 0
 Precedes m n = StandsBefore m n × IsFilled m × IsFilled n
@@ -57,7 +61,9 @@ in_both steps has a b m f g c =
     subst (Contains b) (same_marker n m (ap line_of_key keys) (ap (λ (k : Key). k.y0) keys)
     (ap (λ (k : Key). k.y1) keys) met) other.1
 
-pub one_list : LayoutDeterminesMarkers
-one_list s first second f g =
+pub one_list : TestDecidesPairSteps → LayoutDeterminesMarkers
+one_list law s first second h k =
+    let f = tested_from law s.deck.rules (shown s) first h in
+    let g = tested_from law s.deck.rules (shown s) second k in
     same_in_order Precedes never_both first second (precedes first f.0) (precedes second g.0)
     (λ m. (in_both _ _ first second m f.1 g.1, in_both _ _ second first m g.1 f.1))

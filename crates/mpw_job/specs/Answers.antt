@@ -10,12 +10,14 @@ use Rattle.mpw_deck.specs.declared.rule.Rule.{Rule}
 use Rattle.mpw_edges.specs.declared.run.Piece.{Piece}
 use Rattle.mpw_edges.specs.Pieces.{IsPiece, piece_cmp}
 use Rattle.mpw_tiles.specs.declared.listing.Rectangle.{Rectangle}
+use Rattle.mpw_tiles.specs.Listing.{HasListed}
 use Rattle.mpw_markers.specs.declared.marker.Key.{Key}
 use Rattle.mpw_markers.specs.declared.marker.Marker.{Marker}
 use Rattle.mpw_markers.specs.Markers.{key_of, box_of}
 use Rattle.mpw_markers.specs.Met.{IsAscending}
-use Rattle.mpw_markers.specs.Whole.{IsMet}
-use Rattle.mpw_job.specs.Layers.{same_layer, Coverage, first_squares, second_squares}
+use Rattle.mpw_geom.specs.Meeting.{IsMet}
+use Rattle.mpw_geom.specs.Layers.{same_layer}
+use Rattle.mpw_job.specs.Layers.{Coverage, first_squares, second_squares}
 
 -- A tile of a run: its core, the rectangles of its window, and the rules.
 pub record TileJob : Type 0 where
@@ -34,11 +36,6 @@ pub record IsTileJob (job : TileJob) : Type 0 where
 abbrev pub listed_on : List Rectangle → Coverage
 listed_on listed layer i j = list_any (λ (r : Rectangle). same_layer r.layer layer
     && has_square r.area (record { column = i; row = j })) listed
-
--- A listed rectangle of the origin, on any layer, has the unit square.
-abbrev pub HasListed : List Rectangle → ℕ → Square → Type 0
-HasListed listed origin s =
-    (r : Rectangle) × Contains listed r × (r.origin ≡ origin) × (has_square r.area s ≡ true)
 
 -- A maximal run of the rule's pair steps of the squares of the layers, within the core.
 abbrev pub IsFoundIn : Box2 → Coverage → Rule → Piece → Type 0

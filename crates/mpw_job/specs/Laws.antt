@@ -1,21 +1,27 @@
 -- Laws of jobs.
-use Rattle.std.specs.Prelude.{◌≡◌, ◌<◌, ℕ, List, [], length, slice_index_or, Some, None, Contains}
+use Rattle.std.specs.Prelude.{◌≡◌, ◌<◌, ℕ, List, [], length, slice_index_or, Some, None, Contains, ◌↔◌}
 use Rattle.mpw_geom.specs.declared.plane.Layer.{Layer}
 use Rattle.mpw_geom.specs.Plane.{IsBoxInPlane}
+use Rattle.mpw_deck.specs.declared.rule.Rule.{Rule}
 use Rattle.mpw_hier.specs.Items.{Item}
 use Rattle.mpw_tiles.specs.declared.listing.Rectangle.{Rectangle}
-use Rattle.mpw_tiles.specs.Laws.{AreShownOn}
-use Rattle.mpw_tiles.specs.Placed.{WindowsLieInPlane}
+use Rattle.mpw_tiles.specs.Shown.{AreShownOn}
 use Rattle.mpw_tiles.specs.Plan.{Tiling, tiles, tile_core}
 use Rattle.mpw_tiles.specs.Snapshots.{Snapshot, IsSnapshot, shown_extent, plan_for, StandFor}
 use Rattle.mpw_markers.specs.declared.marker.Marker.{Marker}
 use Rattle.mpw_markers.specs.Stitched.{IsStitched}
 use Rattle.mpw_job.specs.Answers.{TileJob, Answers}
-use Rattle.mpw_job.specs.Layout.{shown_on, AreLayoutMarkers}
+use Rattle.mpw_job.specs.Computed.{shown_on, AreTestedMarkers}
+use Rattle.mpw_job.specs.Layout.{AreFlatMarkers, AreLayoutMarkers}
 
 -- The test of a layer's squares is true just where a shape of the layer shows the square.
 abbrev pub TestsTellShown : Type 0
 TestsTellShown = (items : List Item) (layer : Layer) → AreShownOn items layer (shown_on items layer)
+
+-- The markers that tests of squares and rows tell are those of the flat layout.
+abbrev pub TestsTellMarkers : Type 0
+TestsTellMarkers = (rules : List Rule) (items : List Item) (markers : List Marker)
+    → AreTestedMarkers rules items markers ↔ AreFlatMarkers rules items markers
 
 -- The job of a tile of a run over the snapshot, by its plan and windows.
 abbrev pub tile_job_of : Snapshot → Tiling → List (List Rectangle) → (run tile : ℕ) → TileJob
@@ -31,8 +37,7 @@ tile_job_of s plan windows run tile = record {
 abbrev pub CoresLieInPlane : Type 0
 CoresLieInPlane =
     (s : Snapshot) (plan : Tiling) (tile : ℕ) → IsSnapshot s → plan_for s ≡ Some plan
-    → WindowsLieInPlane plan → tile < tiles plan
-    → IsBoxInPlane (tile_core plan tile)
+    → tile < tiles plan → IsBoxInPlane (tile_core plan tile)
 
 -- There is a list for each tile, and each answers its tile's job.
 pub record AnswerTiles (s : Snapshot) (plan : Tiling) (windows : List (List Rectangle)) (run : ℕ)

@@ -1,6 +1,7 @@
 pub mod Layers
 pub mod Answers
 pub mod Layout
+pub mod Computed
 pub mod Laws
 pub mod Jobs
 pub mod Carried

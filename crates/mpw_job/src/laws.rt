@@ -1,12 +1,12 @@
 //! Laws of the definitions alone. The contract of each function is the law.
 
-ghost use Rattle.mpw_job.specs.Laws.{TestsTellShown, CoresLieInPlane, AnswersMakeTheLayout, LayoutDeterminesMarkers, EachMarkerMeetsSome, NoShapesNoMarkers};
+ghost use Rattle.mpw_job.specs.Laws.{TestsTellShown, TestsTellMarkers, CoresLieInPlane, AnswersMakeTheLayout, LayoutDeterminesMarkers, EachMarkerMeetsSome, NoShapesNoMarkers};
 
 use mpw_edges::test_decides_pair_steps;
 use mpw_markers::stitched_is_whole;
 use mpw_tiles::{
-    each_step_has_one_tile, each_window_decides, each_window_tells_met, squares_lie_in_boxes,
-    windows_show_layers,
+    each_step_has_one_tile, each_window_decides, each_window_tells_met, plans_lie_in_plane,
+    squares_lie_in_boxes, windows_show_layers,
 };
 
 /// The test of a layer's squares is true just where a shape of the layer, where it is placed, has the square.
@@ -14,10 +14,19 @@ pub fn tests_tell_shown()
     ensures { TestsTellShown }
 {}
 
+/// The markers that tests of squares and rows tell, which compute, are those of the flat layout.
+pub fn tests_tell_markers()
+    ensures { TestsTellMarkers }
+{
+    test_decides_pair_steps();
+}
+
 /// Each core of a snapshot's plan lies in the plane, as the core of a tile's job has to.
 pub fn cores_lie_in_plane()
     ensures { CoresLieInPlane }
-{}
+{
+    plans_lie_in_plane();
+}
 
 /// Where windows stand for a snapshot, and the job of each tile of its plan is answered, the book stitched from the
 /// answers has just the markers of the flat layout, whatever the side of the tiles.
@@ -36,7 +45,9 @@ pub fn answers_make_the_layout()
 /// A layout has one list of markers: two books of its markers are equal.
 pub fn layout_determines_markers()
     ensures { LayoutDeterminesMarkers }
-{}
+{
+    test_decides_pair_steps();
+}
 
 /// A marker of a layout meets one submission at least.
 pub fn each_marker_meets_some()

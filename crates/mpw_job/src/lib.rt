@@ -16,6 +16,6 @@ pub use answer::{Answer, CutAnswer, TileAnswer};
 pub use job::{CutJob, Gate, Job, TileJob};
 pub use laws::{
     answers_make_the_layout, cores_lie_in_plane, each_marker_meets_some, layout_determines_markers,
-    no_shapes_no_markers, tests_tell_shown,
+    no_shapes_no_markers, tests_tell_markers, tests_tell_shown,
 };
 pub use tiles::tile_job;

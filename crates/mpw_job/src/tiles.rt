@@ -1,7 +1,6 @@
 //! The jobs of a run's tiles.
 
 ghost use Rattle.std.specs.Prelude.{◌≡◌, ◌<◌, Some, length, IfOk};
-ghost use Rattle.mpw_tiles.specs.Placed.{WindowsLieInPlane};
 ghost use Rattle.mpw_tiles.specs.Plan.{tiles};
 ghost use Rattle.mpw_tiles.specs.Snapshots.{plan_for};
 ghost use Rattle.mpw_job.specs.Laws.{tile_job_of};
@@ -24,7 +23,6 @@ pub fn tile_job(
     windows: &Windows,
 ) -> Result<TileJob, AllocError>
     requires plan { plan_for snapshot.now ≡ Some plan.now }
-    requires plane { WindowsLieInPlane plan.now }
     requires tile { tile < tiles plan.now }
     requires windows { tile < length windows.now }
     ensures { IfOk result (λ job. job ≡ tile_job_of snapshot.now plan.now windows.now run tile) }

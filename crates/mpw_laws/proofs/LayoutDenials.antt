@@ -1,6 +1,6 @@
 -- Denials of a permission in the rows over the shelf.
 use Rattle.std.proofs.Common.{◌≡◌, ℕ, Bool, true, false, cond, List, [], ◌∷◌, map, Option, Some, None, Result, Ok, Err, inl, inr, refl, ap, is_some}
-use Rattle.std.specs.Prelude.{not}
+use Rattle.std.specs.Prelude.{not, ◌^◌}
 use Rattle.std.specs.List.{flat_map}
 use Rattle.mpw_records.specs.declared.fault.ReadFault.{ReadFault}
 use Rattle.mpw_permissions.specs.declared.permission.Object.{Object}
@@ -89,7 +89,7 @@ module _ (lacks : EnteringDeniesWhatIsLacked) (policy : Policy) (connection : �
       → within_limits shelf s ≡ Err (denied operation object) → ⊥
   unfolding within_limits
   denies-within_limits shelf s e = go (numbered shelf s) (not (is_far shelf s))
-      (not (is_too_large shelf s))
+      (not (is_too_large (2 ^ 20) shelf s))
       (not (is_too_deep shelf s)) (has_room_for shelf s.cell) e
     where
       go : {A : Type 0} (value : A) (a b c d : Bool)

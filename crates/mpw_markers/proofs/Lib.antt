@@ -1,4 +1,5 @@
 pub mod Order
+mod Referred
 pub mod Marked
 mod Gathered
 mod Grouped

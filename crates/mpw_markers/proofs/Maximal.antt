@@ -14,9 +14,11 @@ use Rattle.mpw_markers.specs.declared.marker.Line.{Line}
 use Rattle.mpw_markers.specs.declared.marker.Key.{Key}
 use Rattle.mpw_markers.specs.declared.marker.Marker.{Marker}
 use Rattle.mpw_markers.specs.Met.{IsAscending}
-use Rattle.mpw_markers.specs.Markers.{line_of, line_of_key, key_of, box_on, box_of, IsFilled, HasRow, CoversRow, LiesIn}
+use Rattle.mpw_edges.specs.Pieces.{box_on}
+use Rattle.mpw_markers.specs.Markers.{line_of, line_of_key, key_of, box_of, IsFilled, HasRow, CoversRow, LiesIn}
 use Rattle.mpw_markers.specs.Stitched.{IsJoined, IsListed, IsStitched}
-use Rattle.mpw_markers.specs.Whole.{IsMet, IsMaximal, IsMarkerOf, AreMarkersOf}
+use Rattle.mpw_geom.specs.Meeting.{IsMet}
+use Rattle.mpw_markers.specs.Whole.{IsMaximal, IsMarkerOf, AreMarkersOf}
 use Rattle.mpw_markers.specs.Laws.{steps_in, AreListedByCores}
 use Rattle.mpw_markers.proofs.Marked.{none_below, none_above, lies_in}
 use Rattle.mpw_markers.proofs.Found.{same_key}

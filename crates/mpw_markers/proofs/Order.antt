@@ -1,5 +1,5 @@
 -- The order of lines and of markers.
-use Rattle.std.proofs.Common.{◌≡◌, ◌&&◌, Bool, true, eqb, int_eq, ℕ, ℤ, ◌<ℤ◌, ◌+◌, zero, suc, add-zero, ◌<◌, false, List, length, get_or, drop, sym, refl, ap, ◌∙◌, subst, inl, inr, arith}
+use Rattle.std.proofs.Common.{◌≡◌, ◌&&◌, [], ◌∷◌, map, Bool, true, eqb, int_eq, ℕ, ℤ, ◌<ℤ◌, ◌+◌, zero, suc, add-zero, ◌<◌, false, List, length, get_or, drop, sym, refl, ap, ◌∙◌, subst, inl, inr, arith}
 use Rattle.std.specs.Prelude.{Contains, ◌↔◌}
 use Rattle.std.proofs.lemmas.Int.{ints}
 use Rattle.std.specs.Cmp.{IsTotalOrder}
@@ -8,7 +8,7 @@ use Rattle.std.specs.List.Sorted.{IsSortedByKey}
 use Rattle.std.specs.declared.cmp.Ordering.{Ordering}
 use Rattle.std.specs.declared.cmp.Ordering.TheVariants.{Less, Equal}
 use Rattle.std.proofs.lemmas.Cmp.{then_total, on_total, nat_cmp_total, int_cmp_total}
-use Rattle.std.proofs.lemmas.List.{get_or-drop, length-drop}
+use Rattle.std.proofs.lemmas.List.{get_or-drop, get_or-map, length-drop}
 use Rattle.std.proofs.lemmas.List.Sorted.{sorted_far, ranks_by}
 use Rattle.std.proofs.lemmas.Map.Lookups.{exact_unsigned, exact_signed}
 use Rattle.std.specs.Fn.{Called, ComputesKey}
@@ -31,6 +31,7 @@ use Rattle.mpw_markers.specs.Markers.{line_of, key_of, IsFilled}
 use Rattle.mpw_markers.specs.Internal.Places.{axis_place, line_place, place_of}
 use Rattle.mpw_markers.specs.Order.{line_cmp, StandsBefore}
 use Rattle.mpw_markers.specs.Internal.Order.{BeginsFirst, AreInOrder}
+use Rattle.mpw_markers.proofs.Referred.{seen, many}
 
 axis_total : IsTotalOrder axis_cmp
 axis_total = record { antisymm = back; trans = chain; congr = alike }
@@ -151,21 +152,28 @@ begins_from_sort m n e =
       )
     ]
 
-pub AreInOrder-from_sort : (xs : List Marker)
-    → IsSortedByKey (λ m. place_of (key_of m)) place_cmp xs → AreInOrder xs
-AreInOrder-from_sort xs h i j d l b =
-    begins_from_sort (get_or xs i d) (get_or xs j d)
-    (sorted_far (λ x y. is_lt (place_cmp (place_of (key_of x)) (place_of (key_of y))))
-    (ranks_by place_total (λ (m : Marker). place_of (key_of m))) xs h i j d (omega arith) b)
+-- of markers that are referred to
+pub AreInOrder-from_sort : (xs : List (Bor Marker))
+    → IsSortedByKey (λ m. place_of (key_of m.now)) place_cmp xs → AreInOrder (seen xs)
+AreInOrder-from_sort [] h i j d l b = absurd (omega (arith, b))
+AreInOrder-from_sort (x ∷ xs) h i j d l b =
+    let ms : List (Bor Marker) = x ∷ xs in
+    let last : j < length ms = subst (λ n. j < n) (many ms) b in
+    let now : Bor Marker → Marker = λ m. m.now in
+    rw (get_or-map now ms i x d (omega (arith, l, last)), get_or-map now ms j x d last)
+    (begins_from_sort (get_or ms i x).now (get_or ms j x).now
+    (sorted_far (λ m n. is_lt (place_cmp (place_of (key_of m.now)) (place_of (key_of n.now))))
+    (ranks_by place_total (λ (m : Bor Marker). place_of (key_of m.now))) ms h i j x (omega arith)
+    last))
 
 -- by the clause of the sort
-pub AreInOrder-from_sort_by_key : {F : Type 0} {g : Mut F (Bor Marker × Unit {0}) Place} {f : F}
-    (xs : List Marker) → ((key : Marker → Place) → ComputesKey g key f
-    → IsSortedByKey key place_cmp xs) → ((a : Bor Marker × Unit {0}) (r : Place) (f' : F)
-    → Called g f a r f' → (r ≡ place_of (key_of a.0.now)) × (f' ≡ f)) → AreInOrder xs
+pub AreInOrder-from_sort_by_key : {F : Type 0} {g : Mut F (Bor (Bor Marker) × Unit {0}) Place}
+    {f : F} (xs : List (Bor Marker)) → ((key : Bor Marker → Place) → ComputesKey g key f
+    → IsSortedByKey key place_cmp xs) → ((a : Bor (Bor Marker) × Unit {0}) (r : Place) (f' : F)
+    → Called g f a r f' → (r ≡ place_of (key_of a.0.now.now)) × (f' ≡ f)) → AreInOrder (seen xs)
 AreInOrder-from_sort_by_key {g = g} {f = f} xs up h =
-    AreInOrder-from_sort xs (up (λ m. place_of (key_of m))
-    (always_returns_same g (λ a r. r ≡ place_of (key_of a.0.now)) f h))
+    AreInOrder-from_sort xs (up (λ m. place_of (key_of m.now))
+    (always_returns_same g (λ a r. r ≡ place_of (key_of a.0.now.now)) f h))
 
 pub BeginsFirst-chain : (m n o : Marker) → BeginsFirst m n → BeginsFirst n o → BeginsFirst m o
 BeginsFirst-chain m n o p q =

@@ -9,9 +9,9 @@ use Rattle.mpw_geom.specs.declared.plane.Point.{Point}
 use Rattle.mpw_geom.specs.Plane.{IsOrdered, HasArea, Square, has_point, has_square, closed_square}
 use Rattle.mpw_geom.proofs.Tests.{PointIn, PointIn-from_test, test_from_PointIn, SquareIn-from_test, test_from_SquareIn}
 use Rattle.mpw_markers.specs.Met.{IsAscending}
-use Rattle.mpw_markers.specs.Whole.{IsMet}
+use Rattle.mpw_geom.specs.Meeting.{IsMet}
 use Rattle.mpw_markers.specs.declared.search.Rectangle.{Rectangle}
-use Rattle.mpw_markers.specs.Origins.{HasSquareOf}
+use Rattle.mpw_markers.specs.Origins.{OriginHasSquare}
 use Rattle.mpw_markers.specs.Internal.Search.{SharePoint, IsMetBy, IsAnswer, Answers, IsWithin, AreAlikeIn}
 
 -- ---- squares and points
@@ -71,7 +71,7 @@ point_of area s p t u =
 -- what meets a box by closed unit squares, and by closed areas, is the same
 pub met_is : (rectangles : List Rectangle) (b : Box2) (origin : ℕ)
     → All (λ (r : Rectangle). HasArea r.area) rectangles → IsMetBy rectangles b origin
-    ↔ IsMet (HasSquareOf rectangles) b origin
+    ↔ IsMet (OriginHasSquare rectangles) b origin
 met_is rectangles b origin h = (
   λ m.
       let q = square_at m.0.area m.3.0 (All-contains (λ (r : Rectangle). HasArea r.area) rectangles

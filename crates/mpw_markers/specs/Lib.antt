@@ -4,6 +4,7 @@ pub mod Order
 pub mod Book
 pub mod Stitched
 pub mod Whole
+pub mod Maximal
 pub mod Laws
 pub mod Internal
 pub mod Origins

@@ -4,6 +4,7 @@ use Rattle.std.specs.Ordering.{int_eq}
 use Rattle.mpw_geom.specs.declared.plane.Box2.{Box2}
 use Rattle.mpw_edges.specs.declared.run.Axis.{Axis}
 use Rattle.mpw_edges.specs.declared.run.Axis.TheVariants.{V, H}
+use Rattle.mpw_edges.specs.Pieces.{box_on}
 use Rattle.mpw_markers.specs.declared.marker.Line.{Line}
 use Rattle.mpw_markers.specs.declared.marker.Key.{Key}
 use Rattle.mpw_markers.specs.declared.marker.Marker.{Marker}
@@ -57,11 +58,6 @@ CoversRow markers line j = (m : Marker) × Contains markers m × HasRow m line j
 -- the markers lie on one line, and the rows of the first within those of the second
 abbrev pub LiesIn : Marker → Marker → Type 0
 LiesIn m n = (line_of m ≡ line_of n) × (n.y0 ≤ℤ m.y0) × (m.y1 ≤ℤ n.y1)
-
--- the box from (x1, y0) to (x2, y1); on axis H the coordinates are exchanged
-abbrev pub box_on : Axis → (x1 x2 y0 y1 : ℤ) → Box2
-box_on V x1 x2 y0 y1 = record { x0 = x1; y0 = y0; x1 = x2; y1 = y1 }
-box_on H x1 x2 y0 y1 = record { x0 = y0; y0 = x1; x1 = y1; y1 = x2 }
 
 abbrev pub box_of : Marker → Box2
 box_of m = box_on m.axis m.x1 m.x2 m.y0 m.y1

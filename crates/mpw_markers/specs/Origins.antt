@@ -3,12 +3,12 @@ use Rattle.std.specs.Prelude.{◌≡◌, ◌<◌, ℕ, true, List, [], length, s
 use Rattle.mpw_geom.specs.declared.plane.Box2.{Box2}
 use Rattle.mpw_geom.specs.Plane.{Square, has_square}
 use Rattle.mpw_markers.specs.Met.{IsAscending}
-use Rattle.mpw_markers.specs.Whole.{IsMet}
+use Rattle.mpw_geom.specs.Meeting.{IsMet}
 use Rattle.mpw_markers.specs.declared.search.Rectangle.{Rectangle}
 
 -- a rectangle of that origin has the unit square
-abbrev pub HasSquareOf : List Rectangle → ℕ → Square → Type 0
-HasSquareOf rectangles origin s =
+abbrev pub OriginHasSquare : List Rectangle → ℕ → Square → Type 0
+OriginHasSquare rectangles origin s =
     (r : Rectangle) × Contains rectangles r × (r.origin ≡ origin) × (has_square r.area s ≡ true)
 
 -- for each box the origins, ascending, of which a unit square, taken closed, shares a point with the closed box
@@ -18,4 +18,4 @@ pub record AreMetOrigins (rectangles : List Rectangle) (boxes : List Box2) (mets
   pub ascending : All IsAscending mets
   pub met : (k origin : ℕ) (d : Box2) → k < length boxes
       → Contains (slice_index_or mets k []) origin
-      ↔ IsMet (HasSquareOf rectangles) (slice_index_or boxes k d) origin
+      ↔ IsMet (OriginHasSquare rectangles) (slice_index_or boxes k d) origin

@@ -1,18 +1,12 @@
--- The markers of a whole layout.
+-- The markers of a whole layout, where a test tells which rows pass.
 use Rattle.std.specs.Prelude.{◌≡◌, ℕ, ℤ, pos, ◌-ℤ◌, ◌≤ℤ◌, ◌<ℤ◌, Bool, true, false, List, Contains, ◌↔◌}
-use Rattle.mpw_geom.specs.declared.plane.Box2.{Box2}
-use Rattle.mpw_geom.specs.declared.plane.Point.{Point}
-use Rattle.mpw_geom.specs.Plane.{Square, closed_square, has_point}
+use Rattle.mpw_geom.specs.Meeting.{IsMet}
+use Rattle.mpw_geom.specs.Plane.{Square}
 use Rattle.mpw_markers.specs.declared.marker.Line.{Line}
 use Rattle.mpw_markers.specs.declared.marker.Key.{Key}
 use Rattle.mpw_markers.specs.declared.marker.Marker.{Marker}
 use Rattle.mpw_markers.specs.Met.{IsAscending}
 use Rattle.mpw_markers.specs.Markers.{line_of_key, key_of, box_of}
-
--- a unit square of the submission, taken closed, shares a point with the closed box
-abbrev pub IsMet : (ℕ → Square → Type 0) → Box2 → ℕ → Type 0
-IsMet has box origin = (s : Square) × has origin s
-    × ((p : Point) × (has_point (closed_square s) p ≡ true) × (has_point box p ≡ true))
 
 -- a maximal run of rows on the key's line that pass the test
 pub record IsMaximal (steps : Line → ℤ → Bool) (key : Key) : Type 0 where

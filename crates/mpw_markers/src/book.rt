@@ -52,11 +52,11 @@ impl Book {
         }
     }
 
-    /// The book of these markers. One allocation.
+    /// The book of these markers, which are in its order already. One allocation; the markers stay where they are.
     ///
     /// # Errors
     /// Where there is no room for it.
-    pub(crate) fn from_vec(alloc: Global, markers: Vec<Marker>) -> Result<Book, AllocError>
+    pub fn from_vec(alloc: Global, markers: Vec<Marker>) -> Result<Book, AllocError>
         requires { IsBook markers.items }
         ensures { IfOk result (λ book. book ≡ markers.items) }
     {

@@ -3,7 +3,7 @@
 //! All markers are put in order by line and then by row, so that those of a run stand together. One pass then cuts
 //! the list into runs; each is one marker, whose submissions are those of the markers in it, sorted, each once.
 
-ghost use Rattle.std.specs.Prelude.{◌≡◌, ◌≤◌, ◌++◌, ◌<ℤ◌, ◌≤ℤ◌, ◌↔◌, length, IfOk, OnOk, All, Contains, IsTrue, MatchBool};
+ghost use Rattle.std.specs.Prelude.{◌≡◌, ◌≤◌, ◌++◌, ◌<ℤ◌, ◌≤ℤ◌, ◌↔◌, length, map, IfOk, OnOk, All, Contains, IsTrue, MatchBool};
 ghost use Rattle.std.specs.List.{flat_map};
 ghost use Rattle.std.specs.List.Sorted.{IsPermutation};
 ghost use Rattle.mpw_markers.specs.Markers.{line_of, line_of_key, IsFilled};
@@ -45,12 +45,12 @@ impl Key {
     }
 }
 
-/// Adds copies of the markers.
-fn add_all(all: &mut Vec<Marker>, markers: &[Marker]) -> Result<(), AllocError>
-    ensures { OnOk result (all.new.items ≡ all.old.items ++ markers.now) }
+/// Adds the markers.
+fn add_all<'a>(all: &mut Vec<&'a Marker>, markers: &'a [Marker]) -> Result<(), AllocError>
+    ensures { OnOk result (map (λ m. m.now) all.new.items ≡ map (λ m. m.now) all.old.items ++ markers.entry.now) }
 {
     for marker in markers {
-        all.push(marker.copy()?)?;
+        all.push(marker)?;
     }
     Ok(())
 }
@@ -65,9 +65,9 @@ fn count_of(lists: &[TileMarkers]) -> usize {
 }
 
 /// The markers of all lists, one list after another.
-fn all_markers(alloc: Global, lists: &[TileMarkers]) -> Result<Vec<Marker>, AllocError>
-    ensures markers { IfOk result (λ v. v.items ≡ flat_map (λ list. list) lists.now) }
-    ensures filled { IfOk result (λ v. All IsFilled v.items) }
+fn all_markers<'a>(alloc: Global, lists: &'a [TileMarkers]) -> Result<Vec<&'a Marker>, AllocError>
+    ensures markers { IfOk result (λ v. map (λ m. m.now) v.items ≡ flat_map (λ list. list) lists.entry.now) }
+    ensures filled { IfOk result (λ v. All IsFilled (map (λ m. m.now) v.items)) }
 {
     let mut all = Vec::with_capacity(alloc, count_of(lists))?;
     for list in lists {
@@ -77,9 +77,9 @@ fn all_markers(alloc: Global, lists: &[TileMarkers]) -> Result<Vec<Marker>, Allo
 }
 
 /// The markers by line, and on a line by where they begin.
-fn in_order(markers: Vec<Marker>) -> Result<Vec<Marker>, AllocError>
-    ensures moved { IfOk result (λ v. IsPermutation markers.items v.items) }
-    ensures ordered { IfOk result (λ v. AreInOrder v.items) }
+fn in_order<'a>(markers: Vec<&'a Marker>) -> Result<Vec<&'a Marker>, AllocError>
+    ensures moved { IfOk result (λ v. IsPermutation (map (λ m. m.now) markers.entry.items) (map (λ m. m.now) v.items)) }
+    ensures ordered { IfOk result (λ v. AreInOrder (map (λ m. m.now) v.items)) }
 {
     let mut markers = markers;
     markers.sort_by_key(|marker| marker.key().place())?;
@@ -87,15 +87,15 @@ fn in_order(markers: Vec<Marker>) -> Result<Vec<Marker>, AllocError>
 }
 
 /// How many markers make the run of the first one, and the run.
-fn first_run(markers: &[Marker]) -> (usize, Key)
+fn first_run(markers: &[&Marker]) -> (usize, Key)
     requires some { 1 ≤ length markers.now }
-    requires filled { All IsFilled markers.now }
-    requires ordered { AreInOrder markers.now }
-    ensures { IsFirstRun markers.now result.0 result.1 }
+    requires filled { All IsFilled (map (λ m. m.now) markers.now) }
+    requires ordered { AreInOrder (map (λ m. m.now) markers.now) }
+    ensures { IsFirstRun (map (λ m. m.now) markers.now) result.0 result.1 }
 {
     let mut run = markers[0].key();
     for count in 1..markers.len() {
-        let marker = &markers[count];
+        let marker = markers[count];
         if !run.reaches(marker) {
             return (count, run);
         }
@@ -105,8 +105,8 @@ fn first_run(markers: &[Marker]) -> (usize, Key)
 }
 
 /// The numbers of all markers, one marker after another.
-fn all_numbers(alloc: Global, markers: &[Marker]) -> Result<Vec<u32>, AllocError>
-    ensures { IfOk result (λ v. v.items ≡ flat_map (λ marker. marker.met) markers.now) }
+fn all_numbers(alloc: Global, markers: &[&Marker]) -> Result<Vec<u32>, AllocError>
+    ensures { IfOk result (λ v. v.items ≡ flat_map (λ marker. marker.now.met) markers.now) }
 {
     let mut numbers = Vec::new(alloc);
     for marker in markers {
@@ -116,8 +116,8 @@ fn all_numbers(alloc: Global, markers: &[Marker]) -> Result<Vec<u32>, AllocError
 }
 
 /// The submissions that some of the markers meets.
-fn met_by(alloc: Global, markers: &[Marker]) -> Result<Met, AllocError>
-    ensures { IfOk result (λ met. AreMetBy markers.now met) }
+fn met_by(alloc: Global, markers: &[&Marker]) -> Result<Met, AllocError>
+    ensures { IfOk result (λ met. AreMetBy (map (λ m. m.now) markers.now) met) }
 {
     if let [only] = markers {
         return only.met.copy();
@@ -127,11 +127,11 @@ fn met_by(alloc: Global, markers: &[Marker]) -> Result<Met, AllocError>
 }
 
 /// Adds the marker of the first run, and tells how many markers make it.
-fn add_run(alloc: Global, book: &mut Vec<Marker>, markers: &[Marker]) -> Result<usize, AllocError>
+fn add_run(alloc: Global, book: &mut Vec<Marker>, markers: &[&Marker]) -> Result<usize, AllocError>
     requires some { 1 ≤ length markers.now }
-    requires filled { All IsFilled markers.now }
-    requires ordered { AreInOrder markers.now }
-    ensures { IfOk result (λ count. AddsRun markers.now count book.old.items book.new.items) }
+    requires filled { All IsFilled (map (λ m. m.now) markers.now) }
+    requires ordered { AreInOrder (map (λ m. m.now) markers.now) }
+    ensures { IfOk result (λ count. AddsRun (map (λ m. m.now) markers.now) count book.old.items book.new.items) }
 {
     let (count, run) = first_run(markers);
     let met = met_by(alloc, &markers[..count])?;
@@ -140,10 +140,10 @@ fn add_run(alloc: Global, book: &mut Vec<Marker>, markers: &[Marker]) -> Result<
 }
 
 /// The markers of all runs, in order.
-fn join(alloc: Global, markers: &[Marker]) -> Result<Vec<Marker>, AllocError>
-    requires filled { All IsFilled markers.now }
-    requires ordered { AreInOrder markers.now }
-    ensures { IfOk result (λ v. IsJoined (Contains markers.now) v.items) }
+fn join(alloc: Global, markers: &[&Marker]) -> Result<Vec<Marker>, AllocError>
+    requires filled { All IsFilled (map (λ m. m.now) markers.now) }
+    requires ordered { AreInOrder (map (λ m. m.now) markers.now) }
+    ensures { IfOk result (λ v. IsJoined (Contains (map (λ m. m.now) markers.now)) v.items) }
 {
     let mut book = Vec::with_capacity(alloc, markers.len())?;
     let mut start = 0;
@@ -157,8 +157,8 @@ fn join(alloc: Global, markers: &[Marker]) -> Result<Vec<Marker>, AllocError>
 /// meets the submissions of the markers within it. The lists may be in any order, and their markers may overlap.
 ///
 /// For `n` markers and `k` numbers of submissions in all the cost is that of a sort of the markers and sorts of
-/// at most `k` numbers: `n log n + k log k`. The markers stand in memory three times, 64 bytes each, while they are
-/// sorted; the book takes what its runs take, and lists of more than two submissions.
+/// at most `k` numbers: `n log n + k log k`. Where each marker stands is sorted, and no marker is moved: that takes 16
+/// bytes a marker meanwhile. The book takes 64 bytes a marker at most, and lists of more than two submissions.
 ///
 /// # Errors
 /// Where there is no room.

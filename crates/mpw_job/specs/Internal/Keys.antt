@@ -2,7 +2,7 @@
 use Rattle.mpw_geom.specs.declared.plane.Box2.{Box2}
 use Rattle.mpw_edges.specs.declared.run.Piece.{Piece}
 use Rattle.mpw_markers.specs.declared.marker.Key.{Key}
-use Rattle.mpw_markers.specs.Markers.{box_on}
+use Rattle.mpw_edges.specs.Pieces.{box_on}
 
 -- The run of a key, and its closed box.
 abbrev pub run_at : Key → Piece

@@ -2,4 +2,4 @@ use Rattle.mpw_job.proofs.Unique.{one_list}
 use Rattle.mpw_job.proofs.laws.layout_determines_markers.Goals as goal
 
 pub returns : goal.returns
-returns c = one_list
+returns c = one_list c.test_decides_pair_steps.ensures

@@ -12,6 +12,6 @@ new-requires c =
     record {
       plane = subst IsBoxInPlane (sym c.core-core.ensures.core)
           (c.cores_lie_in_plane.ensures c.args.snapshot.now c.args.plan.now c.args.tile
-          c.is_snapshot.ensures c.requires.plan c.requires.plane c.requires.tile);
+          c.is_snapshot.ensures c.requires.plan c.requires.tile);
       few = omega (arith, ap (λ (rs : List Rule). length rs) same);
     }

@@ -6,6 +6,7 @@ use Rattle.std.proofs.lemmas.List.Elements.{All-append}
 use Rattle.mpw_markers.specs.declared.marker.Marker.{Marker}
 use Rattle.mpw_markers.specs.Markers.{IsFilled}
 use Rattle.mpw_markers.proofs.Gathered.{flat_map_next}
+use Rattle.mpw_markers.proofs.Referred.{seen}
 use Rattle.mpw_markers.proofs.stitching.all_markers.Goals as goal
 
 pub returns-clause-markers : goal.returns-clause-markers
@@ -20,6 +21,6 @@ loop-list-preserved c = record {
       ∙ flat_map_next (λ (list : List Marker). list) c.args.lists.now c.loop-list.list-index
       c.list-item.result c.loop-list-test.true c.list-item.is;
   filled = subst (All IsFilled) (sym c.in_ok-add_all.ensures)
-      (All-append IsFilled c.loop-list.all.items c.as_slice.result.now c.loop-list.invariant.filled
+      (All-append IsFilled (seen c.loop-list.all.items) c.as_slice.result.now c.loop-list.invariant.filled
       (subst (All IsFilled) (sym c.as_slice.ensures.markers) c.as_slice.ensures.filled));
 }

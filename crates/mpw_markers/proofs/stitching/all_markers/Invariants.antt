@@ -3,10 +3,11 @@ use Rattle.std.specs.Prelude.{All}
 use Rattle.std.specs.List.{flat_map}
 use Rattle.mpw_markers.specs.declared.marker.Marker.{Marker}
 use Rattle.mpw_markers.specs.Markers.{IsFilled}
+use Rattle.mpw_markers.proofs.Referred.{seen}
 use Rattle.mpw_markers.proofs.stitching.all_markers.Given as goal
 
 abbrev pub invariant-loop-list : goal.invariant-loop-list
 invariant-loop-list l = record {
-  markers : l.all.items ≡ flat_map (λ (list : List Marker). list) (take l.list-index l.lists);
-  filled : All IsFilled l.all.items;
+  markers : seen l.all.items ≡ flat_map (λ (list : List Marker). list) (take l.list-index l.lists);
+  filled : All IsFilled (seen l.all.items);
 }

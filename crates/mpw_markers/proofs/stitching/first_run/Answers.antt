@@ -1,24 +1,39 @@
+use Rattle.std.proofs.Common.{◌<◌, ◌≤◌, sym, subst}
+use Rattle.mpw_markers.specs.Internal.Runs.{IsFirstRun}
 use Rattle.mpw_markers.proofs.Grouped.{started, taken_in, stopped, all_reached}
+use Rattle.mpw_markers.proofs.Referred.{seen, many, at}
 use Rattle.mpw_markers.proofs.stitching.first_run.Goals as goal
 
 pub loop-count-init : goal.loop-count-init
-loop-count-init c = started c.args.markers.now c.index-markers-0.result c.key-run.result
-    c.index-markers-0.is c.key-run.ensures c.requires.some c.requires.filled c.requires.ordered
+loop-count-init c =
+    let ms = c.args.markers.now in
+    started (seen ms) c.index-markers-0.result.now c.key-run.result
+    (at ms 0 c.index-markers-0.result c.requires.some c.index-markers-0.is) c.key-run.ensures
+    (subst (λ n. 1 ≤ n) (sym (many ms)) c.requires.some) c.requires.filled c.requires.ordered
 
 pub loop-count-preserved : goal.loop-count-preserved
 loop-count-preserved c =
+    let ms = c.args.markers.now in
     let is = c.if-not-reaches.ensures in
-    taken_in c.args.markers.now c.loop-count.count c.loop-count.run c.longer_key-run.result
-    c.index-markers-count.result c.loop-count.invariant c.loop-count-test.true
-    c.index-markers-count.is c.requires.filled is.0 is.1 c.longer_key-run.ensures
+    taken_in (seen ms) c.loop-count.count c.loop-count.run c.longer_key-run.result
+    c.index-markers-count.result.now c.loop-count.invariant
+    (subst (λ n. c.loop-count.count < n) (sym (many ms)) c.loop-count-test.true)
+    (at ms c.loop-count.count c.index-markers-count.result c.loop-count-test.true
+    c.index-markers-count.is) c.requires.filled is.0 is.1 c.longer_key-run.ensures
 
 pub returns-then-not-reaches : goal.returns-then-not-reaches
 returns-then-not-reaches c =
-    stopped c.args.markers.now c.loop-count.count c.loop-count.run c.index-markers-count.result
-    c.loop-count.invariant c.loop-count.auto.count c.loop-count-test.true
-    c.index-markers-count.is c.requires.ordered c.if-not-reaches.ensures
+    let ms = c.args.markers.now in
+    stopped (seen ms) c.loop-count.count c.loop-count.run c.index-markers-count.result.now
+    c.loop-count.invariant c.loop-count.auto.count
+    (subst (λ n. c.loop-count.count < n) (sym (many ms)) c.loop-count-test.true)
+    (at ms c.loop-count.count c.index-markers-count.result c.loop-count-test.true
+    c.index-markers-count.is) c.requires.ordered c.if-not-reaches.ensures
 
 pub returns : goal.returns
 returns c =
-    all_reached c.args.markers.now c.loop-count.count c.loop-count.run c.loop-count.invariant
-    c.requires.some c.loop-count-test.false
+    let ms = c.args.markers.now in
+    subst (λ n. IsFirstRun (seen ms) n c.loop-count.run) (many ms)
+    (all_reached (seen ms) c.loop-count.count c.loop-count.run c.loop-count.invariant
+    (subst (λ n. 1 ≤ n) (sym (many ms)) c.requires.some)
+    (subst (λ n. n ≤ c.loop-count.count) (sym (many ms)) c.loop-count-test.false))
