@@ -2,10 +2,8 @@
 use Rattle.std.proofs.Common.{◌≡◌, ◌∙◌, ℕ, Bool, true, false, List, Option, None, Some, Result, Ok, Err, refl, sym, ap, subst, arith}
 use Rattle.std.specs.Prelude.{nat_lt, length, slice_get, if◌then◌else◌}
 use Rattle.std.proofs.lemmas.Int.{ints}
-use Rattle.mpw_markers.specs.Markers.{key_of, line_of_key}
-use Rattle.mpw_job.specs.Layout.{AreLayoutMarkers, shown_on}
-use Rattle.mpw_job.proofs.Tests.{get_contains, rule_of}
-use Rattle.mpw_tiles.specs.Snapshots.{shown}
+use Rattle.mpw_job.specs.Layout.{AreLayoutMarkers}
+use Rattle.mpw_job.proofs.Tests.{get_contains}
 use Rattle.mpw_replies.specs.Listing.{Listed}
 use Rattle.mpw_replies.specs.Rows.{◌>>=◌, ended_by, needed}
 use Rattle.mpw_replies.specs.declared.reply.Code.TheVariants as code
@@ -117,12 +115,9 @@ layout_rules : (v : Sight) (f : Checked) → AreLayoutMarkers f.planned.snapshot
     → v.rules ≡ f.planned.snapshot.deck.rules → v.book ≡ f.book → HaveRules v
 layout_rules v f layout rules book place m at =
     let in_book = get_contains f.book place m (ap (λ b. slice_get b place) (sym book) ∙ at) in
-    let most = (layout.1.sound m in_book).run in
-    let filled = most.filled in
-    let first = most.rows m.y0 (omega (arith, ints)) filled in
-    let own = rule_of f.planned.snapshot.deck.rules (shown_on (shown f.planned.snapshot))
-    (line_of_key (key_of m)) m.y0 first in
-    (own.rule, ap (λ rs. slice_get rs m.rule) rules ∙ own.at)
+    let run = layout.runs.sound m in_book in
+    let own = run.rows m.y0 (omega (arith, ints)) run.filled in
+    (own.0, ap (λ rs. slice_get rs m.rule) rules ∙ own.1)
 
 pub markers_told : (desk : Desk)
     → ((f : Checked) → (state_of desk).run.phase ≡ Finished f

@@ -10,7 +10,8 @@ use Rattle.mpw_geom.specs.declared.plane.Orient.{Orient}
 use Rattle.mpw_geom.specs.declared.plane.Orient.TheVariants.{R0, R90, R180, R270, M0, M90, M180, M270}
 use Rattle.mpw_geom.specs.declared.plane.Point.{Point}
 use Rattle.mpw_geom.specs.declared.placing.Placing.{Placing}
-use Rattle.mpw_run.specs.Same.{same_point, same_box, same_layer, orient_number, same_orient, same_placing}
+use Rattle.mpw_geom.specs.Layers.{same_layer}
+use Rattle.mpw_run.specs.Same.{same_point, same_box, orient_number, same_orient, same_placing}
 
 -- The test decides whether its two values are equal.
 abbrev pub Exact : {X : Type 0} → (X → X → Bool) → Type 0

@@ -21,7 +21,8 @@ use Rattle.mpw_walk.specs.declared.root.Root.{Root}
 use Rattle.mpw_tiles.specs.declared.listing.Rectangle.{Rectangle}
 use Rattle.mpw_tiles.specs.Snapshots.{Snapshot}
 use Rattle.mpw_job.specs.Answers.{TileJob}
-use Rattle.mpw_run.specs.Same.{same_point, same_box, same_layer, same_orient, same_placing, same_points, same_boundary, same_ends, same_path, same_array, same_reference, same_element, same_structure}
+use Rattle.mpw_geom.specs.Layers.{same_layer}
+use Rattle.mpw_run.specs.Same.{same_point, same_box, same_orient, same_placing, same_points, same_boundary, same_ends, same_path, same_array, same_reference, same_element, same_structure}
 use Rattle.mpw_run.specs.Same.{same_library, same_binding, same_version, same_submission, same_root, same_check, same_rule, same_rules, same_deck, same_snapshot, same_rectangle, same_place, same_tile_job}
 use Rattle.mpw_run.specs.Laws.{TestsAreExact}
 use Rattle.mpw_run.proofs.ExactPlane.{Exact, names, lists, one, two, three, four, points, boxes, layers, orients, placings}

@@ -3,7 +3,6 @@ use Rattle.std.specs.Prelude.{◌≡◌, ◌<◌, ℕ, List, length, Option, Som
 use Rattle.std.specs.List.{flat_map}
 use Rattle.std.specs.Option.{option_to_list}
 use Rattle.mpw_tiles.specs.declared.listing.Rectangle.{Rectangle}
-use Rattle.mpw_tiles.specs.Placed.{WindowsLieInPlane}
 use Rattle.mpw_tiles.specs.Plan.{Tiling, tiles}
 use Rattle.mpw_tiles.specs.Snapshots.{Snapshot, IsSnapshot, plan_for, StandFor}
 use Rattle.mpw_markers.specs.declared.marker.Marker.{Marker}
@@ -30,7 +29,6 @@ pub record Checks : Type 0 where
 pub record IsPlanned (p : Planned) : Type 0 where
   pub snapshot : IsSnapshot p.snapshot
   pub plan : plan_for p.snapshot ≡ Some p.plan
-  pub plane : WindowsLieInPlane p.plan
 
 -- The markers of each tile that is answered, in order, and how many those are.
 abbrev pub answers_of : List Tile → List (List Marker)

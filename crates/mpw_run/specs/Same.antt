@@ -6,6 +6,7 @@ use Rattle.std.specs.Cmp.Lexicographic.{pointwise}
 use Rattle.mpw_geom.specs.Names.{name_eq}
 use Rattle.mpw_geom.specs.declared.plane.Box2.{Box2}
 use Rattle.mpw_geom.specs.declared.plane.Layer.{Layer}
+use Rattle.mpw_geom.specs.Layers.{same_layer}
 use Rattle.mpw_geom.specs.declared.plane.Orient.{Orient}
 use Rattle.mpw_geom.specs.declared.plane.Orient.TheVariants.{R0, R90, R180, R270, M0, M90, M180, M270}
 use Rattle.mpw_geom.specs.declared.plane.Point.{Point}
@@ -34,9 +35,6 @@ same_point a b = int_eq a.x b.x && int_eq a.y b.y
 
 abbrev pub same_box : Box2 → Box2 → Bool
 same_box a b = (int_eq a.x0 b.x0 && int_eq a.y0 b.y0) && (int_eq a.x1 b.x1 && int_eq a.y1 b.y1)
-
-abbrev pub same_layer : Layer → Layer → Bool
-same_layer a b = (a.layer == b.layer) && (a.datatype == b.datatype)
 
 -- An orientation by its place among the eight.
 abbrev pub orient_number : Orient → ℕ

@@ -8,7 +8,7 @@ use Rattle.std.specs.Ordering.{ordering_reverse}
 use Rattle.std.specs.declared.cmp.Ordering.TheVariants.{Less, Equal}
 use Rattle.mpw_geom.specs.declared.plane.Layer.{Layer}
 use Rattle.mpw_geom.specs.declared.plane.Box2.{Box2}
-use Rattle.mpw_geom.specs.Plane.{Square, has_square, closed_square}
+use Rattle.mpw_geom.specs.Plane.{Square, has_square, closed_square, widened}
 use Rattle.mpw_geom.proofs.Tests.{PointIn-from_test, SquareIn, test_from_SquareIn, same_tests}
 use Rattle.mpw_region.specs.Exchange.{exchanged_box}
 use Rattle.mpw_region.proofs.Orderings.{before_itself}
@@ -20,21 +20,20 @@ use Rattle.mpw_edges.specs.Edges.{Squares, exchanged}
 use Rattle.mpw_edges.specs.Laws.{AreSameIn}
 use Rattle.mpw_edges.specs.Pieces.{HasStep, axis_cmp}
 use Rattle.mpw_tiles.specs.declared.listing.Rectangle.{Rectangle}
-use Rattle.mpw_tiles.specs.Grid.{widened}
-use Rattle.mpw_tiles.specs.Laws.{EachWindowDecides, EachWindowDecidesRows, MetSquaresLieInWindows, IsListedMet, Meet}
+use Rattle.mpw_geom.specs.Meeting.{Meet, IsMet}
+use Rattle.mpw_tiles.specs.Laws.{EachWindowDecides, EachWindowDecidesRows, MetSquaresLieInWindows}
 use Rattle.mpw_tiles.specs.Plan.{greatest_distance, plan_of, tile_core, tile_window}
 use Rattle.mpw_tiles.proofs.Tiles.{no_greater}
 use Rattle.mpw_markers.specs.declared.marker.Marker.{Marker}
 use Rattle.mpw_markers.specs.declared.marker.Key.{Key}
 use Rattle.mpw_markers.specs.Markers as marks
-use Rattle.mpw_markers.specs.Whole.{IsMet}
 use Rattle.mpw_markers.proofs.Unique.{same_in_order, same_numbers, same_marker}
-use Rattle.mpw_job.specs.Answers.{TileJob, HasListed, listed_on, IsFoundIn, run_of, marker_cmp, ComesBefore, Answers}
+use Rattle.mpw_tiles.specs.Listing.{IsListed, HasListed}
+use Rattle.mpw_job.specs.Answers.{TileJob, listed_on, IsFoundIn, run_of, marker_cmp, ComesBefore, Answers}
 use Rattle.mpw_job.specs.Internal.Keys.{key_box}
 use Rattle.mpw_job.specs.Layers.{first_squares, second_squares}
 use Rattle.mpw_job.proofs.Tests.{same_first, same_second, get_contains}
 use Rattle.mpw_job.proofs.Shapes.{tests_tell_listed}
-use Rattle.mpw_job.proofs.Cores.{same_boxes, to_listed, from_listed}
 use Rattle.mpw_run_laws.specs.Windows.{HaveSameSquares, HasListedStep, row_box, SquaresDecideRows, IsOfTile, SquaresDecideAnswers}
 
 -- ---- squares
@@ -48,25 +47,26 @@ same_coverage window first second same layer i j l r d t =
     let f = tests_tell_listed first layer in
     let g = tests_tell_listed second layer in
     same_tests (listed_on first layer i j) (listed_on second layer i j)
-    (λ k. let p = f.listed_at i j k in g.all i j p.0 ((same layer p.0 q w).0 p.1))
-    (λ k. let p = g.listed_at i j k in f.all i j p.0 ((same layer p.0 q w).1 p.1))
+    (λ k. let p = f.listed_at i j k in g.all i j p.0 ((same.squares q layer p.0 w).0 p.1))
+    (λ k. let p = g.listed_at i j k in f.all i j p.0 ((same.squares q layer p.0 w).1 p.1))
 
 -- origins with a square at a box, where such squares lie in the window
 met_alike : (window : Box2) (first second : List Rectangle) (box : Box2) (origin : ℕ)
     → HaveSameSquares window first second
     → ((s : Square) → Meet (closed_square s) box → has_square window s ≡ true)
-    → IsListedMet first box origin → IsListedMet second box origin
-met_alike window first second box origin same within h = record {
-  layer = h.layer;
-  square = h.square;
-  is_listed = (same h.layer origin h.square (within h.square h.meets)).0 h.is_listed;
-  meets = h.meets;
-}
+    → IsMet (HasListed first) box origin → IsMet (HasListed second) box origin
+met_alike window first second box origin same within h =
+    let r = h.1.0 in
+    let listed : IsListed first r.layer origin h.0 =
+    (r, h.1.1, record { on_layer = refl; of_origin = h.1.2; has = h.1.3 }) in
+    let l = (same.squares h.0 r.layer origin (within h.0 h.2)).0 listed in
+    (h.0, (l.0, l.1, l.2.of_origin, l.2.has), h.2)
 
 turned : (window : Box2) (first second : List Rectangle) → HaveSameSquares window first second
     → HaveSameSquares window second first
-turned window first second same layer origin s w =
-    ((same layer origin s w).1, (same layer origin s w).0)
+turned window first second same = record {
+  squares = λ s layer origin w. let both = same.squares s layer origin w in (both.1, both.0);
+}
 
 -- ---- squares that meet a row
 
@@ -187,15 +187,6 @@ never_both : (m n : Marker) → ComesBefore m n → ComesBefore n m → ⊥
 never_both m n e f =
     before_itself marker_cmp marker_total m m (marker_total.trans m n m e f) refl
 
--- what a list of rectangles meets, the other does
-met_cross : (window : Box2) (first second : List Rectangle) (box : Box2) (origin : ℕ)
-    → HaveSameSquares window first second
-    → ((s : Square) → Meet (closed_square s) box → has_square window s ≡ true)
-    → IsMet (HasListed first) box origin → IsMet (HasListed second) box origin
-met_cross window first second box origin same within h =
-    from_listed second box origin (met_alike window first second box origin same within
-    (to_listed first box origin h))
-
 -- the marker of one answer is one of the other
 in_both : EachWindowDecides → MetSquaresLieInWindows → (extent : Box2) (deck : Deck) (tile : ℕ)
     (first second : TileJob) (found others : List Marker) (m : Marker)
@@ -232,17 +223,16 @@ in_both runs met extent deck tile first second found others m is other same f g 
     let within : (s : Square) → Meet (closed_square s) (marks.box_of m)
     → has_square window s ≡ true = λ s k.
     met extent deck rule tile (first_squares rule.check (listed_on first.window))
-    (second_squares rule.check (listed_on first.window)) (run_of m) s in_deck here
-    (subst (Meet (closed_square s)) (same_boxes m.axis m.x1 m.x2 m.y0 m.y1) k) in
+    (second_squares rule.check (listed_on first.window)) (run_of m) s in_deck here k in
     let numbers : n.met ≡ m.met =
     same_numbers n.met m.met told.met.ascending own.met.ascending (λ origin. (
-      λ k. (own.met.exact origin).1 (met_cross window second.window first.window (marks.box_of m)
+      λ k. (own.met.exact origin).1 (met_alike window second.window first.window (marks.box_of m)
           origin (turned window first.window second.window same) within
           (subst (λ (b : Box2). IsMet (HasListed second.window) b origin) boxes
           ((told.met.exact origin).0 k))),
       λ k. (told.met.exact origin).1 (subst (λ (b : Box2).
           IsMet (HasListed second.window) b origin) (sym boxes)
-          (met_cross window first.window second.window (marks.box_of m) origin same within
+          (met_alike window first.window second.window (marks.box_of m) origin same within
           ((own.met.exact origin).0 k))),
     )) in
     subst (Contains others) (same_marker n m (ap marks.line_of_key keys)

@@ -1,15 +1,13 @@
 -- What a tile's window decides: the pair steps of the tile's core, row by row, and the origins that each row meets.
-use Rattle.std.specs.Prelude.{◌≡◌, ◌↔◌, ℕ, ℤ, pos, ◌+ℤ◌, true, List, Contains}
-use Rattle.mpw_geom.specs.declared.plane.Layer.{Layer}
+use Rattle.std.specs.Prelude.{◌≡◌, ◌↔◌, ℕ, ℤ, pos, ◌+ℤ◌, List, Contains}
 use Rattle.mpw_geom.specs.declared.plane.Box2.{Box2}
-use Rattle.mpw_geom.specs.Plane.{Square, has_square}
+use Rattle.mpw_geom.specs.Meeting.{IsMet}
 use Rattle.mpw_deck.specs.declared.rule.Rule.{Rule}
 use Rattle.mpw_deck.specs.Decks.{Deck}
 use Rattle.mpw_edges.specs.declared.run.Axis.{Axis}
-use Rattle.mpw_edges.specs.Pieces.{HasStep}
+use Rattle.mpw_edges.specs.Pieces.{HasStep, box_on}
 use Rattle.mpw_tiles.specs.declared.listing.Rectangle.{Rectangle}
-use Rattle.mpw_tiles.specs.Laws.{IsListedMet, box_on}
-use Rattle.mpw_tiles.specs.Listing.{IsListed}
+use Rattle.mpw_tiles.specs.Listing.{IsListed, HasListed, IsWindow}
 use Rattle.mpw_tiles.specs.Plan.{plan_of, tile_core, tile_window}
 use Rattle.mpw_markers.specs.declared.marker.Marker.{Marker}
 use Rattle.mpw_job.specs.Answers.{TileJob, listed_on, Answers}
@@ -17,9 +15,7 @@ use Rattle.mpw_job.specs.Layers.{first_squares, second_squares}
 
 -- In the window both lists of rectangles have the same unit squares, by layer and origin.
 abbrev pub HaveSameSquares : Box2 → List Rectangle → List Rectangle → Type 0
-HaveSameSquares window first second =
-    (layer : Layer) (origin : ℕ) (s : Square) → has_square window s ≡ true
-    → IsListed first layer origin s ↔ IsListed second layer origin s
+HaveSameSquares window first second = IsWindow (IsListed second) window first
 
 -- A row within the core has a pair step of the rule between edges of the rectangles.
 abbrev pub HasListedStep : Rule → Box2 → List Rectangle → Axis → ℕ → ℤ → ℤ → ℤ → Type 0
@@ -38,8 +34,8 @@ pub record TellTheSame (rule : Rule) (core : Box2) (first second : List Rectangl
       ↔ HasListedStep rule core second axis side x1 x2 j
   pub met : (axis : Axis) (side : ℕ) (x1 x2 j : ℤ) (origin : ℕ)
       → HasListedStep rule core first axis side x1 x2 j
-      → IsListedMet first (row_box axis x1 x2 j) origin
-      ↔ IsListedMet second (row_box axis x1 x2 j) origin
+      → IsMet (HasListed first) (row_box axis x1 x2 j) origin
+      ↔ IsMet (HasListed second) (row_box axis x1 x2 j) origin
 
 -- The squares of a tile's window alone decide what a rule of the deck finds in the tile's core.
 abbrev pub SquaresDecideRows : Type 0

@@ -239,7 +239,7 @@ module _ (keys : PlacesAreOfKeys) (number : ℕ) (policy : Policy) (connection :
   waive_phase (Finished f) is places =
       by_name_of keys policy connection f waivers asked_by (signing.waived_outcome waivers)
       (signing.by_user policy connection) (λ why. refl) (λ n. refl)
-      (λ n. signing.passes (ask_test (waiver_at waivers n.place))) ask_seen (λ n. refl) is.1.0
+      (λ n. signing.passes (ask_test (waiver_at waivers n.place))) ask_seen (λ n. refl) is.1.book
       places name
 
   sign_phase : (phase : Phase) → IsPhase number phase → length waivers ≡ book_size phase
@@ -259,7 +259,7 @@ module _ (keys : PlacesAreOfKeys) (number : ℕ) (policy : Policy) (connection :
       (λ n. signing.apart f waivers n (user_of policy connection))
       (sign_seen (user_of policy connection))
       (λ n. sign_alike f.planned.snapshot.shelf n.marker (user_of policy connection)
-      (waiver_at waivers n.place)) is.1.0 places name
+      (waiver_at waivers n.place)) is.1.book places name
 
 -- ---- of a state
 

@@ -20,10 +20,10 @@ use Rattle.mpw_edges.specs.declared.run.Axis.TheVariants.{V, H}
 use Rattle.mpw_edges.specs.declared.run.Piece.{Piece}
 use Rattle.mpw_edges.specs.Edges.{Squares, exchanged}
 use Rattle.mpw_edges.specs.Steps.{IsPair}
-use Rattle.mpw_edges.specs.Pieces.{HasStep, piece_cmp, ComesBefore as IsPieceBefore}
+use Rattle.mpw_edges.specs.Pieces.{HasStep, piece_cmp, ComesBefore as IsPieceBefore, box_on}
 use Rattle.mpw_markers.specs.declared.marker.Key.{Key}
 use Rattle.mpw_markers.specs.declared.marker.Marker.{Marker}
-use Rattle.mpw_markers.specs.Markers.{key_of, box_on}
+use Rattle.mpw_markers.specs.Markers.{key_of}
 use Rattle.mpw_job.specs.Layers.{Coverage, first_squares, second_squares}
 use Rattle.mpw_job.specs.Answers.{TileJob, listed_on, IsFoundIn, key_at, TellsMet, ComesBefore, Answers}
 use Rattle.mpw_job.specs.Internal.Keys.{run_at, key_box}

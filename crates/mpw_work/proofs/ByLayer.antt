@@ -4,16 +4,17 @@ use Rattle.std.specs.Prelude.{ℤ, All, nat_lt as ltb}
 use Rattle.std.specs.List.{AllWithin}
 use Rattle.std.specs.List.Sorted.{IsPermutation, IsPartitionPoint}
 use Rattle.std.proofs.Math.Path.{fun_ext}
-use Rattle.std.proofs.lemmas.Bool.{and_parts, eqb-true, ltb-true, ltb-false}
+use Rattle.std.proofs.lemmas.Bool.{ltb-true, ltb-false}
 use Rattle.std.proofs.lemmas.List.{take-append-drop, get_or-take, get_or-drop, length-take, length-drop}
 use Rattle.std.proofs.lemmas.List.Folds.{list_any-append, list_any_none}
 use Rattle.std.proofs.lemmas.List.Sorted.{list_any-IsPermutation}
 use Rattle.mpw_geom.specs.declared.plane.Layer.{Layer}
 use Rattle.mpw_geom.specs.Plane.{has_square}
 use Rattle.mpw_tiles.specs.declared.listing.Rectangle.{Rectangle}
-use Rattle.mpw_job.specs.Layers.{same_layer}
+use Rattle.mpw_geom.specs.Layers.{same_layer}
 use Rattle.mpw_work.specs.Internal.Layers.{layer_code}
 use Rattle.mpw_job.specs.Answers.{listed_on}
+use Rattle.mpw_job.proofs.Tests.{same_from, is_false}
 
 -- ---- parts
 
@@ -47,26 +48,10 @@ behind xs code n h = all_dropped (λ (r : Rectangle). code ≤ code_of r) xs n
 
 -- ---- layers apart
 
-abbrev layer_at : ℕ → ℕ → Layer
-layer_at l d = record { layer = l; datatype = d }
-
-same_both : (l m d e : ℕ) → l ≡ m → d ≡ e → layer_at l d ≡ layer_at m e
-same_both l m d e f g = ap (λ (x : ℕ). layer_at x d) f ∙ ap (layer_at m) g
-
-same_parts : (a b : Layer) → same_layer a b ≡ true → a ≡ b
-same_parts a b e =
-    let p = and_parts (a.layer == b.layer) (a.datatype == b.datatype) e in
-    same_both a.layer b.layer a.datatype b.datatype (eqb-true a.layer b.layer p.0)
-    (eqb-true a.datatype b.datatype p.1)
-
-not_true : (b : Bool) → (b ≡ true → ⊥) → b ≡ false
-not_true true h = absurd (h refl)
-not_true false h = refl
-
 apart : (r : Rectangle) (layer : Layer) → (code_of r ≡ layer_code layer → ⊥)
     → same_layer r.layer layer ≡ false
 apart r layer h =
-    not_true (same_layer r.layer layer) (λ e. h (ap layer_code (same_parts r.layer layer e)))
+    is_false (same_layer r.layer layer) (λ e. h (ap layer_code (same_from r.layer layer e)))
 
 none_on : (xs : List Rectangle) (layer : Layer) (i j : ℤ)
     → All (λ r. code_of r ≡ layer_code layer → ⊥) xs → listed_on xs layer i j ≡ false

@@ -10,13 +10,14 @@ use Rattle.mpw_geom.specs.Plane.{HasArea, Square, has_square}
 use Rattle.mpw_geom.proofs.Tests.{SquareIn-from_test}
 use Rattle.mpw_tiles.specs.declared.listing.Rectangle.{Rectangle}
 use Rattle.mpw_markers.specs.declared.search.Rectangle.{Rectangle as Located}
-use Rattle.mpw_markers.specs.Origins.{HasSquareOf, AreMetOrigins}
+use Rattle.mpw_markers.specs.Origins.{OriginHasSquare, AreMetOrigins}
 use Rattle.mpw_markers.specs.declared.marker.Key.{Key}
 use Rattle.mpw_markers.specs.declared.marker.Marker.{Marker}
 use Rattle.mpw_markers.specs.Markers.{key_of}
 use Rattle.mpw_markers.specs.Met.{IsAscending}
-use Rattle.mpw_markers.specs.Whole.{IsMet}
-use Rattle.mpw_job.specs.Answers.{HasListed, TellsMet}
+use Rattle.mpw_geom.specs.Meeting.{IsMet}
+use Rattle.mpw_tiles.specs.Listing.{HasListed}
+use Rattle.mpw_job.specs.Answers.{TellsMet}
 use Rattle.mpw_job.specs.Internal.Keys.{key_box}
 use Rattle.mpw_work.specs.Internal.Found.{met_of, TellMet, MeetsSome, AreMarkersOfKeys}
 
@@ -28,7 +29,7 @@ located r = record { area = r.area; origin = r.origin }
 -- the rectangles have the squares of those listed, each of them some
 pub record AreThose (listed : List Rectangle) (found : List Located) : Type 0 where
   pub areas : All (λ (r : Located). HasArea r.area) found
-  pub squares : (origin : ℕ) (s : Square) → HasSquareOf found origin s ↔ HasListed listed origin s
+  pub squares : (origin : ℕ) (s : Square) → OriginHasSquare found origin s ↔ HasListed listed origin s
 
 -- what the test of an area answers
 pub yes_area : (answer : Bool) (b : Box2) → answer ≡ true
@@ -87,7 +88,7 @@ one_more listed n d found lt h area = record {
   squares = λ origin s. (to origin s, from origin s);
 }
   where
-    to : (origin : ℕ) (s : Square) → HasSquareOf (found ++ located (get_or listed n d) ∷ []) origin
+    to : (origin : ℕ) (s : Square) → OriginHasSquare (found ++ located (get_or listed n d) ∷ []) origin
         s → HasListed (take (n + 1) listed) origin s
     to origin s k = elim (Contains-push_cases found (located (get_or listed n d)) k.0 k.1) [
       | inl c ↦ was_there listed n d origin s lt ((h.squares origin s).0 (k.0, c, k.2, k.3))
@@ -100,7 +101,7 @@ one_more listed n d found lt h area = record {
     ]
 
     from : (origin : ℕ) (s : Square) → HasListed (take (n + 1) listed) origin s
-        → HasSquareOf (found ++ located (get_or listed n d) ∷ []) origin s
+        → OriginHasSquare (found ++ located (get_or listed n d) ∷ []) origin s
     from origin s k = elim (there listed n d k.0 lt k.1) [
       | inl c ↦ let m = (h.squares origin s).1 (k.0, c, k.2, k.3) in
           (m.0, Contains-append_left found (located (get_or listed n d) ∷ []) m.0 m.1, m.2, m.3)
@@ -123,7 +124,7 @@ passed_over listed n d found lt h never = record {
 }
   where
     from : (origin : ℕ) (s : Square) → HasListed (take (n + 1) listed) origin s
-        → HasSquareOf found origin s
+        → OriginHasSquare found origin s
     from origin s k = elim (there listed n d k.0 lt k.1) [
       | inl c ↦ (h.squares origin s).1 (k.0, c, k.2, k.3)
       | inr e ↦ absurd (never (area_from (get_or listed n d).area s
@@ -139,7 +140,7 @@ all_of listed n found le h =
 
 met_alike : (listed : List Rectangle) (found : List Located) (b : Box2) (origin : ℕ)
     → AreThose listed found
-    → IsMet (HasSquareOf found) b origin ↔ IsMet (HasListed listed) b origin
+    → IsMet (OriginHasSquare found) b origin ↔ IsMet (HasListed listed) b origin
 met_alike listed found b origin h =
     (λ m. (m.0, (h.squares origin m.0).0 m.1, m.2), λ m. (m.0, (h.squares origin m.0).1 m.1, m.2))
 
@@ -161,7 +162,7 @@ tell_met listed found keys boxes mets h e a = record {
         ap (λ (bs : List Box2). get_or bs k (key_box d)) e
         ∙ get_or-map key_box keys k d (key_box d) lt in
         let own = subst (λ (b : Box2). Contains (get_or mets k []) origin
-        ↔ IsMet (HasSquareOf found) b origin) box (a.met k origin (key_box d) (omega arith)) in
+        ↔ IsMet (OriginHasSquare found) b origin) box (a.met k origin (key_box d) (omega arith)) in
         let alike = met_alike listed found (key_box (get_or keys k d)) origin h in
         (λ c. alike.0 (own.0 c), λ m. own.1 (alike.1 m))
 

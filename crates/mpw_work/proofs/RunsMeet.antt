@@ -10,12 +10,13 @@ use Rattle.mpw_deck.specs.declared.rule.Rule.{Rule}
 use Rattle.mpw_edges.specs.declared.run.Axis.{Axis}
 use Rattle.mpw_edges.specs.declared.run.Axis.TheVariants.{V, H}
 use Rattle.mpw_edges.specs.Edges.{Squares}
-use Rattle.mpw_edges.specs.Pieces.{HasStep}
+use Rattle.mpw_edges.specs.Pieces.{HasStep, IsStepOn}
 use Rattle.mpw_tiles.specs.declared.listing.Rectangle.{Rectangle}
-use Rattle.mpw_tiles.specs.Laws.{IsStepOn}
 use Rattle.mpw_markers.specs.declared.marker.Key.{Key}
-use Rattle.mpw_job.specs.Layers.{same_layer, first_squares, second_squares}
-use Rattle.mpw_job.specs.Answers.{TileJob, listed_on, HasListed, IsFoundIn}
+use Rattle.mpw_geom.specs.Layers.{same_layer}
+use Rattle.mpw_job.specs.Layers.{first_squares, second_squares}
+use Rattle.mpw_tiles.specs.Listing.{HasListed}
+use Rattle.mpw_job.specs.Answers.{TileJob, listed_on, IsFoundIn}
 use Rattle.mpw_job.specs.Internal.Keys.{run_at}
 use Rattle.mpw_work.specs.Internal.Found.{AreKeys, MeetsSome}
 use Rattle.mpw_job.proofs.Tests.{some_passes}

@@ -6,7 +6,7 @@
 ghost use Rattle.std.specs.Prelude.{◌≡◌, ◌≤◌, ◌<◌, ◌^◌, ℤ, All, IfOk, take, drop, length};
 ghost use Rattle.std.specs.List.Sorted.{IsPermutation};
 ghost use Rattle.mpw_region.specs.Squares.{covers};
-ghost use Rattle.mpw_job.specs.Layers.{same_layer};
+ghost use Rattle.mpw_geom.specs.Layers.{same_layer};
 ghost use Rattle.mpw_work.specs.Internal.Layers.{layer_code, IsByLayer};
 ghost use Rattle.mpw_job.specs.Answers.{listed_on};
 

@@ -6,8 +6,8 @@
 ghost use Rattle.std.specs.Prelude.{◌≡◌, ◌↔◌, ℕ, [], ◌∷◌, IfOk, IfSome, IsTrue, MatchBool, All, length, map};
 ghost use Rattle.mpw_geom.specs.Plane.{Square, HasArea, IsOrdered};
 ghost use Rattle.mpw_markers.specs.Markers.{key_of};
-ghost use Rattle.mpw_markers.specs.Origins.{HasSquareOf};
-ghost use Rattle.mpw_job.specs.Answers.{HasListed};
+ghost use Rattle.mpw_markers.specs.Origins.{OriginHasSquare};
+ghost use Rattle.mpw_tiles.specs.Listing.{HasListed};
 ghost use Rattle.mpw_job.specs.Internal.Keys.{key_box};
 ghost use Rattle.mpw_work.specs.Internal.Found.{met_of, TellMet, MeetsSome, AreMarkersOfKeys};
 
@@ -28,7 +28,7 @@ fn has_area(b: &Box2) -> bool
 fn with_area(alloc: Global, window: &[Rectangle]) -> Result<Vec<mpw_markers::Rectangle>, AllocError>
     ensures areas { IfOk result (λ v. All (λ r. HasArea r.area) v.items) }
     ensures squares { IfOk result (λ v. (origin : ℕ) (s : Square) →
-        HasSquareOf v.items origin s ↔ HasListed window.now origin s) }
+        OriginHasSquare v.items origin s ↔ HasListed window.now origin s) }
 {
     let mut found = Vec::new(alloc);
     for rectangle in window {

@@ -64,7 +64,7 @@ fn shape_count(snapshot: &Snapshot) -> u64
     snapshot.is_snapshot();
     let mut count = 0u64;
     for root in snapshot.roots() {
-        count += u64::from(snapshot.shelf().count(root.submission));
+        count += snapshot.shelf().count(root.submission);
     }
     count
 }

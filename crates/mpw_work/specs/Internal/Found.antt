@@ -12,9 +12,10 @@ use Rattle.mpw_markers.specs.declared.marker.Key.{Key}
 use Rattle.mpw_markers.specs.declared.marker.Marker.{Marker}
 use Rattle.mpw_markers.specs.Markers.{key_of}
 use Rattle.mpw_markers.specs.Met.{IsAscending}
-use Rattle.mpw_markers.specs.Whole.{IsMet}
+use Rattle.mpw_geom.specs.Meeting.{IsMet}
 use Rattle.mpw_job.specs.Layers.{Coverage}
-use Rattle.mpw_job.specs.Answers.{TileJob, HasListed, listed_on, IsFoundIn, key_at, TellsMet}
+use Rattle.mpw_tiles.specs.Listing.{HasListed}
+use Rattle.mpw_job.specs.Answers.{TileJob, listed_on, IsFoundIn, key_at, TellsMet}
 use Rattle.mpw_job.specs.Internal.Keys.{run_at, key_box}
 
 abbrev pub met_of : Marker → List ℕ

@@ -5,5 +5,5 @@ use Rattle.mpw_wafer.proofs.run.begin.shape_count.Given as goal
 abbrev pub invariant-loop-root : goal.invariant-loop-root
 invariant-loop-root l = record {
   so_far : l.count ≡ roots_count l.snapshot.shelf (take l.root-index l.snapshot.roots);
-  small : l.count ≤ l.root-index * 2 ^ 32;
+  small : l.count ≤ l.root-index * 2 ^ 40;
 }
