@@ -30,7 +30,7 @@ fn by_columns(
     if snapshot.shelf().submissions().len() != 1 {
         bail!("one submission");
     }
-    Ok(check_columns(rt, alloc, snapshot, most)?)
+    Ok(check_columns(rt, alloc, snapshot, most, &mut Silent)?)
 }
 
 /// The book of the snapshot by tiles.

@@ -1,5 +1,5 @@
 -- A library's top as the only submission of a shelf.
-use Rattle.std.proofs.Common.{◌≡◌, ℕ, List, [], Some, refl, subst}
+use Rattle.std.proofs.Common.{◌≡◌, ℕ, ◌^◌, List, [], Some, refl, subst}
 use Rattle.mpw_hier.specs.declared.bindings.Binding.{Binding}
 use Rattle.mpw_hier.specs.declared.fault.HierFault.{HierFault}
 use Rattle.mpw_hier.specs.declared.fault.HierFault.TheVariants as limits
@@ -18,7 +18,7 @@ none-bound names bound no_names no_bound = rw (no_names, no_bound) refl
 
 -- What keeps it from an empty shelf is told.
 pub refused-alone : (top : List ℕ) (library : List Structure) (fault : HierFault)
-    → AreExternals library top [] → IsRefused [] (offered top library) fault
+    → AreExternals library top [] → IsRefused (2 ^ 40) [] (offered top library) fault
     → IsOfTop top library (told fault)
 unfolding present
 refused-alone top library limits.Memory whole why = tt
@@ -33,9 +33,9 @@ refused-alone top library limits.Full whole why = absurd (let full = why.1.1.1 i
 -- The same of a shelf that is empty, and a submission that is the top's.
 pub refused-from-empty : (shelf : List Submission) (submission : Submission) (top : List ℕ)
     (library : List Structure) (fault : HierFault) → shelf ≡ [] → submission ≡ offered top library
-    → AreExternals library top [] → IsRefused shelf submission fault
+    → AreExternals library top [] → IsRefused (2 ^ 40) shelf submission fault
     → IsOfTop top library (told fault)
 refused-from-empty shelf submission top library fault empty offers whole why =
     refused-alone top library fault whole
-    (subst (λ s. IsRefused [] s fault) offers
-    (subst (λ ss. IsRefused ss submission fault) empty why))
+    (subst (λ s. IsRefused (2 ^ 40) [] s fault) offers
+    (subst (λ ss. IsRefused (2 ^ 40) ss submission fault) empty why))

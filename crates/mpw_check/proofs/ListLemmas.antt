@@ -11,9 +11,11 @@ use Rattle.mpw_markers.specs.Laws.{ListsDetermineTheBook}
 use Rattle.mpw_markers.specs.Stitched.{IsStitched}
 use Rattle.mpw_markers.specs.declared.marker.Marker.{Marker}
 use Rattle.mpw_tiles.specs.declared.listing.Rectangle.{Rectangle}
-use Rattle.mpw_tiles.specs.Plan.{Tiling, tiles}
+use Rattle.mpw_tiles.specs.Listing.{IsWindow}
+use Rattle.mpw_tiles.specs.Plan.{Tiling, tiles, tile_window}
+use Rattle.mpw_tiles.specs.Shown.{IsShown}
 use Rattle.mpw_tiles.specs.Snapshots.{Snapshot, IsSnapshot, shown, shown_extent, plan_for, AreWindowsFor, StandFor}
-use Rattle.mpw_check.specs.Lists.{only_run, tile_job_with, ShowsTile, IsOfTile, AreOfTiles, tile_count, TilesFollowOn, TilesMakeTheLayout}
+use Rattle.mpw_check.specs.Lists.{only_run, tile_job_with, IsOfTile, AreOfTiles, tile_count, TilesFollowOn, TilesMakeTheLayout}
 use Rattle.mpw_check.proofs.TileLemmas.{count-planned, count-unplanned}
 
 -- ---- lists that follow on one another
@@ -78,7 +80,7 @@ choose P d (suc n) some =
 -- ---- the lists of all tiles
 
 abbrev Serves : Snapshot → Tiling → List (List Marker) → ℕ → List Rectangle → Type 0
-Serves s plan lists tile window = ShowsTile plan (shown s) tile window
+Serves s plan lists tile window = IsWindow (IsShown (shown s)) (tile_window plan tile) window
     × Answers (tile_job_with s plan window tile) (get_or lists tile [])
 
 -- A tile's list has a window of the snapshot's plan.
@@ -108,12 +110,8 @@ planned_layout law s plan total lists book sound planned is of stitched =
     let chosen = choose (Serves s plan lists) [] (tiles plan)
     (λ tile less. serves_at s plan lists total tile planned of is less) in
     let stand : StandFor s chosen.items =
-    subst (λ p. AreWindowsFor p (shown s) chosen.items) (sym planned) (record {
-      count = chosen.count;
-      squares = λ tile square layer origin less has. (chosen.each tile less).0.squares square layer
-          origin has;
-      near = λ tile r less listed. (chosen.each tile less).0.near r listed;
-    }) in
+    subst (λ p. AreWindowsFor p (shown s) chosen.items) (sym planned)
+    (record { count = chosen.count; each = λ tile less. (chosen.each tile less).0 }) in
     let count = of.count in
     law s plan chosen.items only_run lists book sound planned stand (record {
       count = omega (arith, count, is);

@@ -16,9 +16,11 @@ use Rattle.mpw_job.specs.declared.answer.Answer.TheVariants as answers
 use Rattle.mpw_job.specs.declared.job.Job.TheVariants as jobs
 use Rattle.mpw_markers.specs.declared.marker.Marker.{Marker}
 use Rattle.mpw_tiles.specs.declared.listing.Rectangle.{Rectangle}
-use Rattle.mpw_tiles.specs.Plan.{Tiling, tiles}
-use Rattle.mpw_tiles.specs.Snapshots.{Snapshot, shown, shown_extent, plan_over, plan_for, ShowItems, AreWindowsFor, StandFor}
-use Rattle.mpw_check.specs.Lists.{only_run, ShowsTile, IsOfTile, AreOfTiles, AreTiles, count_over, tile_count}
+use Rattle.mpw_tiles.specs.Listing.{IsWindow, AreWindowsOf}
+use Rattle.mpw_tiles.specs.Plan.{Tiling, tiles, tile_window}
+use Rattle.mpw_tiles.specs.Shown.{IsShown}
+use Rattle.mpw_tiles.specs.Snapshots.{Snapshot, shown, shown_extent, plan_over, plan_for, AreWindowsFor, StandFor}
+use Rattle.mpw_check.specs.Lists.{only_run, IsOfTile, AreOfTiles, AreTiles, count_over, tile_count}
 use Rattle.mpw_check.specs.Internal.Tiled.{IsCut, job_at, jobs_of, markers_in, IsAnswered}
 
 -- An answer of a tile's job has markers that answer that job.
@@ -52,14 +54,11 @@ answered-at s plan windows first end xs k x e all within small at =
 -- The window of a tile shows it.
 shows-tile : (s : Snapshot) (plan : Tiling) (windows : List (List Rectangle)) (tile : ℕ)
     → plan_for s ≡ Some plan → StandFor s windows → tile < tiles plan
-    → ShowsTile plan (shown s) tile (slice_index_or windows tile [])
+    → IsWindow (IsShown (shown s)) (tile_window plan tile) (slice_index_or windows tile [])
 shows-tile s plan windows tile planned stand small =
-    let show : ShowItems plan (shown s) windows =
+    let show : AreWindowsOf plan (IsShown (shown s)) windows =
     subst (λ p. AreWindowsFor p (shown s) windows) planned stand in
-    record {
-      squares = λ square layer origin has. show.squares tile square layer origin small has;
-      near = λ r listed. show.near tile r small listed;
-    }
+    show.each tile small
 
 pub of_tiles : (s : Snapshot) (plan : Tiling) (windows : List (List Rectangle)) (first end : ℕ)
     (xs : List Answer) (lists : List (List Marker)) → IsCut s plan windows
@@ -140,19 +139,3 @@ none_there s first end lists there unplanned none =
 pub all_there : (s : Snapshot) (total : ℕ) → tile_count s ≡ Some total → AreTiles s 0 total
 all_there s total counted =
     record { ordered = omega arith; total = total; counted = counted; within = omega arith }
-
--- Nothing is told where there are shapes, and too many tiles.
-unmapped : (own : Option Tiling) → option_map tiles own ≡ None → own ≡ None
-unmapped None e = refl
-unmapped (Some plan) e = absurd cc
-
-too_many_over : (deck : Deck) (extent : Option Box2)
-    → count_over extent (plan_over deck extent) ≡ None
-    → (plan_over deck extent ≡ None) × (extent ≡ None → ⊥)
-too_many_over deck None e = absurd cc
-too_many_over deck (Some extent) e =
-    (unmapped (plan_over deck (Some extent)) e, λ none. absurd cc)
-
-pub too_many : (s : Snapshot) → tile_count s ≡ None
-    → (plan_for s ≡ None) × (shown_extent s ≡ None → ⊥)
-too_many s e = too_many_over s.deck (shown_extent s) e

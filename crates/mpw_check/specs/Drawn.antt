@@ -1,5 +1,5 @@
 -- A library's top, placed where it was drawn, under a deck; and why it can't be.
-use Rattle.std.specs.Prelude.{◌≡◌, ℕ, List, [], ◌∷◌, None, Ok, Err}
+use Rattle.std.specs.Prelude.{◌≡◌, ℕ, ◌^◌, List, [], ◌∷◌, None, Ok, Err}
 use Rattle.mpw_deck.specs.Decks.{Deck}
 use Rattle.mpw_hier.specs.declared.fault.HierFault.{HierFault}
 use Rattle.mpw_hier.specs.declared.fault.HierFault.TheVariants as limits
@@ -32,7 +32,7 @@ drawn deck top library =
 pub record IsDrawn (deck : Deck) (top : List ℕ) (library : List Structure) (snapshot : Snapshot) :
     Type 0 where
   pub whole : AreExternals library top []
-  pub limited : KeepsLimits [] (offered top library)
+  pub limited : KeepsLimits (2 ^ 40) [] (offered top library)
   pub snapshot_is : snapshot ≡ drawn deck top library
 
 -- The text is a library's, which is drawn.
@@ -46,11 +46,11 @@ abbrev pub IsOfStructures : List ℕ → List Structure → HierFault → Type 0
 IsOfStructures top library limits.NoTop = place_of library top ≡ None
 IsOfStructures top library limits.Cycle = IsCyclic library top
 IsOfStructures top library limits.Extent =
-    AreExternals library top [] × IsRefused [] (offered top library) limits.Extent
+    AreExternals library top [] × IsRefused (2 ^ 40) [] (offered top library) limits.Extent
 IsOfStructures top library limits.Shapes =
-    AreExternals library top [] × IsRefused [] (offered top library) limits.Shapes
+    AreExternals library top [] × IsRefused (2 ^ 40) [] (offered top library) limits.Shapes
 IsOfStructures top library limits.Deep =
-    AreExternals library top [] × IsRefused [] (offered top library) limits.Deep
+    AreExternals library top [] × IsRefused (2 ^ 40) [] (offered top library) limits.Deep
 IsOfStructures top library limits.Memory = ⊥
 IsOfStructures top library limits.NoCell = ⊥
 IsOfStructures top library limits.Full = ⊥
@@ -61,7 +61,6 @@ IsOfTop top library faults.Memory = Unit {0}
 IsOfTop top library (faults.Library fault) = ⊥
 IsOfTop top library (faults.Outside names) = AreExternals library top names × (names ≡ [] → ⊥)
 IsOfTop top library (faults.Structure fault) = IsOfStructures top library fault
-IsOfTop top library faults.Tiles = ⊥
 
 -- The text is a library's, whose top can't be checked.
 pub record IsOfLibrary (top text : List ℕ) (fault : CheckFault) : Type 0 where
@@ -75,7 +74,6 @@ IsOfText top text faults.Memory = Unit {0}
 IsOfText top text (faults.Library fault) = library_of text ≡ Err fault
 IsOfText top text (faults.Outside names) = IsOfLibrary top text (faults.Outside names)
 IsOfText top text (faults.Structure fault) = IsOfLibrary top text (faults.Structure fault)
-IsOfText top text faults.Tiles = ⊥
 
 -- What is told of a structure's fault.
 abbrev pub told : HierFault → CheckFault

@@ -1,15 +1,11 @@
 -- The markers of tiles, a list for each, and what comes of the lists of all tiles.
-use Rattle.std.specs.Prelude.{◌≡◌, ◌≤◌, ◌<◌, ◌+◌, ◌↔◌, ℕ, true, List, [], ◌++◌, length, slice_index_or, Contains, Option, Some, None, option_map}
+use Rattle.std.specs.Prelude.{◌≡◌, ◌≤◌, ◌<◌, ◌+◌, ℕ, List, [], ◌++◌, length, slice_index_or, Option, Some, None, option_map}
 use Rattle.mpw_geom.specs.declared.plane.Box2.{Box2}
-use Rattle.mpw_geom.specs.declared.plane.Layer.{Layer}
-use Rattle.mpw_geom.specs.Plane.{Square, has_square}
-use Rattle.mpw_tiles.specs.Grid.{ShareSquare}
-use Rattle.mpw_hier.specs.Items.{Item}
 use Rattle.mpw_job.specs.Answers.{TileJob, Answers}
 use Rattle.mpw_job.specs.Layout.{AreLayoutMarkers}
 use Rattle.mpw_markers.specs.Stitched.{IsStitched}
 use Rattle.mpw_markers.specs.declared.marker.Marker.{Marker}
-use Rattle.mpw_tiles.specs.Listing.{IsListed}
+use Rattle.mpw_tiles.specs.Listing.{IsWindow}
 use Rattle.mpw_tiles.specs.Plan.{Tiling, tiles, tile_core, tile_window}
 use Rattle.mpw_tiles.specs.Shown.{IsShown}
 use Rattle.mpw_tiles.specs.Snapshots.{Snapshot, IsSnapshot, shown, shown_extent, plan_for}
@@ -18,15 +14,6 @@ use Rattle.mpw_tiles.specs.declared.listing.Rectangle.{Rectangle}
 -- The number of the only run.
 abbrev pub only_run : ℕ
 only_run = 1
-
--- A window of the tile: by layer and origin, a listed rectangle has a unit square of it exactly where a shape has it. Nothing is listed
--- that has no square of it.
-pub record ShowsTile (plan : Tiling) (items : List Item) (tile : ℕ) (window : List Rectangle) :
-    Type 0 where
-  pub squares : (s : Square) (layer : Layer) (origin : ℕ)
-      → has_square (tile_window plan tile) s ≡ true
-      → IsListed window layer origin s ↔ IsShown items layer origin s
-  pub near : (r : Rectangle) → Contains window r → ShareSquare (tile_window plan tile) r.area
 
 -- The tile's job with that window.
 abbrev pub tile_job_with : Snapshot → Tiling → List Rectangle → ℕ → TileJob
@@ -44,7 +31,7 @@ pub record IsOfTile (s : Snapshot) (tile : ℕ) (markers : List Marker) : Type 0
   pub planned : plan_for s ≡ Some plan
   pub within : tile < tiles plan
   pub window : List Rectangle
-  pub shows : ShowsTile plan (shown s) tile window
+  pub shows : IsWindow (IsShown (shown s)) (tile_window plan tile) window
   pub answered : Answers (tile_job_with s plan window tile) markers
 
 -- A list for each tile from `first` to below `end`.

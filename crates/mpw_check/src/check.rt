@@ -1,17 +1,15 @@
-//! Checking: the cut, a job a tile, and the stitching.
+//! Checking: by tiles, with the cut, a job a tile, and the stitching, or by columns.
 
-ghost use Rattle.std.specs.Prelude.{◌≡◌, ◌≤◌, Some, map, All, IfOk, IfErr, IfSome};
+ghost use Rattle.std.specs.Prelude.{◌≡◌, ◌≤◌, Some, length, map, All, IfOk, IfSome};
 ghost use Rattle.mpw_job.specs.Layout.{AreLayoutMarkers};
 ghost use Rattle.mpw_tiles.specs.Placed.{WindowsLieInPlane};
 ghost use Rattle.mpw_tiles.specs.Plan.{tiles};
 ghost use Rattle.mpw_tiles.specs.Snapshots.{plan_for};
 ghost use Rattle.mpw_check.specs.Lists.{tile_count, AreTiles, AreOfTiles};
-ghost use Rattle.mpw_check.specs.Tiled.{IsOfPlan};
 ghost use Rattle.mpw_check.specs.Internal.Tiled.{IsCut, jobs_of, markers_in, IsAnswered};
 
-use crate::fault::CheckFault;
 use crate::laws::tiles_make_the_layout;
-use crate::progress::Progress;
+use mpw_columns::{MAX_SHOWN, Progress, check_columns};
 use mpw_job::{Answer, Job, tile_job};
 use mpw_markers::{Book, TileMarkers, stitch};
 use mpw_tiles::{Plan, Snapshot, Windows, cut};
@@ -24,6 +22,9 @@ const ONLY_RUN: u32 = 1;
 
 /// The greatest number of tiles of a batch.
 const MAX_BATCH: u32 = 128;
+
+/// The most shapes of a layout that is checked by tiles, whose windows are all held at once.
+pub const MAX_IN_TILES: u64 = 1 << 20;
 
 /// A snapshot with its plan, and the windows into which it is cut for it.
 #[derive(Clone, Copy)]
@@ -225,24 +226,49 @@ fn check_all<P: Progress>(
     stitch(alloc, &lists)
 }
 
-/// The markers of the flat layout of a snapshot's roots under its deck, in the order of their keys.
+/// How many shapes the layout shows, up to 2^64 - 1.
+fn shape_count(snapshot: &Snapshot) -> u64 {
+    let mut count = 0u64;
+    for root in snapshot.roots() {
+        count = count.saturating_add(u64::from(snapshot.shelf().count(root.submission)));
+    }
+    count
+}
+
+/// How many tiles there are, where the layout is checked by tiles; none where it goes by columns.
+fn by_tiles(snapshot: &Snapshot) -> Option<u32>
+    ensures { IfSome result (λ tiles. tile_count snapshot.now ≡ Some tiles) }
+{
+    if shape_count(snapshot) > MAX_IN_TILES {
+        return None;
+    }
+    tile_count(snapshot)
+}
+
+/// The markers of the flat layout of a snapshot's roots under its deck, in the order of their keys, where the shelf has one submission
+/// alone.
 ///
-/// It costs what [`check_tiles`] does for all tiles, and [`mpw_markers::stitch`]; progress is told as there.
+/// A layout of at most 2^20 shapes that at most 4096 tiles of the deck's side cover is checked by tiles: that costs what [`check_tiles`]
+/// does for all tiles, and [`mpw_markers::stitch`]. Every other one goes by columns, and costs what [`check_columns`] does with
+/// [`MAX_SHOWN`]: which way it goes takes no part in what is found. Progress is told of tiles or of columns. What goes by columns may be
+/// made to take long, or much memory, since
+/// - a column holds the rectangles of all shapes that meet its window, however many stand there;
+/// - wires over all columns are listed in each, so columns that halving would ease by less than a quarter stay whole;
+/// - each column walks over all instances of an array that meets its window.
 ///
 /// # Errors
-/// More than 4096 tiles of the deck's side over the layout's extent, or want of memory.
-#[tactic(auto, using(crate::proofs::TileLemmas::too_many))]
+/// Want of memory.
 pub fn check_layout<P: Progress>(
     rt: &(impl Threads + Sync),
     alloc: Global,
     snapshot: &Snapshot,
     progress: &mut P,
-) -> Result<Book, CheckFault>
-    ensures markers { IfOk result (AreLayoutMarkers snapshot.now) }
-    ensures faults { IfErr result (IsOfPlan snapshot.now) }
+) -> Result<Book, AllocError>
+    requires { length snapshot.now.shelf ≡ 1 }
+    ensures { IfOk result (AreLayoutMarkers snapshot.now) }
 {
-    match tile_count(snapshot) {
-        Some(tiles) => Ok(check_all(rt, alloc, snapshot, tiles, progress)?),
-        None => Err(CheckFault::Tiles),
+    match by_tiles(snapshot) {
+        Some(tiles) => check_all(rt, alloc, snapshot, tiles, progress),
+        None => check_columns(rt, alloc, snapshot, MAX_SHOWN, progress),
     }
 }

@@ -20,8 +20,6 @@ pub enum CheckFault {
     Outside(Names),
     /// There is no top, one of its structures stands below itself, or they go beyond a limit.
     Structure(HierFault),
-    /// There would be more than 4096 tiles.
-    Tiles,
 }
 
 impl From<HierFault> for CheckFault {

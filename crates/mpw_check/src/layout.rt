@@ -12,7 +12,9 @@ use crate::fault::CheckFault;
 use mpw_deck::Deck;
 use mpw_elements::ReadError;
 use mpw_geom::{Name, Orient, Placing, Point};
-use mpw_hier::{Bindings, HierFault, Outline, Shelf, Submission, shelves_have_their_numbers};
+use mpw_hier::{
+    Bindings, HierFault, MAX_SHAPES, Outline, Shelf, Submission, shelves_have_their_numbers,
+};
 use mpw_library::read_library;
 use mpw_structures::Library;
 use mpw_tiles::Snapshot;
@@ -61,7 +63,7 @@ fn shelve(
 {
     let submission = offer(alloc, library, top)?;
     let mut shelf = Shelf::new(alloc);
-    match shelf.put(alloc, submission, outline) {
+    match shelf.put(alloc, submission, outline, MAX_SHAPES) {
         Ok(_) => Ok(shelf),
         Err(fault) => Err(fault),
     }
@@ -118,7 +120,7 @@ fn draw(alloc: Global, deck: Deck, library: Library, top: &Name) -> Result<Snaps
 ///
 /// # Errors
 /// The first fault of the text; a top that isn't in it, stands below itself, shows names outside the library, or goes beyond a
-/// limit of submissions (2^30 nm, 2^20 shapes, 64 levels); or want of memory.
+/// limit (2^30 nm, 2^40 shapes, 64 levels); or want of memory.
 pub fn read_layout(
     alloc: Global,
     deck: Deck,

@@ -1,11 +1,12 @@
 //! A library's top checked by itself, under a deck, as a firm does before it submits.
 //!
 //! [`read_layout`] reads a library and places its top where it was drawn; [`check_layout`] cuts it into tiles, finds each
-//! tile's markers in at most two threads for each processor, and stitches them. The markers are those of the flat
-//! layout of that top alone, whatever the tiles' side ([`markers_are_the_librarys`]). A [`Progress`] is told how many tiles
-//! are checked.
+//! tile's markers in at most two threads for each processor, and stitches them, or where it has too many tiles or shapes for that goes by
+//! columns ([`mpw_columns::check_columns`]). The markers are those of the flat
+//! layout of that top alone, whatever the tiles' side ([`markers_are_the_librarys`]). A [`Progress`] is told how many tiles or
+//! columns are checked.
 //!
-//! [`check_tiles`] does the same for some tiles, so that the tiles can be spread over machines: the lists of all tiles, stitched, are
+//! [`check_tiles`] finds the markers of some tiles, so that the tiles can be spread over machines: the lists of all tiles, stitched, are
 //! the layout's markers again ([`tiles_make_the_layout`]).
 #![tactic(auto)]
 
@@ -13,10 +14,9 @@ mod check;
 mod fault;
 mod laws;
 mod layout;
-mod progress;
 
-pub use check::{check_layout, check_tiles, tile_count};
+pub use check::{MAX_IN_TILES, check_layout, check_tiles, tile_count};
 pub use fault::CheckFault;
 pub use laws::{markers_are_the_librarys, tiles_follow_on, tiles_make_the_layout};
 pub use layout::read_layout;
-pub use progress::{Progress, Silent};
+pub use mpw_columns::{Progress, Silent};

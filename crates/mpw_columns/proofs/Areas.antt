@@ -8,7 +8,7 @@ use Rattle.mpw_geom.specs.declared.plane.Layer.{Layer}
 use Rattle.mpw_geom.specs.Plane.{Square, has_square, any_has_square}
 use Rattle.mpw_region.specs.Squares.{covers}
 use Rattle.mpw_tiles.specs.declared.listing.Rectangle.{Rectangle}
-use Rattle.mpw_job.specs.Layers.{same_layer}
+use Rattle.mpw_geom.specs.Layers.{same_layer}
 use Rattle.mpw_job.specs.Answers.{listed_on}
 
 -- the areas have the squares of the first n rectangles on the layer

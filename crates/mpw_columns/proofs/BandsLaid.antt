@@ -14,7 +14,8 @@ use Rattle.mpw_region.specs.Squares.{covers}
 use Rattle.mpw_edges.specs.declared.run.Axis.{Axis}
 use Rattle.mpw_edges.specs.Edges.{Squares}
 use Rattle.mpw_markers.specs.declared.marker.Key.{Key}
-use Rattle.mpw_job.specs.Layers.{same_layer, Coverage}
+use Rattle.mpw_geom.specs.Layers.{same_layer}
+use Rattle.mpw_job.specs.Layers.{Coverage}
 use Rattle.mpw_job.proofs.Tests.{same_from, same_as}
 use Rattle.mpw_columns.specs.Columns.{across}
 use Rattle.mpw_columns.specs.declared.leaf.Banded.{Banded}

@@ -12,11 +12,11 @@ use Rattle.mpw_edges.specs.declared.run.Axis.{Axis}
 use Rattle.mpw_tiles.specs.Snapshots.{Snapshot}
 use Rattle.mpw_markers.specs.declared.marker.Key.{Key}
 use Rattle.mpw_columns.specs.declared.column.Column.{Column}
-use Rattle.mpw_columns.specs.Laws.{IsRunWithin}
+use Rattle.mpw_columns.specs.Runs.{IsRunWithin}
 use Rattle.mpw_columns.specs.FollowingOn.{ComesFirst, IsListFor, ColumnsFollowOn}
 use Rattle.mpw_columns.proofs.Covering.{forwards}
 
-pairs_append : {X : Type 0} (R : X → X → Type 0) (xs ys : List X) → AllPairs R xs → AllPairs R ys
+pub pairs_append : {X : Type 0} (R : X → X → Type 0) (xs ys : List X) → AllPairs R xs → AllPairs R ys
     → ((x y : X) → Contains xs x → Contains ys y → R x y) → AllPairs R (xs ++ ys)
 pairs_append R [] ys a b cross = b
 pairs_append R (x ∷ xs) ys a b cross =

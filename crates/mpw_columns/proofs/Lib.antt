@@ -12,7 +12,11 @@ pub mod Covering
 pub mod Zipped
 pub mod Making
 pub mod Telling
+pub mod BookMade
 pub mod Looking
+pub mod Added
+pub mod KeyOrder
+pub mod OneLine
 pub mod Sorted
 pub mod Collected
 pub mod Following

@@ -1,7 +1,6 @@
 -- What is looked at of a layout, and how far it lies.
-use Rattle.std.proofs.Common.{◌≡◌, ℕ, ◌+◌, ◌<◌, ◌≤◌, ◌^◌, pos, ◌+ℤ◌, true, List, [], ◌++◌, length, get_or, Some, inl, inr, sym, subst, ap, ◌∙◌, arith}
+use Rattle.std.proofs.Common.{◌≡◌, ℕ, ◌+◌, ◌<◌, ◌≤◌, ◌^◌, pos, ◌+ℤ◌, true, List, [], ◌++◌, length, get_or, inl, inr, sym, subst, ap, ◌∙◌, arith}
 use Rattle.std.specs.Prelude.{All, Contains, ◌↔◌}
-use Rattle.std.specs.List.{AllZip}
 use Rattle.std.proofs.lemmas.Int.{ints}
 use Rattle.std.proofs.lemmas.List.Elements.{Contains-append_cases, Contains-get_or}
 use Rattle.mpw_geom.specs.declared.plane.Box2.{Box2}
@@ -19,19 +18,14 @@ use Rattle.mpw_tiles.specs.declared.listing.Rectangle.{Rectangle}
 use Rattle.mpw_tiles.specs.Laws.{SquaresLieInBoxes}
 use Rattle.mpw_tiles.specs.Placed.{IsSquareInPlane}
 use Rattle.mpw_tiles.specs.Plan.{greatest_distance}
-use Rattle.mpw_tiles.specs.Snapshots.{Snapshot, shown_extent}
 use Rattle.mpw_tiles.proofs.Tiles.{no_greater}
 use Rattle.mpw_markers.specs.declared.marker.Key.{Key}
-use Rattle.mpw_markers.specs.declared.marker.Marker.{Marker}
-use Rattle.mpw_markers.specs.Stitched.{IsStitched}
 use Rattle.mpw_job.specs.Layers.{Coverage}
 use Rattle.mpw_job.specs.Answers.{listed_on}
-use Rattle.mpw_job.specs.Layout.{shown_on, AreLayoutMarkers}
+use Rattle.mpw_job.specs.Computed.{shown_on}
 use Rattle.mpw_columns.specs.declared.column.Column.{Column}
 use Rattle.mpw_columns.specs.Seen.{seen_box, seen_on}
 use Rattle.mpw_columns.specs.Columns.{across, upright, AreColumnsOf}
-use Rattle.mpw_columns.specs.Markers.{AreColumnMarkers}
-use Rattle.mpw_columns.specs.Laws.{ColumnsMakeTheLayout}
 use Rattle.mpw_columns.specs.Internal.Found.{IsFound, AddsFound, IsLook, AgreeIn, AgreeAll, HasLayers, IsUpright, IsStretch, IsTall, IsWide}
 use Rattle.mpw_columns.specs.Internal.Listed.{ShowSeen}
 use Rattle.mpw_columns.specs.Internal.Checked.{AreColumnsOfBoth}
@@ -103,17 +97,17 @@ column_upright axis extent cs c n o h there =
       right = omega (arith, ints, r, wr);
     }) (seen_tall axis extent n))
 
-pub columns_upright : (extent : Box2) (columns cs : List Column) → is_box_near extent ≡ true
-    → IsOrdered extent → AreColumnsOfBoth extent columns → cs ≡ columns
-    → All (λ (c : Column). IsUpright (upright (seen_box c.axis extent) c)) cs
-columns_upright extent columns cs n o h e =
+pub columns_upright : (extent : Box2) (count : ℕ) (columns cs : List Column)
+    → is_box_near extent ≡ true → IsOrdered extent → AreColumnsOfBoth extent count columns
+    → cs ≡ columns → All (λ (c : Column). IsUpright (upright (seen_box c.axis extent) c)) cs
+columns_upright extent count columns cs n o h e =
     subst (All (λ (c : Column). IsUpright (upright (seen_box c.axis extent) c)))
     (sym h.are ∙ sym e)
-    (λ k d lt. elim (Contains-append_cases h.upright h.sideways
-    (get_or (h.upright ++ h.sideways) k d)
-    (Contains-get_or (h.upright ++ h.sideways) k d lt)) [
+    (λ k d lt. elim (Contains-append_cases h.upright h.across
+    (get_or (h.upright ++ h.across) k d)
+    (Contains-get_or (h.upright ++ h.across) k d lt)) [
       | inl v ↦ column_upright V extent h.upright _ n o h.on_v v
-      | inr w ↦ column_upright H extent h.sideways _ n o h.on_h w
+      | inr w ↦ column_upright H extent h.across _ n o h.on_h w
     ])
 
 -- ---- what is listed
@@ -177,15 +171,3 @@ look_from rules seen layers slice distance e f few g has = record {
   layered = subst (λ (ls : List Layer). All (λ (rule : Rule). HasLayers ls rule.check) rules) (sym f)
       (subst (All (λ (rule : Rule). HasLayers layers rule.check)) e has);
 }
-
--- ---- the book
-
-pub made_of : ColumnsMakeTheLayout → (s : Snapshot) (extent : Box2) (columns slice : List Column)
-    (lists seen : List (List Marker)) (book : List Marker) → shown_extent s ≡ Some extent
-    → AreColumnsOfBoth extent columns → slice ≡ columns
-    → AllZip (AreColumnMarkers s extent) slice lists → seen ≡ lists → IsStitched seen book
-    → AreLayoutMarkers s book
-made_of law s extent columns slice lists seen book found both e each f stitched =
-    law s extent both.upright both.sideways lists book found both.on_v both.on_h
-    (subst (λ (cs : List Column). AllZip (AreColumnMarkers s extent) cs lists) (e ∙ both.are) each)
-    (subst (λ (ls : List (List Marker)). IsStitched ls book) f stitched)

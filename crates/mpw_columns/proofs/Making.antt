@@ -1,35 +1,28 @@
--- The book of the markers of all columns, and the runs of one column.
-use Rattle.std.proofs.Common.{◌≡◌, ℤ, pos, ◌+ℤ◌, ◌-ℤ◌, ◌≤ℤ◌, ◌<ℤ◌, Bool, true, List, [], ◌++◌, length, get_or, Some, sym, subst, ◌∙◌, arith}
-use Rattle.std.specs.List.{AllZip}
+-- The runs of one column are whole.
+use Rattle.std.proofs.Common.{◌≡◌, ℤ, pos, ◌-ℤ◌, ◌≤ℤ◌, ◌<ℤ◌, true, Some, sym, subst, ◌∙◌, arith}
 use Rattle.std.proofs.lemmas.Bool.{false≢true, and_parts, and_from}
 use Rattle.std.proofs.lemmas.Int.{ints}
-use Rattle.std.proofs.lemmas.List.Elements.{Contains-append_left, Contains-append_right}
 use Rattle.mpw_geom.specs.declared.plane.Box2.{Box2}
 use Rattle.mpw_geom.specs.Plane.{has_square}
 use Rattle.mpw_geom.proofs.Tests.{SquareIn-from_test, test_from_SquareIn}
 use Rattle.mpw_edges.specs.declared.run.Axis.{Axis}
-use Rattle.mpw_edges.specs.declared.run.Axis.TheVariants.{V, H}
 use Rattle.mpw_edges.specs.Computed.{TestDecidesPairSteps}
-use Rattle.mpw_region.proofs.Held.{place_of}
-use Rattle.mpw_hier.specs.Items.{Item}
 use Rattle.mpw_tiles.specs.Laws.{LayersLieInExtents}
 use Rattle.mpw_tiles.specs.Snapshots.{Snapshot, shown, shown_extent}
 use Rattle.mpw_markers.specs.declared.marker.Line.{Line}
-use Rattle.mpw_markers.specs.declared.marker.Marker.{Marker}
 use Rattle.mpw_markers.specs.Markers.{axis_eq, line_of_key}
-use Rattle.mpw_markers.specs.Laws.{steps_in, AreListedByCores, StitchedIsWhole}
-use Rattle.mpw_markers.specs.Whole.{IsMaximal, AreMarkersOf}
-use Rattle.mpw_job.specs.Layers.{steps_of}
-use Rattle.mpw_job.specs.Layout.{HasShown, shown_on}
+use Rattle.mpw_markers.specs.Laws.{steps_in}
+use Rattle.mpw_markers.specs.Whole.{IsMaximal}
+use Rattle.mpw_job.specs.Computed.{steps_of, shown_on}
 use Rattle.mpw_job.proofs.Tests.{is_false, rule_of}
-use Rattle.mpw_job.proofs.Shapes.{tests_tell, shown_by, by_from, by_as}
+use Rattle.mpw_job.proofs.Shapes.{tests_tell}
 use Rattle.mpw_columns.specs.declared.column.Column.{Column}
 use Rattle.mpw_columns.specs.Seen.{seen_box}
-use Rattle.mpw_columns.specs.Columns.{upright, AreColumnsOf}
-use Rattle.mpw_columns.specs.Markers.{is_in_column, AreColumnMarkers}
-use Rattle.mpw_columns.specs.Laws.{IsRunWithin, ColumnsHaveWholeRuns, ColumnsMakeTheLayout}
-use Rattle.mpw_columns.proofs.Covering.{StandsIn, HasPlace, place_in, step_stands}
-use Rattle.mpw_columns.proofs.Zipped.{zip_length, zip_at}
+use Rattle.mpw_columns.specs.Columns.{upright}
+use Rattle.mpw_columns.specs.Within.{is_in_column}
+use Rattle.mpw_columns.specs.Laws.{ColumnsHaveWholeRuns}
+use Rattle.mpw_columns.specs.Runs.{IsRunWithin}
+use Rattle.mpw_columns.proofs.Covering.{StandsIn, step_stands}
 use Rattle.mpw_columns.proofs.SeenSteps.{axis_as, axis_from, step_on_seen}
 
 -- ---- a step of the layout, along its axis
@@ -38,7 +31,7 @@ pub record Laws : Type 0 where
   pub decides : TestDecidesPairSteps
   pub lie : LayersLieInExtents
 
-steps_stand : Laws → (s : Snapshot) (extent : Box2) (line : Line) (j : ℤ)
+pub steps_stand : Laws → (s : Snapshot) (extent : Box2) (line : Line) (j : ℤ)
     → shown_extent s ≡ Some extent → steps_of s.deck.rules (shown_on (shown s)) line j ≡ true
     → StandsIn (seen_box line.axis extent) line.x1 j
 steps_stand laws s extent line j found e =
@@ -131,105 +124,3 @@ whole_runs laws s extent c k found = (to, from)
           below = is_false _ (λ e. false≢true (sym m.below ∙ (parts (k.y0 -ℤ pos 1) e).0));
           above = is_false _ (λ e. false≢true (sym m.above ∙ (parts k.y1 e).0));
         }
-
--- ---- all columns
-
--- a column of no place
-abbrev no_column : Column
-no_column = record { axis = V; from = pos 0; to = pos 0 }
-
--- what is met, by the test of a square or by the shape that shows it
-by_test : (items : List Item) (steps : Line → ℤ → Bool) (list : List Marker)
-    → AreMarkersOf steps (HasShown items) list
-    → AreMarkersOf steps (λ o q. shown_by items o q ≡ true) list
-by_test items steps list h = record {
-  sound = λ m c. let k = h.sound m c in record {
-    run = k.run;
-    ascending = k.ascending;
-    met = λ origin. (
-      λ i. let p = (k.met origin).0 i in (p.0, by_as items origin p.0 p.1, p.2),
-      λ i. (k.met origin).1 (i.0, by_from items origin i.0 i.1, i.2),
-    );
-  };
-  complete = h.complete;
-}
-
-as_shown : (items : List Item) (steps : Line → ℤ → Bool) (book : List Marker)
-    → AreMarkersOf steps (λ o q. shown_by items o q ≡ true) book
-    → AreMarkersOf steps (HasShown items) book
-as_shown items steps book h = record {
-  sound = λ m c. let k = h.sound m c in record {
-    run = k.run;
-    ascending = k.ascending;
-    met = λ origin. (
-      λ i. let p = (k.met origin).0 i in (p.0, by_from items origin p.0 p.1, p.2),
-      λ i. (k.met origin).1 (i.0, by_as items origin i.0 i.1, i.2),
-    );
-  };
-  complete = h.complete;
-}
-
--- a column of either axis that has a place of it
-place_of_either : (axis : Axis) (extent : Box2) (vs hs : List Column) (x : ℤ)
-    → AreColumnsOf V extent vs → AreColumnsOf H extent hs → (seen_box axis extent).x0 ≤ℤ x
-    → x <ℤ ((seen_box axis extent).x1 +ℤ pos 1) → HasPlace axis (vs ++ hs) x
-place_of_either V extent vs hs x v h l u =
-    let p = place_in V (seen_box V extent).x0 ((seen_box V extent).x1 +ℤ pos 1) vs x v l u in
-    record {
-      column = p.column;
-      there = Contains-append_left vs hs p.column p.there;
-      on_axis = p.on_axis;
-      left = p.left;
-      right = p.right;
-    }
-place_of_either H extent vs hs x v h l u =
-    let p = place_in H (seen_box H extent).x0 ((seen_box H extent).x1 +ℤ pos 1) hs x h l u in
-    record {
-      column = p.column;
-      there = Contains-append_right vs hs p.column p.there;
-      on_axis = p.on_axis;
-      left = p.left;
-      right = p.right;
-    }
-
-listed : Laws → (s : Snapshot) (extent : Box2) (vs hs : List Column) (lists : List (List Marker))
-    → shown_extent s ≡ Some extent → AreColumnsOf V extent vs → AreColumnsOf H extent hs
-    → AllZip (AreColumnMarkers s extent) (vs ++ hs) lists
-    → AreListedByCores (steps_of s.deck.rules (shown_on (shown s)))
-    (λ k. is_in_column extent (get_or (vs ++ hs) k no_column))
-    (λ o q. shown_by (shown s) o q ≡ true) lists
-listed laws s extent vs hs lists found v h each = record {
-  listed = λ k u. by_test (shown s)
-      (steps_in (steps_of s.deck.rules (shown_on (shown s)))
-      (is_in_column extent (get_or (vs ++ hs) k no_column))) (get_or lists k [])
-      (zip_at (AreColumnMarkers s extent) (vs ++ hs) lists k no_column [] each
-      (omega (arith, u, many)));
-  bounded = λ k u.
-      let c = get_or (vs ++ hs) k no_column in (
-        (seen_box c.axis extent).y0,
-        (seen_box c.axis extent).y1,
-        λ line j e. let i = from_column extent c line j e in (i.bottom, i.top),
-      );
-  covered = λ line j e.
-      let at = steps_stand laws s extent line j found e in
-      let p = place_of_either line.axis extent vs hs line.x1 v h at.left at.right in
-      let k = place_of (vs ++ hs) no_column p.column p.there in
-      let less = k.1 in (
-        k.0,
-        omega (arith, less, many),
-        subst (λ (c : Column). is_in_column extent c line j ≡ true) (sym k.2)
-            (in_column extent p.column line j (sym p.on_axis) at p.left p.right),
-      );
-}
-  where
-    many : length (vs ++ hs) ≡ length lists
-    many = zip_length (AreColumnMarkers s extent) (vs ++ hs) lists each
-
-pub make_the_layout : Laws → StitchedIsWhole → ColumnsMakeTheLayout
-make_the_layout laws stitching s extent vs hs lists book found v h each stitched = (
-  stitched.markers,
-  as_shown (shown s) (steps_of s.deck.rules (shown_on (shown s))) book
-      (stitching (steps_of s.deck.rules (shown_on (shown s)))
-      (λ k. is_in_column extent (get_or (vs ++ hs) k no_column)) (shown_by (shown s)) lists book
-      (listed laws s extent vs hs lists found v h each) stitched),
-)

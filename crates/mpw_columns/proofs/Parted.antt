@@ -9,7 +9,7 @@ use Rattle.mpw_geom.specs.Plane.{Square, has_square, HasArea, intersection}
 use Rattle.mpw_geom.proofs.Tests.{SquareIn-from_test, same_squares}
 use Rattle.mpw_edges.specs.Laws.{AreSameIn}
 use Rattle.mpw_tiles.specs.declared.listing.Rectangle.{Rectangle}
-use Rattle.mpw_job.specs.Layers.{same_layer}
+use Rattle.mpw_geom.specs.Layers.{same_layer}
 use Rattle.mpw_job.specs.Answers.{listed_on}
 use Rattle.mpw_job.proofs.Tests.{is_false}
 

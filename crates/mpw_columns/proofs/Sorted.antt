@@ -5,7 +5,7 @@ use Rattle.std.specs.List.Sorted.{IsPermutation}
 use Rattle.std.proofs.lemmas.List.Sorted.{list_any-IsPermutation}
 use Rattle.mpw_geom.specs.Plane.{has_square}
 use Rattle.mpw_tiles.specs.declared.listing.Rectangle.{Rectangle}
-use Rattle.mpw_job.specs.Layers.{same_layer}
+use Rattle.mpw_geom.specs.Layers.{same_layer}
 use Rattle.mpw_job.specs.Answers.{listed_on}
 
 pub same_on : (xs ys : List Rectangle) → IsPermutation xs ys → listed_on xs ≡ listed_on ys

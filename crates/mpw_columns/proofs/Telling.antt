@@ -1,35 +1,38 @@
--- The markers of the keys that a column finds are the column's.
-use Rattle.std.proofs.Common.{◌≡◌, ℕ, ◌<◌, List, [], ◌∷◌, length, get_or, map, inl, inr, refl, sym, subst, ap, ◌∙◌, arith}
-use Rattle.std.specs.Prelude.{Contains, All, ◌↔◌}
-use Rattle.std.proofs.lemmas.Bool.{and_parts}
+-- What the markers of a layout of one submission meet, and which runs the keys of a column are.
+use Rattle.std.proofs.Common.{◌≡◌, ℕ, ◌<◌, true, List, [], ◌∷◌, length, map, inl, inr, refl, sym, subst, ap, ◌∙◌, arith}
+use Rattle.std.specs.Prelude.{Contains, All, Some, ◌↔◌}
+use Rattle.std.specs.Ordering.{eq_by_cmp}
 use Rattle.std.proofs.lemmas.Int.{ints}
 use Rattle.std.proofs.lemmas.List.{length-map, get_or-map}
-use Rattle.std.proofs.lemmas.List.Elements.{All-contains, Contains-append_right, Contains-append_cases, Contains-push_cases, Contains-get_or}
+use Rattle.std.proofs.lemmas.List.Elements.{All-contains, Contains-append_right, Contains-append_cases, Contains-push_cases}
 use Rattle.mpw_geom.specs.declared.plane.Box2.{Box2}
 use Rattle.mpw_edges.specs.Computed.{TestDecidesPairSteps}
 use Rattle.mpw_hier.specs.Items.{Item}
-use Rattle.mpw_tiles.specs.Snapshots.{Snapshot, shown}
+use Rattle.mpw_tiles.specs.Snapshots.{Snapshot, shown, shown_extent}
 use Rattle.mpw_markers.specs.declared.marker.Key.{Key}
-use Rattle.mpw_markers.specs.declared.marker.Marker.{Marker}
-use Rattle.mpw_markers.specs.Markers.{key_of, line_of_key, box_of, IsFilled}
-use Rattle.mpw_markers.specs.Laws.{steps_in}
+use Rattle.mpw_markers.specs.Markers.{line_of_key, box_of}
 use Rattle.mpw_markers.specs.Met.{IsAscending}
-use Rattle.mpw_markers.specs.Whole.{IsMet, IsMaximal, IsMarkerOf}
-use Rattle.mpw_job.specs.Layers.{first_squares, second_squares, steps_of}
-use Rattle.mpw_job.specs.Layout.{HasShown, shown_on}
+use Rattle.mpw_geom.specs.Meeting.{IsMet}
+use Rattle.mpw_job.specs.Computed.{steps_of, shown_on}
+use Rattle.mpw_job.specs.Layers.{first_squares, second_squares}
+use Rattle.mpw_tiles.specs.Shown.{HasShown}
 use Rattle.mpw_job.proofs.Edges.{some_met, TellsSeen}
 use Rattle.mpw_job.proofs.Shapes.{tests_tell}
 use Rattle.mpw_job.proofs.Tests.{rule_of, step_on}
 use Rattle.mpw_columns.specs.declared.column.Column.{Column}
 use Rattle.mpw_columns.specs.Seen.{seen_box, seen_on}
 use Rattle.mpw_columns.specs.Columns.{upright}
-use Rattle.mpw_columns.specs.Markers.{is_in_column, AreColumnMarkers}
+use Rattle.mpw_columns.specs.Laws.{ColumnsHaveWholeRuns}
+use Rattle.mpw_columns.specs.Runs.{IsRunOf, IsRunWithin}
+use Rattle.mpw_columns.specs.Together.{key_cmp, MeetsShown}
 use Rattle.mpw_columns.specs.Internal.Found.{IsFound}
+use Rattle.mpw_columns.specs.Internal.Marked.{of_first}
+use Rattle.mpw_columns.proofs.OneLine.{same_end, ruled, same_line, same_key, is_tied}
 use Rattle.mpw_columns.proofs.SeenSteps.{found_maximal, maximal_found}
 
 -- ---- mapped lists
 
-of_map : {X Y : Type 0} (f : X → Y) (xs : List X) (y : Y) → Contains (map f xs) y
+pub of_map : {X Y : Type 0} (f : X → Y) (xs : List X) (y : Y) → Contains (map f xs) y
     → (x : X) × Contains xs x × (f x ≡ y)
 of_map f [] y c = absurd (omega (arith, c.1))
 of_map f (x ∷ xs) y c = elim (Contains-append_cases (f x ∷ []) (map f xs) y c) [
@@ -40,27 +43,11 @@ of_map f (x ∷ xs) y c = elim (Contains-append_cases (f x ∷ []) (map f xs) y 
   | inr h ↦ let p = of_map f xs y h in (p.0, Contains-append_right (x ∷ []) xs p.0 p.1, p.2)
 ]
 
-to_map : {X Y : Type 0} (f : X → Y) (xs : List X) (x : X) → Contains xs x → Contains (map f xs) (f x)
+pub to_map : {X Y : Type 0} (f : X → Y) (xs : List X) (x : X) → Contains xs x → Contains (map f xs) (f x)
 to_map f xs x c =
     let same : length (map f xs) ≡ length xs = length-map xs f in
     let lt = c.1 in
     (c.0, omega arith, get_or-map f xs c.0 x (f x) c.1 ∙ ap f c.2)
-
--- ---- the keys of a column
-
--- the keys are those of the maximal runs in the column
-abbrev pub AreKeysOf : Snapshot → Box2 → Column → List Key → Type 0
-AreKeysOf s extent c keys = (k : Key) → Contains keys k
-    ↔ IsFound s.deck.rules c.axis (seen_on c.axis (shown_on (shown s)))
-    (upright (seen_box c.axis extent) c) k
-
-pub markers_filled : (s : Snapshot) (extent : Box2) (c : Column) (keys : List Key)
-    (markers : List Marker) → AreKeysOf s extent c keys → map key_of markers ≡ keys
-    → All IsFilled markers
-markers_filled s extent c keys markers h e k d lt =
-    ((h (key_of (get_or markers k d))).0 (subst (λ (ks : List Key).
-    Contains ks (key_of (get_or markers k d))) e
-    (to_map key_of markers (get_or markers k d) (Contains-get_or markers k d lt)))).run.filled
 
 -- ---- what is met
 
@@ -72,9 +59,9 @@ shown_seen items layer i j e =
 abbrev pub AreOfFirst : List Item → Type 0
 AreOfFirst items = All (λ (i : Item). i.origin ≡ 0) items
 
-pub of_first : (items : List Item) (count : ℕ) → All (λ (i : Item). i.origin < count) items
+pub all_of_first : (items : List Item) (count : ℕ) → All (λ (i : Item). i.origin < count) items
     → count ≡ 1 → AreOfFirst items
-of_first items count h e k d lt = let less = h k d lt in omega (arith, less, e)
+all_of_first items count h e k d lt = let less = h k d lt in omega (arith, less, e)
 
 met_first : (items : List Item) (b : Box2) (origin : ℕ) → AreOfFirst items
     → IsMet (HasShown items) b origin → origin ≡ 0
@@ -97,54 +84,66 @@ one_origin items b some origin h m = (
 ascending_one : IsAscending (0 ∷ [])
 ascending_one i j d lt within = absurd (omega arith)
 
-pub column_markers : TestDecidesPairSteps → (s : Snapshot) (extent : Box2) (c : Column)
-    (keys : List Key) (markers : List Marker) → AreOfFirst (shown s) → AreKeysOf s extent c keys
-    → map key_of markers ≡ keys → All (λ (m : Marker). m.met ≡ 0 ∷ []) markers
-    → AreColumnMarkers s extent c markers
-column_markers law s extent c keys markers first are e mets =
-    record { sound = sound; complete = complete }
-  where
-    sound : (m : Marker) → Contains markers m
-        → IsMarkerOf (steps_in (steps_of s.deck.rules (shown_on (shown s)))
-        (is_in_column extent c)) (HasShown (shown s)) m
-    sound m there =
-        let on = shown_on (shown s) in
-        let k = key_of m in
-        let found = (are k).0 (subst (λ (ks : List Key). Contains ks k) e
-        (to_map key_of markers m there)) in
-        let run = found_maximal law s.deck.rules on extent c k found in
-        let row = and_parts (steps_of s.deck.rules on (line_of_key k) k.y0)
-        (is_in_column extent c (line_of_key k) k.y0)
-        (run.rows k.y0 (omega (arith, ints)) run.filled) in
-        let r = rule_of s.deck.rules on (line_of_key k) k.y0 row.0 in
-        let some = some_met r.rule on (HasShown (shown s)) (shown_seen (shown s)) k.axis k.side
-        k.x1 k.x2 k.y0 k.y1 run.filled
-        (step_on law r.rule (first_squares r.rule.check on) (second_squares r.rule.check on) k.axis
-        k.side k.x1 k.x2 k.y0 r.step) in
-        let met = All-contains (λ (n : Marker). n.met ≡ 0 ∷ []) markers m mets there in
-        record {
-          run = run;
-          ascending = subst IsAscending (sym met) ascending_one;
-          met = λ origin. subst (λ (ns : List ℕ). Contains ns origin
-              ↔ IsMet (HasShown (shown s)) (box_of m) origin) (sym met)
-              (one_origin (shown s) (box_of m) some.0 origin first some.1);
-        }
+-- the markers of runs, each of which meets the first submission alone, meet what their boxes meet
+pub meets_first : TestDecidesPairSteps → (s : Snapshot) (k : Key) → AreOfFirst (shown s)
+    → IsRunOf s k → MeetsShown s (of_first k)
+meets_first law s k first run =
+    let on = shown_on (shown s) in
+    let r = rule_of s.deck.rules on (line_of_key k) k.y0
+    (run.rows k.y0 (omega (arith, ints)) run.filled) in
+    let some = some_met r.rule on (HasShown (shown s)) (shown_seen (shown s)) k.axis k.side
+    k.x1 k.x2 k.y0 k.y1 run.filled
+    (step_on law r.rule (first_squares r.rule.check on) (second_squares r.rule.check on) k.axis
+    k.side k.x1 k.x2 k.y0 r.step) in
+    record {
+      ascending = ascending_one;
+      met = λ origin. one_origin (shown s) (box_of (of_first k)) some.0 origin first some.1;
+    }
 
-    complete : (k : Key) → IsMaximal (steps_in (steps_of s.deck.rules (shown_on (shown s)))
-        (is_in_column extent c)) k → (m : Marker) × Contains markers m × (key_of m ≡ k)
-    complete k m = of_map key_of markers k (subst (λ (ks : List Key). Contains ks k) (sym e)
-        ((are k).1 (maximal_found law s.deck.rules (shown_on (shown s)) extent c k m)))
+-- ---- the keys of a column
+
+-- the keys are those that are found in the column's core
+abbrev pub AreKeysOf : Snapshot → Box2 → Column → List Key → Type 0
+AreKeysOf s extent c keys = (k : Key) → Contains keys k
+    ↔ IsFound s.deck.rules c.axis (seen_on c.axis (shown_on (shown s)))
+    (upright (seen_box c.axis extent) c) k
+
+-- they are the runs within the column
+pub runs_within : TestDecidesPairSteps → ColumnsHaveWholeRuns → (s : Snapshot) (extent : Box2)
+    (c : Column) (keys : List Key) → shown_extent s ≡ Some extent → AreKeysOf s extent c keys
+    → (k : Key) → Contains keys k ↔ IsRunWithin s c k
+runs_within law whole s extent c keys found are k =
+    let on = shown_on (shown s) in (
+      λ there. (whole s extent c k found).0
+          (found_maximal law s.deck.rules on extent c k ((are k).0 there)),
+      λ run. (are k).1 (maximal_found law s.deck.rules on extent c k
+          ((whole s extent c k found).1 run)),
+    )
+
+-- those at one place are one
+pub one_place : TestDecidesPairSteps → (s : Snapshot) (c : Column) (k l : Key) → IsRunWithin s c k
+    → IsRunWithin s c l → eq_by_cmp key_cmp k l ≡ true → k ≡ l
+one_place law s c k l m n e =
+    let tied = is_tied k l e in
+    let first = ruled law s k m.run in
+    let second = ruled law s l n.run in
+    let numbers = tied.list in
+    let small = first.side in
+    let little = second.side in
+    let rule : k.rule ≡ l.rule = omega (arith, numbers, small, little) in
+    let side : k.side ≡ l.side = omega (arith, numbers, small, little) in
+    let line = same_line (line_of_key k) (line_of_key l) rule (m.on_axis ∙ sym n.on_axis) side tied.x1
+    tied.x2 in
+    same_key k l line tied.y0 (same_end (steps_of s.deck.rules (shown_on (shown s))) k l m.run n.run
+    line tied.y0)
 
 -- the keys of a core that is the column's
 pub keys_of_core : (s : Snapshot) (extent : Box2) (c : Column) (seen core : Box2)
-    (slice keys : List Key) → seen ≡ seen_box c.axis extent → core ≡ upright seen c → slice ≡ keys
+    (keys : List Key) → seen ≡ seen_box c.axis extent → core ≡ upright seen c
     → ((k : Key) → Contains keys k
     ↔ IsFound s.deck.rules c.axis (seen_on c.axis (shown_on (shown s))) core k)
-    → AreKeysOf s extent c slice
-keys_of_core s extent c seen core slice keys e f g h k =
-    subst (λ (ks : List Key). Contains ks k
-    ↔ IsFound s.deck.rules c.axis (seen_on c.axis (shown_on (shown s)))
-    (upright (seen_box c.axis extent) c) k) (sym g)
-    (subst (λ (b : Box2). Contains keys k
+    → AreKeysOf s extent c keys
+keys_of_core s extent c seen core keys e f h k =
+    subst (λ (b : Box2). Contains keys k
     ↔ IsFound s.deck.rules c.axis (seen_on c.axis (shown_on (shown s))) b k)
-    (f ∙ ap (λ (b : Box2). upright b c) e) (h k))
+    (f ∙ ap (λ (b : Box2). upright b c) e) (h k)

@@ -19,7 +19,7 @@ use Rattle.mpw_tiles.specs.Laws.{SquaresLieInBoxes, IsInBox}
 use Rattle.mpw_tiles.specs.Placed.{IsSquareInPlane}
 use Rattle.mpw_tiles.specs.Shown.{IsShown}
 use Rattle.mpw_job.specs.Answers.{listed_on}
-use Rattle.mpw_job.specs.Layout.{shown_on}
+use Rattle.mpw_job.specs.Computed.{shown_on}
 use Rattle.mpw_job.proofs.Shapes.{tests_tell, tests_tell_listed}
 use Rattle.mpw_columns.specs.Seen.{seen_box, seen_square, seen_on}
 use Rattle.mpw_columns.specs.Internal.Found.{AgreeIn}

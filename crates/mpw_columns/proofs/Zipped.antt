@@ -1,5 +1,5 @@
 -- Two lists, related place by place.
-use Rattle.std.proofs.Common.{◌≡◌, ℕ, zero, suc, ◌<◌, List, [], ◌∷◌, ◌++◌, length, get_or, refl, ap, arith}
+use Rattle.std.proofs.Common.{◌≡◌, ℕ, zero, suc, ◌<◌, List, [], ◌∷◌, ◌++◌, length, get_or, take, drop, refl, ap, arith}
 use Rattle.std.specs.List.{AllZip}
 
 pub zip_length : {X Y : Type 0} (R : X → Y → Type 0) (xs : List X) (ys : List Y) → AllZip R xs ys
@@ -22,3 +22,11 @@ zip_append R [] vs [] ws h k = k
 zip_append R [] vs (y ∷ ys) ws h k = absurd h
 zip_append R (x ∷ xs) vs [] ws h k = absurd h
 zip_append R (x ∷ xs) vs (y ∷ ys) ws h k = (h.0, zip_append R xs vs ys ws h.1 k)
+
+-- the front and the back
+pub zip_front : {X Y : Type 0} (R : X → Y → Type 0) (xs vs : List X) (ys : List Y)
+    → AllZip R (xs ++ vs) ys → AllZip R xs (take (length xs) ys) × AllZip R vs (drop (length xs) ys)
+zip_front R [] vs ys h = (tt, h)
+zip_front R (x ∷ xs) vs [] h = absurd h
+zip_front R (x ∷ xs) vs (y ∷ ys) h =
+    let rest = zip_front R xs vs ys h.1 in ((h.0, rest.0), rest.1)

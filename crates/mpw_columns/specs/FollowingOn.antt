@@ -8,7 +8,7 @@ use Rattle.mpw_tiles.specs.Snapshots.{Snapshot}
 use Rattle.mpw_markers.specs.declared.marker.Key.{Key}
 use Rattle.mpw_columns.specs.declared.column.Column.{Column}
 use Rattle.mpw_columns.specs.Columns.{AreColumns}
-use Rattle.mpw_columns.specs.Laws.{IsRunWithin}
+use Rattle.mpw_columns.specs.Runs.{IsRunWithin}
 
 -- Keys of one rule, axis and side in the order of a book: by x1, x2 and y0.
 abbrev pub ComesFirst : Key → Key → Type 0

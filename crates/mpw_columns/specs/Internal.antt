@@ -3,3 +3,4 @@ pub mod Bands
 pub mod Checked
 pub mod Found
 pub mod Listed
+pub mod Marked

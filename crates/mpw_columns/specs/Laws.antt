@@ -1,5 +1,5 @@
 -- Laws of columns.
-use Rattle.std.specs.Prelude.{◌≡◌, ◌≤◌, ◌+◌, ℕ, ℤ, ◌≤ℤ◌, ◌<ℤ◌, List, ◌++◌, Some, ◌↔◌}
+use Rattle.std.specs.Prelude.{◌≡◌, ◌≤◌, ◌+◌, ℕ, ℤ, List, length, map, All, Some, ◌↔◌}
 use Rattle.std.specs.List.{AllZip}
 use Rattle.mpw_geom.specs.declared.plane.Box2.{Box2}
 use Rattle.mpw_deck.specs.declared.rule.Rule.{Rule}
@@ -12,13 +12,15 @@ use Rattle.mpw_tiles.specs.Snapshots.{Snapshot, shown, shown_extent}
 use Rattle.mpw_markers.specs.declared.marker.Key.{Key}
 use Rattle.mpw_markers.specs.declared.marker.Marker.{Marker}
 use Rattle.mpw_markers.specs.Laws.{steps_in}
-use Rattle.mpw_markers.specs.Stitched.{IsStitched}
+use Rattle.mpw_markers.specs.Markers.{key_of}
 use Rattle.mpw_markers.specs.Whole.{IsMaximal}
-use Rattle.mpw_job.specs.Layers.{steps_of}
-use Rattle.mpw_job.specs.Layout.{shown_on, AreLayoutMarkers}
+use Rattle.mpw_job.specs.Computed.{steps_of, shown_on}
+use Rattle.mpw_job.specs.Layout.{AreLayoutMarkers}
 use Rattle.mpw_columns.specs.declared.column.Column.{Column}
 use Rattle.mpw_columns.specs.Columns.{widened_along, AreColumnsOf}
-use Rattle.mpw_columns.specs.Markers.{is_in_column, AreColumnMarkers}
+use Rattle.mpw_columns.specs.Runs.{IsRunWithin}
+use Rattle.mpw_columns.specs.Together.{IsColumnList, MeetsShown, together}
+use Rattle.mpw_columns.specs.Within.{is_in_column}
 
 -- Which pair steps of an axis lie in a half-open core depends on the squares of its window along that axis alone: the core, wider by the
 -- greatest distance and 1 across the edges, and no wider along them.
@@ -31,13 +33,6 @@ WindowDecidesAlong =
     → (side : ℕ) (x1 x2 j : ℤ) → HasStep rule a b core axis side x1 x2 j
     ↔ HasStep rule a' b' core axis side x1 x2 j
 
--- The run of the key is one of the whole layout, on the column's axis, and its x1 lies in the column.
-pub record IsRunWithin (s : Snapshot) (c : Column) (k : Key) : Type 0 where
-  pub run : IsMaximal (steps_of s.deck.rules (shown_on (shown s))) k
-  pub on_axis : k.axis ≡ c.axis
-  pub left : c.from ≤ℤ k.x1
-  pub right : k.x1 <ℤ c.to
-
 -- The maximal runs of a column over all rows of the layout's extent are those of the whole layout on its axis whose x1 lies in it. So none
 -- goes on in another column.
 abbrev pub ColumnsHaveWholeRuns : Type 0
@@ -46,11 +41,12 @@ ColumnsHaveWholeRuns =
     → IsMaximal (steps_in (steps_of s.deck.rules (shown_on (shown s))) (is_in_column extent c)) k
     ↔ IsRunWithin s c k
 
--- Where columns of both axes cover the extent, the book of their markers has just the markers of the flat layout.
+-- Where columns of both axes cover the extent, the columns' lists, put together, are the book of the flat layout, if each of its markers
+-- meets what its box meets.
 abbrev pub ColumnsMakeTheLayout : Type 0
 ColumnsMakeTheLayout =
-    (s : Snapshot) (extent : Box2) (upright across : List Column) (lists : List (List Marker))
+    (s : Snapshot) (extent : Box2) (upright across : List Column) (vs hs : List (List Key))
     (book : List Marker) → shown_extent s ≡ Some extent → AreColumnsOf V extent upright
-    → AreColumnsOf H extent across
-    → AllZip (AreColumnMarkers s extent) (upright ++ across) lists → IsStitched lists book
-    → AreLayoutMarkers s book
+    → AreColumnsOf H extent across → AllZip (IsColumnList s) upright vs
+    → AllZip (IsColumnList s) across hs → map key_of book ≡ together (length s.deck.rules) vs hs
+    → All (MeetsShown s) book → AreLayoutMarkers s book

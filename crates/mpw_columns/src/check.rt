@@ -1,40 +1,48 @@
 //! Checking by columns.
 
-ghost use Rattle.std.specs.Prelude.{◌≡◌, ◌+◌, ◌↔◌, ◌∷◌, [], Some, length, map, All, Contains, IfOk, true};
+ghost use Rattle.std.specs.Prelude.{◌≡◌, ◌+◌, ◌≤◌, ◌↔◌, Some, length, take, drop, All, Contains, IfOk, true};
 ghost use Rattle.std.specs.List.{AllZip};
 ghost use Rattle.mpw_geom.specs.Plane.{IsOrdered};
 ghost use Rattle.mpw_hier.specs.Boxes.{is_box_near};
 ghost use Rattle.mpw_markers.specs.declared.marker.Key.{Key as KeyValue};
-ghost use Rattle.mpw_markers.specs.Markers.{key_of};
 ghost use Rattle.mpw_tiles.specs.Snapshots.{shown, shown_extent};
 ghost use Rattle.mpw_job.specs.Answers.{listed_on};
-ghost use Rattle.mpw_job.specs.Layout.{shown_on, AreLayoutMarkers};
+ghost use Rattle.mpw_job.specs.Computed.{shown_on};
+ghost use Rattle.mpw_job.specs.Layout.{AreLayoutMarkers};
 ghost use Rattle.mpw_columns.specs.Seen.{seen_box, seen_on};
 ghost use Rattle.mpw_columns.specs.Columns.{upright, across, AreColumnsOf};
-ghost use Rattle.mpw_columns.specs.Markers.{AreColumnMarkers};
+ghost use Rattle.mpw_columns.specs.Together.{IsColumnList};
 ghost use Rattle.mpw_columns.specs.Internal.Found.{IsFound, IsUpright, AgreeIn};
-ghost use Rattle.mpw_columns.specs.Internal.Checked.{IsLayout, AreColumnsOfBoth};
+ghost use Rattle.mpw_columns.specs.Internal.Checked.{IsLayout, AreColumnsOfBoth, HaveLists};
 
 use crate::column::Column;
 use crate::columns::{View, columns_of, upright, walk_within};
 use crate::counts::Counts;
 use crate::divide::add_column;
-use crate::laws::columns_make_the_layout;
+use crate::keys::ColumnKeys;
+use crate::laws::{columns_have_whole_runs, columns_make_the_layout};
 use crate::list::{list_shapes, seen_box};
 use crate::look::{Look, layers_of};
 use crate::part::{parts_in, window_of};
+use crate::progress::Progress;
+use crate::together::together;
+use mpw_deck::Rule;
 use mpw_edges::{Axis, test_decides_pair_steps};
 use mpw_geom::{Box2, Layer};
 use mpw_job::no_shapes_no_markers;
-use mpw_markers::{Book, Key, Marker, Met, TileMarkers, stitch};
+use mpw_markers::{Book, Key, Marker};
 use mpw_tiles::{Rectangle, Snapshot, greatest_distance, squares_lie_in_boxes};
 use mpw_walk::shapes_come_from_the_shelf;
+use rayon::current_num_threads;
 use rayon::prelude::*;
 use std::alloc::{AllocError, Global};
 use std::thread::Threads;
 
 /// Halvings of a column.
 const MAX_DEPTH: u32 = 60;
+
+/// How many columns of a batch there are for each processor.
+const FOR_EACH: usize = 4;
 
 /// How many shapes a column may show: with the walks and rectangles of so many a thread stays within some ten megabytes.
 pub const MAX_SHOWN: u32 = 1 << 16;
@@ -114,76 +122,88 @@ fn keys_in(
     Ok(keys)
 }
 
-/// The marker of this key, which meets these submissions.
-fn marker(key: &Key, met: Met) -> Marker
-    ensures key { key_of result ≡ key.now }
-    ensures met { result.met ≡ met }
-{
-    Marker {
-        rule: key.rule,
-        axis: key.axis,
-        side: key.side,
-        x1: key.x1,
-        x2: key.x2,
-        y0: key.y0,
-        y1: key.y1,
-        met,
-    }
-}
-
-/// The markers of these keys, each of which meets the first submission alone.
-fn markers_of(alloc: Global, keys: &[Key]) -> Result<Vec<Marker>, AllocError>
-    ensures keys { IfOk result (λ v. map key_of v.items ≡ keys.now) }
-    ensures mets { IfOk result (λ v. All (λ m. m.met ≡ 0 ∷ []) v.items) }
-{
-    let mut markers = Vec::with_capacity(alloc, keys.len())?;
-    for key in keys {
-        let met = Met::of(alloc, &[0])?;
-        markers.push(marker(key, met))?;
-    }
-    Ok(markers)
-}
-
-/// The markers of a column of the layout. What the walk within its window takes, the rectangles of what it gives, a sort of them, and
+/// The keys of a column of the layout. What the walk within its window takes, the rectangles of what it gives, a sort of them, and
 /// what [`add_column`] takes. An error is want of memory.
 fn check_column(
     alloc: Global,
     layout: &Layout<'_>,
     column: &Column,
-) -> Result<TileMarkers, AllocError>
+) -> Result<ColumnKeys, AllocError>
     requires layout { IsLayout layout.now }
     requires upright { IsUpright (upright (seen_box column.now.axis layout.now.extent) column.now) }
-    ensures { IfOk result (AreColumnMarkers layout.now.snapshot.now layout.now.extent column.now) }
+    ensures { IfOk result (IsColumnList layout.now.snapshot.now column.now) }
 {
+    columns_have_whole_runs();
     test_decides_pair_steps();
-    shapes_come_from_the_shelf();
     let core = upright(&seen_box(column.axis, &layout.extent), column);
     let keys = keys_in(alloc, layout, column.axis, &core)?;
-    let markers = markers_of(alloc, keys.as_slice())?;
-    TileMarkers::from_vec(alloc, markers)
+    Ok(ColumnKeys::of(keys))
 }
 
-/// The markers of columns, a list for each, found in at most two threads for each processor.
+/// The keys of columns, a list for each, found in at most two threads for each processor.
 fn lists_of(
     rt: &(impl Threads + Sync),
     alloc: Global,
     layout: &Layout<'_>,
     columns: &[Column],
-) -> Result<Vec<TileMarkers>, AllocError>
+) -> Result<Vec<ColumnKeys>, AllocError>
     requires layout { IsLayout layout.now }
     requires upright { All (λ c. IsUpright (upright (seen_box c.axis layout.now.extent) c)) columns.now }
-    ensures { IfOk result (λ v. AllZip (AreColumnMarkers layout.now.snapshot.now layout.now.extent) columns.now v.items) }
+    ensures { IfOk result (λ v. AllZip (IsColumnList layout.now.snapshot.now) columns.now v.items) }
 {
     columns
         .par_iter()
         .with_min_len(1)
         .map(
-            |column: &Column| -> Result<TileMarkers, AllocError>
+            |column: &Column| -> Result<ColumnKeys, AllocError>
                 requires { IsLayout layout.now × IsUpright (upright (seen_box column.now.axis layout.now.extent) column.now) }
-                ensures { IfOk result (AreColumnMarkers layout.entry.now.snapshot.now layout.entry.now.extent column.now) }
+                ensures { IfOk result (IsColumnList layout.entry.now.snapshot.now column.now) }
             { check_column(alloc, layout, column) },
         )
-        .collect::<Result<Vec<TileMarkers>, AllocError>>(rt, alloc)?
+        .collect::<Result<Vec<ColumnKeys>, AllocError>>(rt, alloc)?
+}
+
+/// How many columns are worked at once: so many that no processor is idle for long where one takes longer than others.
+fn batch_of(rt: &impl Threads) -> usize
+    ensures { 1 ≤ result }
+{
+    current_num_threads(rt).saturating_mul(FOR_EACH)
+}
+
+/// So many columns from a place on.
+fn batch_at(columns: &[Column], from: usize, count: usize) -> &[Column]
+    requires { from + count ≤ length columns.now }
+    ensures { result.now ≡ take count (drop from columns.now) }
+{
+    let (_, behind) = columns.split_at(from);
+    let (batch, _) = behind.split_at(count);
+    batch
+}
+
+/// The keys of columns, a list for each, one batch after another; progress is told before the first and after each.
+fn all_lists<P: Progress>(
+    rt: &(impl Threads + Sync),
+    alloc: Global,
+    layout: &Layout<'_>,
+    columns: &[Column],
+    progress: &mut P,
+) -> Result<Vec<ColumnKeys>, AllocError>
+    requires layout { IsLayout layout.now }
+    requires upright { All (λ c. IsUpright (upright (seen_box c.axis layout.now.extent) c)) columns.now }
+    ensures { IfOk result (λ v. AllZip (IsColumnList layout.now.snapshot.now) columns.now v.items) }
+{
+    let (total, batch) = (columns.len(), batch_of(rt));
+    progress.tell(0, total);
+    let mut lists = Vec::with_capacity(alloc, total)?;
+    let mut reached = 0;
+    while reached < total {
+        let count = batch.min(total - reached);
+        let mut more = lists_of(rt, alloc, layout, batch_at(columns, reached, count))?;
+        lists.append(&mut more)?;
+        reached += count;
+        progress.tell(reached, total);
+    }
+    Ok(lists)
 }
 
 /// The columns of an axis.
@@ -204,25 +224,58 @@ fn columns_along(alloc: Global, layout: &Layout<'_>, axis: Axis) -> Result<Vec<C
     columns_of(alloc, &view)
 }
 
-/// The columns of both axes, those of axis `V` first.
-fn columns_of_both(alloc: Global, layout: &Layout<'_>) -> Result<Vec<Column>, AllocError>
+/// The columns of both axes, and how many of them are of axis `V`; these come first.
+fn columns_of_both(alloc: Global, layout: &Layout<'_>) -> Result<(Vec<Column>, usize), AllocError>
     requires near { is_box_near layout.now.extent ≡ true }
     requires ordered { IsOrdered layout.now.extent }
-    ensures { IfOk result (λ v. AreColumnsOfBoth layout.now.extent v.items) }
+    ensures { IfOk result (λ v. AreColumnsOfBoth layout.now.extent v.1 v.0.items) }
 {
     let mut columns = columns_along(alloc, layout, Axis::V)?;
-    let mut sideways = columns_along(alloc, layout, Axis::H)?;
-    columns.append(&mut sideways)?;
-    Ok(columns)
+    let upright = columns.len();
+    let mut across = columns_along(alloc, layout, Axis::H)?;
+    columns.append(&mut across)?;
+    Ok((columns, upright))
+}
+
+/// How many rules there are.
+fn rule_count(rules: &[Rule]) -> u32
+    requires { length rules.now ≤ 256 }
+    ensures { result ≡ length rules.now }
+{
+    rules.len() as u32
+}
+
+/// The markers of a layout, from the lists of its columns, of which so many are of axis `V`.
+fn markers_of(
+    alloc: Global,
+    snapshot: &Snapshot,
+    extent: &Box2,
+    lists: &[ColumnKeys],
+    upright: usize,
+) -> Result<Vec<Marker>, AllocError>
+    requires alone { length snapshot.now.shelf ≡ 1 }
+    requires extent { shown_extent snapshot.now ≡ Some extent.now }
+    requires lists { HaveLists snapshot.now extent.now upright lists.now }
+    ensures { IfOk result (λ v. AreLayoutMarkers snapshot.now v.items) }
+{
+    columns_make_the_layout();
+    test_decides_pair_steps();
+    squares_lie_in_boxes();
+    shapes_come_from_the_shelf();
+    snapshot.is_snapshot();
+    let rules = rule_count(snapshot.deck().rules().as_slice());
+    let (vertical, horizontal) = lists.split_at(upright);
+    together(alloc, rules, vertical, horizontal)
 }
 
 /// The book of an extent's markers.
-fn check_extent(
+fn check_extent<P: Progress>(
     rt: &(impl Threads + Sync),
     alloc: Global,
     snapshot: &Snapshot,
     extent: Box2,
     most: u32,
+    progress: &mut P,
 ) -> Result<Book, AllocError>
     requires alone { length snapshot.now.shelf ≡ 1 }
     requires extent { shown_extent snapshot.now ≡ Some extent }
@@ -230,7 +283,6 @@ fn check_extent(
     requires ordered { IsOrdered extent }
     ensures { IfOk result (AreLayoutMarkers snapshot.now) }
 {
-    columns_make_the_layout();
     snapshot.is_snapshot();
     let rules = snapshot.deck().rules().as_slice();
     let layers = layers_of(alloc, rules)?;
@@ -241,34 +293,37 @@ fn check_extent(
         distance: greatest_distance(rules),
         most,
     };
-    let columns = columns_of_both(alloc, &layout)?;
-    let lists = lists_of(rt, alloc, &layout, columns.as_slice())?;
-    stitch(alloc, lists.as_slice())
+    let (columns, upright) = columns_of_both(alloc, &layout)?;
+    let lists = all_lists(rt, alloc, &layout, columns.as_slice(), progress)?;
+    let markers = markers_of(alloc, snapshot, &extent, lists.as_slice(), upright)?;
+    Book::from_vec(alloc, markers)
 }
 
 /// The markers of the flat layout of a snapshot's roots under its deck, in the order of their keys, where the shelf has one submission
 /// alone, which each marker then meets.
 ///
 /// The extent is halved into columns of which each shows at most `most` shapes in its window, where halving can have that; with
-/// [`MAX_SHOWN`] a column fits some ten megabytes. In at most two threads for each processor, one walk a column gives the shapes whose
+/// [`MAX_SHOWN`] a column fits some ten megabytes. Columns are worked in batches of four for each processor, in at most two threads for
+/// each; progress is told before the first and after each. One walk a column gives the shapes whose
 /// boxes meet its window, and the rectangles of those on the rules' layers are listed; so what is held is the rectangles of as many columns
-/// as there are threads, and the markers. A column costs its walk, its rectangles, a sort of them by layer, a pass over them a halving, and
-/// the bands and pairs of each part.
+/// as there are threads, and the markers, once as keys of columns and once as the book's. A column costs its walk, its rectangles, a sort of them by layer, a pass over them a halving,
+/// the bands and pairs of each part, and a sort of its keys.
 ///
 /// # Errors
 /// Want of memory.
-pub fn check_columns(
+pub fn check_columns<P: Progress>(
     rt: &(impl Threads + Sync),
     alloc: Global,
     snapshot: &Snapshot,
     most: u32,
+    progress: &mut P,
 ) -> Result<Book, AllocError>
     requires { length snapshot.now.shelf ≡ 1 }
     ensures { IfOk result (AreLayoutMarkers snapshot.now) }
 {
     no_shapes_no_markers();
     match snapshot.extent() {
-        Some(extent) => check_extent(rt, alloc, snapshot, extent, most),
+        Some(extent) => check_extent(rt, alloc, snapshot, extent, most, progress),
         None => Ok(Book::new()),
     }
 }

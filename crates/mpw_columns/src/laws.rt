@@ -3,7 +3,6 @@
 ghost use Rattle.mpw_columns.specs.Laws.{WindowDecidesAlong, ColumnsHaveWholeRuns, ColumnsMakeTheLayout};
 
 use mpw_edges::test_decides_pair_steps;
-use mpw_markers::stitched_is_whole;
 use mpw_tiles::squares_lie_in_boxes;
 
 /// Which pair steps of an axis lie in a half-open core depends on the squares of its window along that axis alone: wider than the core
@@ -21,11 +20,10 @@ pub fn columns_have_whole_runs()
     squares_lie_in_boxes();
 }
 
-/// Where columns of both axes cover the extent, the book of their markers is the flat layout's.
+/// Where columns of both axes cover the extent, their lists, put together by rule, axis and side, are the flat layout's book.
 pub fn columns_make_the_layout()
     ensures { ColumnsMakeTheLayout }
 {
     test_decides_pair_steps();
     squares_lie_in_boxes();
-    stitched_is_whole();
 }

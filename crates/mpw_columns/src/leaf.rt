@@ -7,7 +7,8 @@ ghost use Rattle.std.specs.Prelude.{◌≡◌, ◌<◌, ◌≤◌, ◌++◌, ℤ
 ghost use Rattle.mpw_geom.specs.declared.plane.Box2.{Box2 as BoxValue};
 ghost use Rattle.mpw_region.specs.Banded.{AreBands};
 ghost use Rattle.mpw_region.specs.Squares.{covers};
-ghost use Rattle.mpw_job.specs.Layers.{same_layer, first_squares, second_squares, Coverage};
+ghost use Rattle.mpw_geom.specs.Layers.{same_layer};
+ghost use Rattle.mpw_job.specs.Layers.{first_squares, second_squares, Coverage};
 ghost use Rattle.mpw_job.specs.Answers.{listed_on};
 ghost use Rattle.mpw_columns.specs.Internal.Bands.{banded_on, IsBanded, AreBandsOf};
 ghost use Rattle.mpw_columns.specs.Internal.Found.{key_of_run, AddsRule, AddsFirst, AddsFound, IsLook};

@@ -4,8 +4,8 @@
 //! A pair step of row `j` asks of row `j` alone, so a column's window is wider than the column to the left and to the right, and no
 //! wider up or down ([`window_decides_along`]). What a column finds is whole, and no other column has it
 //! ([`columns_have_whole_runs`]): so no flat list is held, and only the rectangles of the columns at work are. [`check_columns`] takes a
-//! snapshot apart into columns, checks each by itself, and makes the book of what they find, which is the flat layout's
-//! ([`columns_make_the_layout`]).
+//! snapshot apart into columns, checks each by itself, and puts their lists together, which are the flat layout's book then
+//! ([`columns_make_the_layout`]): a list goes on where the column before ends ([`columns_follow_on`]), so nothing is sorted as a whole.
 //!
 //! Within a column its halves are columns again (`divide`), down to leaves with few rectangles side by side, whose bands serve all
 //! rules (`leaf`). For horizontal edges all is seen with the coordinates exchanged, from where shapes are listed on (`list`).
@@ -17,14 +17,18 @@ mod columns;
 mod counts;
 mod divide;
 mod follow;
+mod keys;
 mod laws;
 mod leaf;
 mod list;
 mod load;
 mod look;
 mod part;
+mod progress;
+mod together;
 
 pub use check::{MAX_SHOWN, check_columns};
 pub use column::Column;
 pub use follow::columns_follow_on;
 pub use laws::{columns_have_whole_runs, columns_make_the_layout, window_decides_along};
+pub use progress::{Progress, Silent};

@@ -1,8 +1,8 @@
 //! Books of columns, and those of tiles.
 
-use crate::layout::snapshot;
+use crate::layout::{SIDE, snapshot, snapshot_of};
 use anyhow::{Context, Result, bail};
-use mpw_check::{Silent, check_tiles, tile_count};
+use mpw_check::{Progress, Silent, check_layout, check_tiles, tile_count};
 use mpw_columns::check_columns;
 use mpw_deck::Rules;
 use mpw_edges::Axis;
@@ -24,7 +24,7 @@ fn by_columns(
     if snapshot.shelf().submissions().len() != 1 {
         bail!("one submission");
     }
-    Ok(check_columns(rt, alloc, snapshot, most)?)
+    Ok(check_columns(rt, alloc, snapshot, most, &mut Silent)?)
 }
 
 /// The book of the snapshot, by tiles.
@@ -109,6 +109,89 @@ pub fn print_found(
         print_marker(rt, snapshot.deck().rules(), marker)?;
     }
     Ok(())
+}
+
+/// What a check told, first and last.
+#[derive(Clone, Copy)]
+struct Told {
+    first: Option<usize>,
+    last: usize,
+    total: usize,
+}
+
+impl Progress for Told {
+    fn tell(&mut self, done: usize, total: usize) {
+        if self.first.is_none() {
+            self.first = Some(done);
+        }
+        self.last = done;
+        self.total = total;
+    }
+}
+
+/// Prints what is told of a check by columns: what comes between depends on how many processors there are.
+pub fn print_told(
+    rt: &(impl Print + AllocGlobal + Threads + Sync),
+    most: &str,
+    rules: &str,
+    library: &str,
+) -> Result<()> {
+    let snapshot = snapshot(rt.alloc(), rules, library)?;
+    if snapshot.shelf().submissions().len() != 1 {
+        bail!("one submission");
+    }
+    let mut told = Told {
+        first: None,
+        last: 0,
+        total: 0,
+    };
+    check_columns(rt, rt.alloc(), &snapshot, most.parse()?, &mut told)?;
+    match told.first {
+        Some(first) => println!(rt; "  {first} first, {} of {} last", told.last, told.total)?,
+        None => println!(rt; "  nothing")?,
+    }
+    Ok(())
+}
+
+/// The book of a whole check, and by how many tiles it went; by none where it went by columns.
+fn whole(
+    rt: &(impl Threads + Sync),
+    alloc: Global,
+    side: &str,
+    rules: &str,
+    library: &str,
+) -> Result<(Book, Option<u32>)> {
+    let snapshot = snapshot_of(alloc, side, rules, library)?;
+    if snapshot.shelf().submissions().len() != 1 {
+        bail!("one submission");
+    }
+    let book = check_layout(rt, alloc, &snapshot, &mut Silent)?;
+    Ok((book, tile_count(&snapshot)))
+}
+
+fn print_way(rt: &impl Print, tiles: Option<u32>) -> Result<()> {
+    match tiles {
+        Some(tiles) => Ok(print!(rt; "{tiles} tiles")?),
+        None => Ok(print!(rt; "columns")?),
+    }
+}
+
+/// Prints by what a layout is checked as a whole, with tiles of 256 nm and of the other side, how many markers there are, and whether both
+/// find the same.
+pub fn print_whole(
+    rt: &(impl Print + AllocGlobal + Threads + Sync),
+    side: &str,
+    rules: &str,
+    library: &str,
+) -> Result<()> {
+    let (book, way) = whole(rt, rt.alloc(), SIDE, rules, library)?;
+    let (other, other_way) = whole(rt, rt.alloc(), side, rules, library)?;
+    print!(rt; "  by ")?;
+    print_way(rt, way)?;
+    print!(rt; " and by ")?;
+    print_way(rt, other_way)?;
+    let same = are_same(book.as_slice(), other.as_slice());
+    Ok(println!(rt; ": {} markers, the same: {same}", book.len())?)
 }
 
 /// Prints how many books of columns differ from that of tiles.

@@ -10,10 +10,16 @@ use mpw_tiles::{Snapshot, are_roots};
 use mpw_walk::Root;
 use std::alloc::Global;
 
-/// The deck with these rules, parted by `;`, and tiles of 256 nm.
-fn deck(alloc: Global, rules: &str) -> Result<Deck> {
-    let mut text = String::from_str(alloc, "tile 256")?;
+/// The side of the tiles where none is told, in nm.
+pub const SIDE: &str = "256";
+
+/// The deck with these rules, parted by `;`, and tiles of that side; without rules where there are none.
+fn deck(alloc: Global, side: &str, rules: &str) -> Result<Deck> {
+    let mut text = format!(in alloc; "tile {side}")?;
     for rule in rules.split(';') {
+        if rule.trim().is_empty() {
+            continue;
+        }
         text.push_str("\n")?;
         text.push_str(rule.trim())?;
     }
@@ -30,9 +36,14 @@ fn root() -> Root {
     }
 }
 
-/// The snapshot of a library's structure `TOP`, where it was drawn.
+/// The snapshot of a library's structure `TOP`, where it was drawn, with tiles of 256 nm.
 pub fn snapshot(alloc: Global, rules: &str, library: &str) -> Result<Snapshot> {
-    let deck = deck(alloc, rules)?;
+    snapshot_of(alloc, SIDE, rules, library)
+}
+
+/// The same with tiles of that side.
+pub fn snapshot_of(alloc: Global, side: &str, rules: &str, library: &str) -> Result<Snapshot> {
+    let deck = deck(alloc, side, rules)?;
     let text = text_of_library(alloc, library)?;
     let mut shelf = Shelf::new(alloc);
     submit_text(alloc, &mut shelf, "chip", "TOP", &text)?;

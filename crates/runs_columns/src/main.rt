@@ -4,6 +4,8 @@
 //! parted by `;`, and a library is as `mpw_samples` reads it, with its structure `TOP` placed where it was drawn.
 //! - `find MOST | RULES | LIBRARY` tells the markers, found by columns of which each shows at most MOST shapes, where halving can have that;
 //! - `alike MOST | RULES | LIBRARY` tells how many books of columns differ from that of tiles, by that number and four others;
+//! - `told MOST | RULES | LIBRARY` tells what a check by columns tells of how far it came, first and last;
+//! - `whole SIDE | RULES | LIBRARY` tells by what `check_layout` goes, with tiles of 256 nm and of SIDE, and whether both find the same;
 //! - `random N` checks N random libraries so by five numbers, and tells how many books differ.
 #![tactic(auto)]
 
@@ -24,6 +26,8 @@ fn answer(rt: &(impl Print + AllocGlobal + Threads + Sync), line: &str) -> Resul
     match words.as_slice() {
         ["find", most] => book::print_found(rt, most, rules, library),
         ["alike", most] => book::print_alike(rt, most, rules, library),
+        ["told", most] => book::print_told(rt, most, rules, library),
+        ["whole", side] => book::print_whole(rt, side, rules, library),
         ["random", count] => random::compared(rt, count),
         _ => bail!("a command"),
     }

@@ -1,5 +1,5 @@
 -- What private functions and proofs need of this: a library's top, placed where it was drawn, under a deck.
-use Rattle.std.specs.Prelude.{◌≡◌, ℕ, List, []}
+use Rattle.std.specs.Prelude.{◌≡◌, ℕ, ◌^◌, List, []}
 use Rattle.mpw_hier.specs.declared.submission.Submission.{Submission}
 use Rattle.mpw_hier.specs.Limits.{KeepsLimits}
 use Rattle.mpw_hier.specs.Outside.{AreExternals}
@@ -10,5 +10,5 @@ use Rattle.mpw_check.specs.Drawn.{offered, drawn_shelf}
 pub record IsShelved (top : List ℕ) (library : List Structure) (shelf : List Submission) :
     Type 0 where
   pub whole : AreExternals library top []
-  pub limited : KeepsLimits [] (offered top library)
+  pub limited : KeepsLimits (2 ^ 40) [] (offered top library)
   pub shelf_is : shelf ≡ drawn_shelf top library

@@ -3,7 +3,8 @@ use Rattle.std.specs.Prelude.{◌≡◌, ℤ, List, [], ◌∷◌, All, map, if�
 use Rattle.mpw_geom.specs.declared.plane.Layer.{Layer}
 use Rattle.mpw_region.specs.Banded.{AreBands}
 use Rattle.mpw_region.specs.Squares.{covers}
-use Rattle.mpw_job.specs.Layers.{same_layer, Coverage, no_squares}
+use Rattle.mpw_geom.specs.Layers.{same_layer}
+use Rattle.mpw_job.specs.Layers.{Coverage, no_squares}
 use Rattle.mpw_columns.specs.declared.leaf.Banded.{Banded}
 
 -- The squares of each layer: those of the first bands of it.

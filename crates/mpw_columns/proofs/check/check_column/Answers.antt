@@ -1,11 +1,8 @@
 use Rattle.std.proofs.Common.{◌∙◌, ap, sym, subst}
-use Rattle.std.proofs.lemmas.Result.{IfOk-weaker}
 use Rattle.mpw_geom.specs.declared.plane.Box2.{Box2}
-use Rattle.mpw_tiles.specs.Snapshots.{shown}
 use Rattle.mpw_columns.specs.Internal.Found.{IsUpright}
-use Rattle.mpw_columns.specs.Markers.{AreColumnMarkers}
 use Rattle.mpw_columns.specs.Columns.{upright}
-use Rattle.mpw_columns.proofs.Telling.{keys_of_core, markers_filled, column_markers, of_first}
+use Rattle.mpw_columns.proofs.Telling.{keys_of_core, runs_within, one_place}
 use Rattle.mpw_columns.proofs.check.check_column.Goals as goal
 
 pub keys_in-requires-clause-upright : goal.keys_in-requires-clause-upright
@@ -13,28 +10,30 @@ keys_in-requires-clause-upright c = subst IsUpright
     (sym (c.upright-core.ensures ∙ ap (λ (b : Box2). upright b c.args.column.now) c.seen_box.ensures))
     c.requires.upright
 
-pub from_vec-requires : goal.from_vec-requires
-from_vec-requires c =
+pub of-requires : goal.of-requires
+of-requires c = λ k l there also tied.
     let layout = c.args.layout.now in
-    markers_filled layout.snapshot.now layout.extent c.args.column.now c.as_slice.result.now
-    c.in_ok-markers.markers.items
-    (keys_of_core layout.snapshot.now layout.extent c.args.column.now c.seen_box.result
-    c.upright-core.result c.as_slice.result.now c.in_ok-keys.keys.items c.seen_box.ensures
-    c.upright-core.ensures c.as_slice.ensures.value c.in_ok-keys.ensures)
-    c.in_ok-markers.ensures.keys
+    let s = layout.snapshot.now in
+    let column = c.args.column.now in
+    let runs = runs_within c.test_decides_pair_steps.ensures c.columns_have_whole_runs.ensures s
+    layout.extent column c.in_ok-keys.keys.items c.requires.layout.extent_is
+    (keys_of_core s layout.extent column c.seen_box.result c.upright-core.result
+    c.in_ok-keys.keys.items c.seen_box.ensures c.upright-core.ensures c.in_ok-keys.ensures) in
+    one_place c.test_decides_pair_steps.ensures s column k l ((runs k).0 there) ((runs l).0 also) tied
 
 pub returns : goal.returns
 returns c =
     let layout = c.args.layout.now in
     let s = layout.snapshot.now in
-    IfOk-weaker c.from_vec.result _ _
-    (λ made e. subst (AreColumnMarkers s layout.extent c.args.column.now) (sym e)
-    (column_markers c.test_decides_pair_steps.ensures s layout.extent c.args.column.now
-    c.as_slice.result.now c.in_ok-markers.markers.items
-    (of_first (shown s) _ (c.shapes_come_from_the_shelf.ensures s.shelf s.roots)
-    c.requires.layout.alone)
-    (keys_of_core s layout.extent c.args.column.now c.seen_box.result
-    c.upright-core.result c.as_slice.result.now c.in_ok-keys.keys.items c.seen_box.ensures
-    c.upright-core.ensures c.as_slice.ensures.value c.in_ok-keys.ensures)
-    c.in_ok-markers.ensures.keys c.in_ok-markers.ensures.mets))
-    c.from_vec.ensures
+    let column = c.args.column.now in
+    let runs = runs_within c.test_decides_pair_steps.ensures c.columns_have_whole_runs.ensures s
+    layout.extent column c.in_ok-keys.keys.items c.requires.layout.extent_is
+    (keys_of_core s layout.extent column c.seen_box.result c.upright-core.result
+    c.in_ok-keys.keys.items c.seen_box.ensures c.upright-core.ensures c.in_ok-keys.ensures) in
+    record {
+      exact = λ k. (
+        λ there. (runs k).0 ((c.of.ensures.same k).0 there),
+        λ run. (c.of.ensures.same k).1 ((runs k).1 run),
+      );
+      ordered = c.of.ensures.ordered;
+    }

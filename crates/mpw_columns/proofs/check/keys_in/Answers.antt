@@ -1,7 +1,7 @@
 use Rattle.std.proofs.Common.{◌∙◌, List, ap, sym, subst}
 use Rattle.mpw_deck.specs.declared.rule.Rule.{Rule}
 use Rattle.mpw_tiles.specs.Snapshots.{shown}
-use Rattle.mpw_job.specs.Layout.{shown_on}
+use Rattle.mpw_job.specs.Computed.{shown_on}
 use Rattle.mpw_columns.specs.Seen.{seen_on}
 use Rattle.mpw_columns.specs.Internal.Found.{IsLook}
 use Rattle.mpw_columns.proofs.Looking.{keys_from}

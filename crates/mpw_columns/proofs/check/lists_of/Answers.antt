@@ -3,7 +3,7 @@ use Rattle.std.proofs.Common.{ap, ◌∙◌, sym, subst}
 use Rattle.std.specs.List.{AllZip}
 use Rattle.std.proofs.lemmas.Result.{MatchResult-weaker}
 use Rattle.rayon.proofs.ToStd.{slice-AllZip}
-use Rattle.mpw_columns.specs.Markers.{AreColumnMarkers}
+use Rattle.mpw_columns.specs.Together.{IsColumnList}
 use Rattle.mpw_columns.proofs.Collected.{IsFor, all_zipped}
 use Rattle.mpw_columns.proofs.check.lists_of.Goals as goal
 
@@ -13,7 +13,7 @@ returns g c =
     let columns = c.args.columns.now in
     let slice = ap (λ it. it.base.slice.now) c.map.ensures.base
     ∙ ap (λ it. it.slice.now) c.with_min_len.ensures.base ∙ c.par_iter.ensures in
-    let Is = AreColumnMarkers layout.snapshot.now layout.extent in
+    let Is = IsColumnList layout.snapshot.now in
     let results = c.in_ok-collect.ensures.0 in
     let chain = rw c.map.ensures.f at c.in_ok-collect.ensures.1 in
     MatchResult-weaker c.in_ok-collect.field-0 c.in_ok-collect.ensures.2 (λ lists made.

@@ -1,8 +1,8 @@
-use Rattle.mpw_columns.proofs.Making.{make_the_layout}
+use Rattle.mpw_columns.proofs.BookMade.{make_the_layout}
 use Rattle.mpw_columns.proofs.laws.columns_make_the_layout.Goals as goal
 
 pub returns : goal.returns
 returns c = make_the_layout (record {
   decides = c.test_decides_pair_steps.ensures;
   lie = c.squares_lie_in_boxes.ensures.layers;
-}) c.stitched_is_whole.ensures
+})

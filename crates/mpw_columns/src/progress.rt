@@ -1,11 +1,11 @@
 //! Who is told how far a check came.
 
-/// Who is told how far the tiles of a check came.
+/// Who is told how far the tiles or the columns of a check came.
 ///
 /// It takes part in no contract: whatever it does with what it is told, the markers are the same.
 pub trait Progress {
-    /// Tells how many of all tiles are checked: 0 after the cut, then how many after each batch. `done` grows up to `total`,
-    /// which stays the same throughout a check. The check waits until it returns.
+    /// Tells how many of all tiles, or of all columns, are checked: 0 before the first, then how many after each batch. `done` grows up
+    /// to `total`, which stays the same throughout a check. The check waits until it returns.
     fn tell(&mut self, done: usize, total: usize);
 }
 

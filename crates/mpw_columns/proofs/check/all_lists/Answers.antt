@@ -1,0 +1,22 @@
+use Rattle.std.proofs.Common.{◌+◌, ◌++◌, List, take, drop, take-add, sym, subst, arith}
+use Rattle.std.specs.List.{AllZip}
+use Rattle.mpw_columns.specs.declared.column.Column.{Column}
+use Rattle.mpw_columns.specs.Together.{IsColumnList}
+use Rattle.mpw_columns.proofs.Zipped.{zip_append}
+use Rattle.mpw_columns.proofs.check.all_lists.Goals as goal
+
+pub loop-reached-preserved : goal.loop-reached-preserved
+loop-reached-preserved g c =
+    let columns = c.args.columns.now in
+    let reached = c.loop-reached.reached in
+    let count = c.min-count.result in
+    let lists = c.loop-reached.lists.items in
+    let more = c.in_ok-more.more.items in
+    let Is = IsColumnList c.args.layout.now.snapshot.now in (
+      omega (arith, c.min-count.ensures, c.loop-reached.invariant.0),
+      subst (AllZip Is (take (reached + count) columns)) (sym c.in_ok-append.ensures.items)
+          (subst (λ (cs : List Column). AllZip Is cs (lists ++ more)) (sym (take-add reached count columns))
+          (zip_append Is (take reached columns) (take count (drop reached columns)) lists more
+          c.loop-reached.invariant.1
+          (subst (λ (cs : List Column). AllZip Is cs more) c.batch_at.ensures c.in_ok-more.ensures))),
+    )

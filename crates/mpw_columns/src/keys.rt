@@ -1,0 +1,116 @@
+//! The keys of a column, in order: by rule and side, `x1`, `x2` and `y0`.
+//!
+//! So the keys of a rule and a side stand together, and are found by two binary searches.
+
+ghost use Rattle.std.specs.Prelude.{◌≡◌, ◌↔◌, true, length, filter, Contains};
+ghost use Rattle.std.specs.Ordering.{eq_by_cmp};
+ghost use Rattle.std.specs.List.Sorted.{IsPermutation, IsSorted, IsNonDecreasingBy};
+ghost use Rattle.mpw_markers.specs.declared.marker.Key.{Key as KeyValue};
+ghost use Rattle.mpw_columns.specs.Together.{list_number, key_cmp, is_of_list, AreInOrder};
+
+use mpw_markers::Key;
+use std::cmp::Ordering;
+use std::marker::Model;
+
+/// The number of the key's list among those of its axis.
+fn list_number(key: &Key) -> u64
+    ensures { result ≡ list_number key.now }
+{
+    2 * u64::from(key.rule) + u64::from(key.side)
+}
+
+/// Which of two keys of one axis comes first.
+fn key_order(first: &Key, second: &Key) -> Ordering
+    ensures { result ≡ key_cmp first.now second.now }
+{
+    let lists = list_number(first).cmp(&list_number(second));
+    let edges = first.x1.cmp(&second.x1);
+    let rows = first.x2.cmp(&second.x2).then(first.y0.cmp(&second.y0));
+    lists.then(edges.then(rows))
+}
+
+/// Whether neither of two keys of one axis comes first.
+fn is_same_place(first: &Key, second: &Key) -> bool
+    ensures { result ≡ eq_by_cmp key_cmp first.now second.now }
+{
+    key_order(first, second).is_eq()
+}
+
+/// The keys of one axis, sorted.
+fn sorted(keys: Vec<Key>) -> Vec<Key>
+    ensures same { IsPermutation keys.items result.items }
+    ensures sorted { IsSorted key_cmp result.items }
+{
+    let mut keys = keys;
+    keys.sort_unstable_by(|a, b| key_order(a, b));
+    keys
+}
+
+/// The first of the keys at each place, of keys that are sorted.
+fn each_once(keys: Vec<Key>) -> Vec<Key>
+    requires { IsSorted key_cmp keys.items }
+    ensures ordered { AreInOrder result.items }
+    ensures from { (k : KeyValue) → Contains result.items k → Contains keys.items k }
+    ensures kept { (k : KeyValue) → Contains keys.items k → (l : KeyValue) × Contains result.items l × (eq_by_cmp key_cmp k l ≡ true) }
+{
+    let mut keys = keys;
+    keys.dedup_by(|a, b| is_same_place(a, b));
+    keys.shrink_to_fit();
+    keys
+}
+
+/// The keys of a column, which contracts see as a list in order.
+pub(crate) struct ColumnKeys {
+    keys: Vec<Key>,
+}
+
+impl Drop for ColumnKeys {
+    fn drop(self) {
+        let ColumnKeys { keys } = self;
+        drop(keys);
+    }
+}
+
+impl Model for ColumnKeys {
+    ghost use Rattle.std.specs.Prelude.{List};
+    ghost use Rattle.mpw_markers.specs.declared.marker.Key.{Key};
+    ghost use Rattle.mpw_columns.specs.Together.{AreInOrder};
+
+    ghost Value = { List Key };
+
+    ghost view = { λ c. c.keys.items };
+
+    ghost invariant = { λ c. AreInOrder c.keys.items };
+}
+
+impl ColumnKeys {
+    /// These keys of one axis, of which those at one place are one key. A sort of them, in place.
+    pub(crate) fn of(keys: Vec<Key>) -> ColumnKeys
+        requires { (k l : KeyValue) → Contains keys.items k → Contains keys.items l → eq_by_cmp key_cmp k l ≡ true → k ≡ l }
+        ensures ordered { AreInOrder result }
+        ensures same { (k : KeyValue) → Contains result k ↔ Contains keys.items k }
+    {
+        ColumnKeys {
+            keys: each_once(sorted(keys)),
+        }
+    }
+
+    /// How many keys there are.
+    pub(crate) fn len(&self) -> usize
+        ensures { result ≡ length self.now }
+    {
+        self.keys.len()
+    }
+
+    /// The keys of the list of that number. Two binary searches.
+    pub(crate) fn list(&self, number: u64) -> &[Key]
+        ensures { result.now ≡ filter (is_of_list number) self.now }
+    {
+        let keys = self.keys.as_slice();
+        let before = keys.partition_point(|key| list_number(key) < number);
+        let (_, behind) = keys.split_at(before);
+        let count = behind.partition_point(|key| list_number(key) <= number);
+        let (list, _) = behind.split_at(count);
+        list
+    }
+}
