@@ -1,2 +1,4 @@
+pub mod Areas
 pub mod Details
 pub mod Faults
+pub mod Lifting

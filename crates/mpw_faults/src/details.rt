@@ -30,7 +30,7 @@ pub fn structure_of(alloc: Global, text: &[u8], at: usize) -> Result<Option<Name
 
 /// A four-byte signed number of database units, in nm.
 #[tactic(auto, unfolding(mpw_elements::specs::Values::scaled))]
-fn scale(unit: u16, bytes: &[u8]) -> i64
+pub(crate) fn scale(unit: u16, bytes: &[u8]) -> i64
     requires unit { unit ≤ 1000 }
     requires bytes { 4 ≤ length bytes.now }
     ensures { result ≡ scaled unit bytes.now }

@@ -2,16 +2,19 @@
 //!
 //! Reading a library ends at its first fault. [`all_faults`] goes on behind each element that has one: it reads each element of the text by
 //! itself, from its first record on. The first of the list is the fault that reading the library tells. [`structure_of`] and [`first_point`] tell where an
-//! element stands.
+//! element stands, [`area_in_top`] and [`point_in_top`] where it lies in the coordinates of a top.
 #![tactic(auto)]
 
+mod area;
 mod details;
 mod faults;
 mod found;
+mod lifting;
 mod own;
 mod unit;
 
 pub use details::{first_point, structure_of};
 pub use faults::all_faults;
 pub use found::FaultFound;
+pub use lifting::{Seen, area_in_top, point_in_top};
 pub use unit::unit_of;

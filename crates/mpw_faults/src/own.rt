@@ -35,7 +35,7 @@ fn fault_in(alloc: Global, text: &[u8], unit: u16) -> Result<Option<ReadFault>, 
 }
 
 /// The bytes of a text from one on.
-fn from(text: &[u8], at: usize) -> &[u8]
+pub(crate) fn from(text: &[u8], at: usize) -> &[u8]
     ensures { result.now ≡ drop at text.now }
 {
     match text.get(at..) {

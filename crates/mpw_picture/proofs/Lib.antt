@@ -1,4 +1,5 @@
 pub mod Adding
 pub mod Counted
 pub mod Turned
+pub mod Unlike
 pub mod Windows

@@ -1,6 +1,6 @@
 -- How layers and rules look: the layers of a picture, which of twelve colours each has and how it is hatched, and the colour of a
 -- rule.
-use Rattle.std.specs.Prelude.{ℕ, ◌+◌, ◌-◌, ◌*◌, ◌/◌, ◌%◌, ◌==◌, ◌&&◌, Bool, List, [], ◌∷◌, ◌++◌, length, fold, unwrap_or, if◌then◌else◌}
+use Rattle.std.specs.Prelude.{◌≡◌, true, nat_lt, ℕ, ◌+◌, ◌-◌, ◌*◌, ◌/◌, ◌%◌, ◌==◌, ◌&&◌, Bool, List, [], ◌∷◌, ◌++◌, length, fold, unwrap_or, if◌then◌else◌}
 use Rattle.std.specs.List.{list_any, position}
 use Rattle.mpw_deck.specs.declared.rule.Check.{Check}
 use Rattle.mpw_deck.specs.declared.rule.Check.TheVariants.{Width, Space, Separation, Enclosing}
@@ -54,6 +54,31 @@ period_of hatch = 6 + 4 * ((hatch - 1) / 4)
 
 unfoldable pub angle_of : ℕ → ℕ
 angle_of hatch = 45 * ((hatch - 1) % 4)
+
+-- a layer's look: its colour alone, or stripes in it, so far apart and so far turned
+pub data Look : Type 0 where
+  plain : (colour : ℕ) → Look
+  striped : (colour period angle : ℕ) → Look
+
+-- that of the layer with that place
+abbrev pub look_of : ℕ → Look
+look_of place =
+    if nat_lt place 12 then plain (colour_of place)
+    else striped (colour_of place) (period_of (hatch_of place)) (angle_of (hatch_of place))
+
+-- ---- no two layers of a picture look alike
+
+-- Layers at different places look different, however many there are.
+abbrev pub PlacesLookUnlike : Type 0
+PlacesLookUnlike = (one other : ℕ) → look_of one ≡ look_of other → one ≡ other
+
+-- Layers of a picture that look alike are one.
+abbrev pub LayersLookUnlike : Type 0
+LayersLookUnlike =
+    (layers : List Layer) (one other : Layer) → list_any (is_layer one) layers ≡ true
+    → list_any (is_layer other) layers ≡ true
+    → look_of (place_of layers one) ≡ look_of (place_of layers other)
+    → is_layer one other ≡ true
 
 -- ---- the number of a rule's colour, by its place in the deck
 

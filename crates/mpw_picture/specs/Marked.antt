@@ -6,7 +6,7 @@ use Rattle.mpw_geom.specs.declared.plane.Box2.{Box2}
 use Rattle.mpw_deck.specs.declared.rule.Rule.{Rule}
 use Rattle.mpw_edges.specs.declared.run.Axis.TheVariants.{V, H}
 use Rattle.mpw_markers.specs.declared.marker.Key.{Key}
-use Rattle.mpw_markers.specs.Markers.{box_on}
+use Rattle.mpw_edges.specs.Pieces.{box_on}
 use Rattle.mpw_report.specs.Escapes.{escaped}
 use Rattle.mpw_picture.specs.declared.picture.Mark.{Mark}
 use Rattle.mpw_picture.specs.declared.picture.Picture.{Picture}
@@ -14,7 +14,7 @@ use Rattle.mpw_picture.specs.declared.size.Corners.{Corners}
 use Rattle.mpw_picture.specs.Density.{of_rule, cell_side}
 use Rattle.mpw_picture.specs.Looks.{rule_colour}
 use Rattle.mpw_picture.specs.Sizes.{line_breadth, ring_margin, is_small, turned}
-use Rattle.mpw_picture.specs.Windows.{side, widened}
+use Rattle.mpw_picture.specs.Windows.{side, widened_in_plane}
 
 -- a marker: its box, filled and with a line round it
 unfoldable pub outline : Corners → List ℕ
@@ -118,7 +118,7 @@ ring_at margin c area =
 
 unfoldable pub ring_text : Box2 → Box2 → List ℕ
 ring_text w area =
-    ring_at (ring_margin w) (turned w (widened (ring_margin w) area)) (widened (ring_margin w) area)
+    ring_at (ring_margin w) (turned w (widened_in_plane (ring_margin w) area)) (widened_in_plane (ring_margin w) area)
 
 -- an arrow to it, from the upper left, whose head has two strokes
 unfoldable pub shaft_text : (tail tip : Corners) → List ℕ
@@ -153,8 +153,8 @@ arrow_at tail head tip = shaft_text tail tip ++ barbs_text head tip
 
 unfoldable pub arrow_text : Box2 → Box2 → List ℕ
 arrow_text w area =
-    arrow_at (turned w (widened (7 * ring_margin w) area)) (turned w (widened (3 * ring_margin w) area))
-    (turned w (widened (ring_margin w) area))
+    arrow_at (turned w (widened_in_plane (7 * ring_margin w) area)) (turned w (widened_in_plane (3 * ring_margin w) area))
+    (turned w (widened_in_plane (ring_margin w) area))
 
 -- both, the arrow where the marker is below five pixels
 unfoldable pub pointers_text : Box2 → Box2 → List ℕ

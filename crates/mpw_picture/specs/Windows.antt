@@ -9,8 +9,8 @@ use Rattle.mpw_markers.specs.Markers.{box_of}
 use Rattle.mpw_tiles.specs.Placed.{nearest}
 
 -- a box that is wider by so many nm on each side, as far as the plane goes
-unfoldable pub widened : ℕ → Box2 → Box2
-widened by b = record {
+unfoldable pub widened_in_plane : ℕ → Box2 → Box2
+widened_in_plane by b = record {
   x0 = nearest (b.x0 -ℤ pos by);
   y0 = nearest (b.y0 -ℤ pos by);
   x1 = nearest (b.x1 +ℤ pos by);
@@ -34,11 +34,11 @@ marker_margin distance b = 4 * distance + longer_side b / 4
 
 abbrev pub marker_window : List Rule → Marker → Box2
 marker_window rules m =
-    widened (marker_margin (distance_of rules m.rule) (box_of m)) (box_of m)
+    widened_in_plane (marker_margin (distance_of rules m.rule) (box_of m)) (box_of m)
 
 -- the window round shapes of that extent: wider by a twentieth of its longer side, and 1 nm; round the origin where nothing is shown
 abbrev pub around : Box2 → Box2
-around b = widened (longer_side b / 20 + 1) b
+around b = widened_in_plane (longer_side b / 20 + 1) b
 
 unfoldable pub whole_window : Option Box2 → Box2
 whole_window None = around (record { x0 = pos 0; y0 = pos 0; x1 = pos 0; y1 = pos 0 })

@@ -3,7 +3,7 @@ ghost use Rattle.std.specs.Prelude.{◌≡◌, ◌≤◌, ◌<◌, ◌^◌, ◌+
 ghost use Rattle.mpw_geom.specs.Plane.{IsBoxInPlane};
 ghost use Rattle.mpw_tiles.specs.Placed.{nearest};
 ghost use Rattle.mpw_tiles.specs.Snapshots.{shown_extent};
-ghost use Rattle.mpw_picture.specs.Windows.{widened, distance_of, marker_margin, marker_window, around, whole_window};
+ghost use Rattle.mpw_picture.specs.Windows.{widened_in_plane, distance_of, marker_margin, marker_window, around, whole_window};
 
 use crate::size::longer_side;
 use mpw_deck::Rule;
@@ -33,9 +33,9 @@ fn above(z: i64, by: u64) -> i64
 }
 
 /// A box that is wider by so many nm on each side, as far as the plane goes.
-#[tactic(auto, unfolding(crate::specs::Windows::widened))]
+#[tactic(auto, unfolding(crate::specs::Windows::widened_in_plane))]
 pub(crate) fn wider_box(area: &Box2, by: u64) -> Box2
-    ensures { result ≡ widened by area.now }
+    ensures { result ≡ widened_in_plane by area.now }
 {
     Box2 {
         x0: below(area.x0, by),

@@ -2,9 +2,12 @@
 use Rattle.std.specs.Prelude.{ℕ, ◌==◌, List, map, Option, option_map}
 use Rattle.std.specs.List.{filter}
 use Rattle.mpw_geom.specs.declared.plane.Box2.{Box2}
+use Rattle.mpw_geom.specs.declared.plane.Layer.{Layer}
 use Rattle.mpw_deck.specs.declared.rule.Rule.{Rule}
 use Rattle.mpw_markers.specs.declared.marker.Marker.{Marker}
 use Rattle.mpw_report.specs.declared.content.Fault.{Fault}
+use Rattle.mpw_report.specs.declared.content.Note.{Note}
+use Rattle.mpw_report.specs.declared.content.Note.TheVariants as note
 use Rattle.mpw_report.specs.declared.content.Report.{Report}
 
 -- A fault of an element: the word of its code, the byte in the file, the structure where it stands in one, and where it lies in the
@@ -15,13 +18,23 @@ pub record Told : Type 0 where
   pub structure : Option (List ℕ)
   pub area : Option Box2
 
--- The name of the layout's file, the structure's, the rules, the markers, how many of a rule have an item at most, and the faults.
+-- What is told of what a check looks at: the deck has no rules; the rule of that name looks at nothing, since that layer has no shapes; no
+-- rule names that layer, which has so many shapes; or the library has faults, so nothing is checked.
+pub data Noted : Type 0 where
+  no_rules : Noted
+  idle : List ℕ → Layer → Noted
+  unnamed : Layer → ℕ → Noted
+  unchecked : Noted
+
+-- The name of the layout's file, the structure's, the rules, the markers, how many of a rule have an item at most, what is told of what is
+-- looked at, and the faults.
 pub record Content : Type 0 where
   pub original : Option (List ℕ)
   pub top : List ℕ
   pub rules : List Rule
   pub markers : List Marker
   pub limit : ℕ
+  pub notes : List Noted
   pub faults : List Told
 
 abbrev pub fault_of : Fault → Told
@@ -32,6 +45,12 @@ fault_of f = record {
   area = f.area;
 }
 
+abbrev pub note_of : Note → Noted
+note_of note.NoRules = no_rules
+note_of (note.Idle name layer) = idle name.now layer
+note_of (note.Unnamed layer shapes) = unnamed layer shapes
+note_of note.Unchecked = unchecked
+
 abbrev pub content_of : Report → Content
 content_of r = record {
   original = option_map (λ file. file.now) r.original;
@@ -39,6 +58,7 @@ content_of r = record {
   rules = r.rules.now;
   markers = r.markers.now;
   limit = r.limit;
+  notes = map note_of r.notes.now;
   faults = map fault_of r.faults.now;
 }
 

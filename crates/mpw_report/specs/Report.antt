@@ -11,7 +11,7 @@ use Rattle.mpw_deck.specs.declared.rule.Rule.{Rule}
 use Rattle.mpw_edges.specs.declared.run.Axis.{Axis}
 use Rattle.mpw_edges.specs.declared.run.Axis.TheVariants.{V, H}
 use Rattle.mpw_markers.specs.declared.marker.Marker.{Marker}
-use Rattle.mpw_report.specs.Content.{Told, Content, of_rule}
+use Rattle.mpw_report.specs.Content.{Told, Noted, no_rules, idle, unnamed, unchecked, Content, of_rule}
 use Rattle.mpw_report.specs.Escapes.{path_character, escaped, path_text}
 use Rattle.mpw_report.specs.Lengths.{micrometres}
 use Rattle.mpw_report.specs.Parts.{part_text}
@@ -144,6 +144,24 @@ fault_text top f =
     part_text FaultItem ++ escaped top ++ part_text Value ++ fault_value f ++ area_value f.area
     ++ part_text ItemEnd
 
+-- ---- the description: what is told of what is looked at, each behind a semicolon
+
+unfoldable pub idle_text : (rule : List ℕ) → Layer → List ℕ
+idle_text rule layer =
+    codes "; rule " ++ escaped rule ++ codes " looks at nothing: layer" ++ layer_text layer
+    ++ codes " has no shapes"
+
+unfoldable pub unnamed_text : Layer → (shapes : ℕ) → List ℕ
+unnamed_text layer shapes =
+    codes "; no rule names layer" ++ layer_text layer
+    ++ concat (codes ", which has " ∷ decimal shapes ∷ codes " shapes" ∷ [])
+
+unfoldable pub note_text : Noted → List ℕ
+note_text no_rules = codes "; the deck has no rules, so nothing is looked at"
+note_text (idle rule layer) = idle_text rule layer
+note_text (unnamed layer shapes) = unnamed_text layer shapes
+note_text unchecked = codes "; the library has faults, so nothing is checked"
+
 -- ---- the whole
 
 -- the name of the layout's file, where it is known
@@ -154,7 +172,7 @@ original_text (Some file) = part_text Original ++ escaped file ++ part_text Orig
 -- what stands before the categories
 unfoldable pub head_text : Content → List ℕ
 head_text c =
-    part_text Head ++ escaped c.top ++ part_text HeadEnd ++ original_text c.original
+    part_text Head ++ escaped c.top ++ flat_map note_text c.notes ++ part_text HeadEnd ++ original_text c.original
     ++ part_text Generator
     ++ escaped c.top
     ++ part_text Categories
@@ -181,6 +199,7 @@ all_markers rules top markers = record {
   rules = rules;
   markers = markers;
   limit = 2 ^ 64 - 1;
+  notes = [];
   faults = [];
 }
 

@@ -16,7 +16,7 @@ use mpw_text::put;
 use std::io::{self, Write};
 
 /// Writes a layer as a deck has it, behind a space.
-fn put_layer<W: Write>(writer: &mut W, layer: Layer) -> io::Result<()>
+pub(crate) fn put_layer<W: Write>(writer: &mut W, layer: Layer) -> io::Result<()>
     ensures { Adds W.contents writer.old writer.new result (layer_text layer) }
 {
     let mut number = Buffer::new();

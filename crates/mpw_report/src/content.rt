@@ -1,7 +1,7 @@
 //! What a report tells.
 
 use mpw_deck::Rule;
-use mpw_geom::{Box2, Name};
+use mpw_geom::{Box2, Layer, Name};
 use mpw_markers::Marker;
 
 /// A fault of an element of a library.
@@ -17,6 +17,19 @@ pub struct Fault<'a> {
     pub area: Option<Box2>,
 }
 
+/// What a report's description tells of what a check looks at.
+#[derive(Clone, Copy, Drop)]
+pub enum Note<'a> {
+    /// The deck has no rules.
+    NoRules,
+    /// The rule of that name looks at nothing, since that layer has no shapes.
+    Idle(&'a Name, Layer),
+    /// No rule names that layer, which has so many shapes.
+    Unnamed(Layer, usize),
+    /// The library has faults, so nothing is checked.
+    Unchecked,
+}
+
 /// What a report tells: the markers of a structure, and the faults of elements.
 #[derive(Clone, Copy, Drop)]
 pub struct Report<'a> {
@@ -30,6 +43,8 @@ pub struct Report<'a> {
     pub markers: &'a [Marker],
     /// How many markers of a rule have an item at most: the first ones. The others are counted in the category's description.
     pub limit: usize,
+    /// What the description tells behind the structure's name.
+    pub notes: &'a [Note<'a>],
     /// The faults. Where there are some they have a category of their own.
     pub faults: &'a [Fault<'a>],
 }

@@ -2,7 +2,7 @@
 //!
 //! [`write_report`] writes a category for each rule of a deck and an item for each marker, one behind another: it takes no
 //! memory. [`write_full_report`] writes a [`Report`] so, which also names the layout's file, has a limit for the items of a rule,
-//! and may have the faults of a library's elements, as a category of their own. Lengths are in micrometres, exactly
+//! tells in its description which rules look at nothing, and may have the faults of a library's elements, as a category of their own. Lengths are in micrometres, exactly
 //! ([`lengths_are_exact`]). What stands in a name is escaped, for XML and for the path that names a category
 //! ([`names_are_escaped`]). Its parts that other drawings and texts have too are public: [`put_name`], [`put_rule`],
 //! [`put_left_out`] and [`put_micrometres`].
@@ -16,11 +16,12 @@ mod item;
 mod laws;
 mod length;
 mod name;
+mod notes;
 mod part;
 mod report;
 
 pub use category::{put_left_out, put_rule};
-pub use content::{Fault, Report};
+pub use content::{Fault, Note, Report};
 pub use laws::{lengths_are_exact, names_are_escaped};
 pub use length::put_micrometres;
 pub use name::put_name;

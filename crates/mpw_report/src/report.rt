@@ -5,10 +5,11 @@ ghost use Rattle.mpw_report.specs.Report.{original_text, head_text, cells_text, 
 ghost use Rattle.mpw_text.specs.Writing.{Adds};
 
 use crate::category::put_categories;
-use crate::content::{Fault, Report};
+use crate::content::{Fault, Note, Report};
 use crate::faults::{put_fault_category, put_faults};
 use crate::item::put_items;
 use crate::name::{put_escaped, put_name};
+use crate::notes::put_notes;
 use crate::part::{Part, put_part};
 use mpw_deck::Rule;
 use mpw_geom::Name;
@@ -37,6 +38,7 @@ fn put_head<W: Write>(writer: &mut W, report: &Report<'_>) -> io::Result<()>
 {
     put_part(writer, Part::Head)?;
     put_name(writer, report.top)?;
+    put_notes(writer, report.notes)?;
     put_part(writer, Part::HeadEnd)?;
     put_original(writer, report.original)?;
     put_part(writer, Part::Generator)?;
@@ -68,7 +70,7 @@ fn put_all<W: Write>(writer: &mut W, report: &Report<'_>) -> io::Result<()>
     put_part(writer, Part::End)
 }
 
-/// Writes a report: a category for each rule, in order, and one for the faults where there are some; then for each rule an
+/// Writes a report: the notes in its description; a category for each rule, in order, and one for the faults where there are some; then for each rule an
 /// item for each of its first markers, as many as the limit allows, in order; and an item for each fault. The description of a
 /// rule's category tells how many of its markers are left out. It takes no memory, and costs the text's size, some 300 bytes a marker, and
 /// for each rule two passes over the markers.
@@ -97,6 +99,7 @@ pub fn write_report<'a, W: Write>(
     ensures { Adds W.contents writer.old writer.new result (report_text rules.now top.now markers.now) }
 {
     let original: Option<&'a str> = None;
+    let notes: &'a [Note<'a>] = &[];
     let faults: &'a [Fault<'a>] = &[];
     let report = Report {
         original,
@@ -104,6 +107,7 @@ pub fn write_report<'a, W: Write>(
         rules,
         markers,
         limit: usize::MAX,
+        notes,
         faults,
     };
     write_full_report(writer, &report)

@@ -2,6 +2,7 @@
 use Rattle.std.specs.Prelude.{ℕ, ◌+◌, ◌-◌, ◌^◌, ◌==◌, ◌&&◌, nat_lt, min, Bool, false, List, [], ◌∷◌, ◌++◌, take, drop, map, filter, Option, Some, None, if◌then◌else◌}
 use Rattle.std.specs.List.{list_any}
 use Rattle.mpw_geom.specs.declared.plane.Layer.{Layer}
+use Rattle.mpw_geom.specs.Layers.{same_layer}
 use Rattle.mpw_skipping.specs.Elements.{elements_of}
 use Rattle.mpw_skipping.specs.declared.cut.Cut.{Cut}
 use Rattle.mpw_skipping.specs.declared.span.ElementSpan.{ElementSpan}
@@ -26,9 +27,6 @@ abbrev pub original : List Cut → ℕ → ℕ
 original cuts at = original_from 0 cuts at
 
 -- ---- the elements on some layers
-
-abbrev pub same_layer : Layer → Layer → Bool
-same_layer a b = (a.layer == b.layer) && (a.datatype == b.datatype)
 
 abbrev pub is_on : List Layer → Option ℕ → Option ℕ → Bool
 is_on layers None datatype = false

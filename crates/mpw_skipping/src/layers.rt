@@ -1,7 +1,8 @@
 //! The elements on some layers.
 ghost use Rattle.std.specs.Prelude.{◌≡◌, map, filter, IfOk};
 ghost use Rattle.std.specs.List.{list_any};
-ghost use Rattle.mpw_skipping.specs.Cuts.{cut_of, cuts_of_layers, is_named, same_layer};
+ghost use Rattle.mpw_geom.specs.Layers.{same_layer};
+ghost use Rattle.mpw_skipping.specs.Cuts.{cut_of, cuts_of_layers, is_named};
 
 use crate::cut::Cut;
 use crate::elements::elements_of;

@@ -2,9 +2,9 @@
 
 use anyhow::{Result, bail};
 use mpw_deck::{Deck, read_deck};
-use mpw_geom::{Box2, Name};
+use mpw_geom::{Box2, Layer, Name};
 use mpw_markers::Marker;
-use mpw_report::Fault;
+use mpw_report::{Fault, Note};
 use mpw_words::{coordinate, marker, number};
 use std::alloc::Global;
 
@@ -15,6 +15,15 @@ struct Seen {
     byte: u64,
     structure: Option<Name>,
     area: Option<Box2>,
+}
+
+/// What is told of what a check looks at.
+#[derive(Drop)]
+enum Noted {
+    NoRules,
+    Idle(Name, Layer),
+    Unnamed(Layer, usize),
+    Unchecked,
 }
 
 /// What the lines give.
@@ -28,6 +37,7 @@ pub struct Given {
     pub original: Option<String>,
     /// The most items of a rule.
     pub limit: Option<usize>,
+    notes: Vec<Noted>,
     faults: Vec<Seen>,
     is_deck: bool,
 }
@@ -73,6 +83,31 @@ fn read_fault(alloc: Global, line: &str) -> Result<Seen> {
     })
 }
 
+/// A layer of two numbers.
+fn layer(first: &str, second: &str) -> Result<Layer> {
+    match (
+        u16::try_from(number(first)?),
+        u16::try_from(number(second)?),
+    ) {
+        (Ok(layer), Ok(datatype)) => Ok(Layer { layer, datatype }),
+        _ => bail!("a layer"),
+    }
+}
+
+/// The note of a line: `norules`, `unchecked`, `idle RULE LAYER DATATYPE` or `unnamed LAYER DATATYPE SHAPES`.
+fn read_note(alloc: Global, line: &str) -> Result<Noted> {
+    let words: Vec<&str> = line.split_whitespace().collect(alloc)?;
+    match words.as_slice() {
+        ["norules"] => Ok(Noted::NoRules),
+        ["unchecked"] => Ok(Noted::Unchecked),
+        ["idle", rule, first, second] => Ok(Noted::Idle(name(alloc, rule)?, layer(first, second)?)),
+        ["unnamed", first, second, shapes] => {
+            Ok(Noted::Unnamed(layer(first, second)?, number(shapes)? as usize))
+        }
+        _ => bail!("a note"),
+    }
+}
+
 impl Given {
     /// Nothing yet.
     pub fn new(alloc: Global) -> Given {
@@ -82,6 +117,7 @@ impl Given {
             markers: Vec::new(alloc),
             original: None,
             limit: None,
+            notes: Vec::new(alloc),
             faults: Vec::new(alloc),
             is_deck: true,
         }
@@ -92,6 +128,7 @@ impl Given {
         match line.split_once(" ").unwrap_or((line, "")) {
             ("original", file) => self.original = Some(String::from_str(alloc, file)?),
             ("limit", limit) => self.limit = Some(number(limit)? as usize),
+            ("note", rest) => self.notes.push(read_note(alloc, rest)?)?,
             ("fault", rest) => self.faults.push(read_fault(alloc, rest)?)?,
             _ => self.markers.push(marker(alloc, line)?)?,
         }
@@ -127,6 +164,20 @@ impl Given {
             Some(name) => Ok(name),
             None => bail!("a name"),
         }
+    }
+
+    /// The notes.
+    pub fn notes(&self, alloc: Global) -> Result<Vec<Note<'_>>> {
+        let mut notes = Vec::new(alloc);
+        for note in &self.notes {
+            notes.push(match note {
+                Noted::NoRules => Note::NoRules,
+                Noted::Idle(rule, layer) => Note::Idle(rule, *layer),
+                Noted::Unnamed(layer, shapes) => Note::Unnamed(*layer, *shapes),
+                Noted::Unchecked => Note::Unchecked,
+            })?;
+        }
+        Ok(notes)
     }
 
     /// The faults.

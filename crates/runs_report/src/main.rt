@@ -2,7 +2,7 @@
 //!
 //! The lines are a deck, a line `--`, the name of the structure, and then a marker a line as `RULE AXIS SIDE X1 X2 Y0 Y1`. The report of all markers is
 //! written. Where there is a line `original FILE`, a full report stands behind it, of that file, with at most `limit N` items a rule, and
-//! with the faults of the lines `fault CODE BYTE STRUCTURE [X0 Y0 X1 Y1]`, whose structure may be `-` for none.
+//! with the notes of the lines `note NOTE`, and the faults of the lines `fault CODE BYTE STRUCTURE [X0 Y0 X1 Y1]`, whose structure may be `-` for none.
 #![tactic(auto)]
 
 mod given;
@@ -23,6 +23,7 @@ fn print_all(rt: &HostRuntime, given: &Given) -> Result<()> {
 /// Writes the full report of a file.
 fn print_full(rt: &HostRuntime, given: &Given, original: &str) -> Result<()> {
     let deck = given.deck(rt.alloc())?;
+    let notes = given.notes(rt.alloc())?;
     let faults = given.faults(rt.alloc())?;
     let mut output = BufWriter::new(rt.alloc(), rt.stdout())?;
     let report = Report {
@@ -31,6 +32,7 @@ fn print_full(rt: &HostRuntime, given: &Given, original: &str) -> Result<()> {
         rules: deck.rules().as_slice(),
         markers: given.markers.as_slice(),
         limit: given.limit.unwrap_or(usize::MAX),
+        notes: notes.as_slice(),
         faults: faults.as_slice(),
     };
     Ok(write_full_report(&mut output, &report)?)

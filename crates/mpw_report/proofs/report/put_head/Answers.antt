@@ -9,6 +9,7 @@ returns g c =
     (adds_more _ _ _ _ _ _ _ _ c.in_ok-put_part-3.was
     (adds_more _ _ _ _ _ _ _ _ c.in_ok-put_original.was
     (adds_more _ _ _ _ _ _ _ _ c.in_ok-put_part-2.was
+    (adds_more _ _ _ _ _ _ _ _ c.in_ok-put_notes.was
     (adds_more _ _ _ _ _ _ _ _ c.in_ok-put_name.was
     (adds_more _ _ _ _ _ _ _ _ c.in_ok-put_part.was
-    c.put_part.ensures c.put_name.ensures) c.put_part-2.ensures) c.put_original.ensures) c.put_part-3.ensures) c.put_name-2.ensures) c.put_part-4.ensures
+    c.put_part.ensures c.put_name.ensures) c.put_notes.ensures) c.put_part-2.ensures) c.put_original.ensures) c.put_part-3.ensures) c.put_name-2.ensures) c.put_part-4.ensures

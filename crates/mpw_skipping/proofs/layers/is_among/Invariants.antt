@@ -1,6 +1,6 @@
 use Rattle.std.proofs.Common.{◌≡◌, drop}
 use Rattle.std.specs.List.{list_any}
-use Rattle.mpw_skipping.specs.Cuts.{same_layer}
+use Rattle.mpw_geom.specs.Layers.{same_layer}
 use Rattle.mpw_skipping.proofs.layers.is_among.Given as goal
 
 -- the layer is none of those so far

@@ -1,0 +1,34 @@
+use Rattle.std.proofs.Common.{◌∙◌, ◌≡◌, ◌<◌, Some, None, sym, arith}
+use Rattle.std.proofs.lemmas.Result.{IfOk-weaker}
+use Rattle.mpw_faults.proofs.Lifts.{lifted_end, lifted_on, lifted_there}
+use Rattle.mpw_faults.proofs.lifting.+lift.Goals as goal
+
+pub returns-then-is_top : goal.returns-then-is_top
+returns-then-is_top t c =
+    lifted_there c.args.levels c.args.seen.now.unit c.args.seen.now.text.now
+    c.args.seen.now.spans.now c.args.seen.now.top.now c.args.at c.args.area
+    (sym c.is_top.ensures ∙ c.if-is_top.true)
+
+pub returns-then-levels-eq0 : goal.returns-then-levels-eq0
+returns-then-levels-eq0 t c =
+    let none : c.args.levels ≡ 0 = omega (arith, c.if-levels-eq0.true) in
+    lifted_end c.args.levels c.args.seen.now.unit c.args.seen.now.text.now
+    c.args.seen.now.spans.now c.args.seen.now.top.now c.args.at c.args.area none
+    (sym c.is_top.ensures ∙ c.if-is_top.false)
+
+pub returns-in-Some : goal.returns-in-Some
+returns-in-Some t c =
+    let some : 0 < c.args.levels = omega (arith, c.if-levels-eq0.false) in
+    let on = lifted_on c.args.levels c.args.seen.now.unit c.args.seen.now.text.now
+    c.args.seen.now.spans.now c.args.seen.now.top.now c.args.at c.args.area
+    (Some c.in-Some.next) some (sym c.is_top.ensures ∙ c.if-is_top.false)
+    (sym c.in_ok-next.ensures ∙ c.in-Some.is) in
+    IfOk-weaker c.lift.result _ _ (λ x p. p ∙ on) c.lift.ensures
+
+pub returns-in-None : goal.returns-in-None
+returns-in-None t c =
+    let some : 0 < c.args.levels = omega (arith, c.if-levels-eq0.false) in
+    lifted_on c.args.levels c.args.seen.now.unit c.args.seen.now.text.now
+    c.args.seen.now.spans.now c.args.seen.now.top.now c.args.at c.args.area
+    None some (sym c.is_top.ensures ∙ c.if-is_top.false)
+    (sym c.in_ok-next.ensures ∙ c.in-None.is)

@@ -1,0 +1,4 @@
+use Rattle.mpw_faults.proofs.lifting.+lift.Given as goal
+
+abbrev pub decreases-lift : goal.decreases-lift
+decreases-lift l = l.levels
