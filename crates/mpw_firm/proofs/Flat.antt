@@ -8,9 +8,9 @@ use Rattle.mpw_deck.specs.declared.rule.Rule.{Rule}
 use Rattle.mpw_hier.specs.Values.{flat}
 use Rattle.mpw_job.specs.Layout.{AreFlatMarkers, AreLayoutMarkers}
 use Rattle.mpw_firm.specs.Drawings.{AreFlatByEachSide, AreFlatOf, IsDeckOf, IsDrawnBy, IsDrawnOf, IsReadBy, IsReadFrom, IsTopOf}
-use Rattle.mpw_firm.specs.Sources.{Source, IsSourceOf, kept_text}
+use Rattle.mpw_sources.specs.Sources.{Source, IsSourceOf, kept_text}
 use Rattle.mpw_firm.specs.declared.checked.Drawn.{Drawn}
-use Rattle.mpw_firm.specs.declared.choices.Choices.{Choices}
+use Rattle.mpw_asked.specs.declared.choices.Choices.{Choices}
 use Rattle.mpw_markers.specs.declared.marker.Marker.{Marker}
 use Rattle.mpw_tiles.specs.Snapshots.{Snapshot}
 

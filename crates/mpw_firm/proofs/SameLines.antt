@@ -17,9 +17,9 @@ use Rattle.mpw_replies.specs.declared.reply.Reply.TheVariants as reply
 use Rattle.mpw_spread.specs.Spread.{PartsMakeTheLayout}
 use Rattle.mpw_tiles.specs.Snapshots.{Snapshot}
 use Rattle.mpw_reply_text.specs.Reply.{reply_text}
-use Rattle.mpw_firm.specs.Listed.{listed_text}
+use Rattle.mpw_outputs.specs.Listed.{listed_text}
 use Rattle.mpw_firm.specs.Stitched.{IsWholeOf, IsListedAsCheck, IsListedAsEach, WholesAreListedAsChecks}
-use Rattle.mpw_firm.specs.declared.fault.FirmFault.{FirmFault}
+use Rattle.mpw_told.specs.declared.fault.FirmFault.{FirmFault}
 use Rattle.mpw_firm.specs.declared.whole.Whole.{Whole}
 
 -- ---- lists by functions that are the same at each element

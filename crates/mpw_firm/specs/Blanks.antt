@@ -1,5 +1,6 @@
 -- A library with an empty structure, of which only the name is at hand.
-use Rattle.std.specs.Prelude.{◌==◌, ◌+◌, ◌/◌, ◌%◌, ℕ, zero, suc, List, [], ◌∷◌, ◌++◌, codes, length, if◌then◌else◌}
+use Rattle.std.specs.Prelude.{◌+◌, ◌/◌, ◌%◌, ℕ, zero, suc, List, [], ◌∷◌, ◌++◌, codes, length}
+use Rattle.mpw_sources.specs.Sources.{padded}
 
 abbrev pub zeros : ℕ → List ℕ
 zeros zero = []
@@ -9,10 +10,6 @@ zeros (suc n) = 0 ∷ zeros n
 abbrev pub record_text : (kind type : ℕ) → List ℕ → List ℕ
 record_text kind type bytes =
     (length bytes + 4) / 256 % 256 ∷ (length bytes + 4) % 256 ∷ kind ∷ type ∷ bytes
-
--- A name with the NUL that makes its number of bytes even.
-abbrev pub padded : List ℕ → List ℕ
-padded name = name ++ (if length name % 2 == 1 then 0 ∷ [] else [])
 
 -- HEADER of version 600, BGNLIB, LIBNAME, UNITS of a thousandth and of 1e-9 m, and BGNSTR.
 unfoldable pub head_text : List ℕ

@@ -9,40 +9,37 @@ use Rattle.mpw_picture.specs.Drawn.{IsDrawn}
 use Rattle.mpw_picture.specs.Text.{picture_text}
 use Rattle.mpw_picture.specs.declared.picture.Picture.{Picture}
 use Rattle.mpw_picture.specs.declared.picture.View.{View}
+use Rattle.mpw_report.specs.Content.{Noted}
 use Rattle.mpw_report.specs.Report.{full_text}
 use Rattle.mpw_spread.specs.Spread.{IsPartOf}
 use Rattle.mpw_spread.specs.declared.range.TileRange.{TileRange}
 use Rattle.mpw_tiles.specs.Snapshots.{Snapshot}
-use Rattle.mpw_firm.specs.Commands.{IsOfWord, telling_of}
+use Rattle.mpw_asked.specs.Commands.{IsOfWord, telling_of}
 use Rattle.mpw_firm.specs.Drawings.{AreFlatOf, IsReadBy, IsReadFrom, IsTopOf}
 use Rattle.mpw_firm.specs.Keys.{IsViewOf}
-use Rattle.mpw_firm.specs.Looks.{IsLookedAt}
-use Rattle.mpw_firm.specs.Outputs.{Kept, Grows}
+use Rattle.mpw_sources.specs.Looks.{IsLookedAt}
+use Rattle.mpw_sources.specs.Notes.{notes_of, rule_notes}
+use Rattle.mpw_outputs.specs.Outputs.{Kept, Grows, in_file, on_output}
 use Rattle.mpw_firm.specs.Ranges.{HasTilesOf}
-use Rattle.mpw_firm.specs.Sources.{kept_text}
-use Rattle.mpw_firm.specs.Status.{count_of, exit_of}
+use Rattle.mpw_sources.specs.Sources.{kept_text}
+use Rattle.mpw_firm.specs.Counts.{count_of}
+use Rattle.mpw_told.specs.Status.{exit_of}
 use Rattle.mpw_firm.specs.Shown.{Shown, content_of, listing_text, most_of}
 use Rattle.mpw_firm.specs.Stitched.{IsWholeOf}
 use Rattle.mpw_firm.specs.declared.checked.Drawn.{Drawn}
-use Rattle.mpw_firm.specs.declared.choices.Choices.{Choices}
-use Rattle.mpw_firm.specs.declared.choices.Portion.{Portion}
-use Rattle.mpw_firm.specs.declared.choices.Portion.TheVariants as portion
-use Rattle.mpw_firm.specs.declared.fault.FirmFault.{FirmFault}
-use Rattle.mpw_firm.specs.declared.options.Asked.{Asked}
-use Rattle.mpw_firm.specs.declared.options.Asked.TheVariants as asked
-use Rattle.mpw_firm.specs.declared.options.Options.{Options}
-use Rattle.mpw_firm.specs.declared.options.Telling.{Telling}
-use Rattle.mpw_firm.specs.declared.picture_options.Wanted.{Wanted}
-use Rattle.mpw_firm.specs.declared.stitch_options.StitchOptions.{StitchOptions}
+use Rattle.mpw_asked.specs.declared.choices.Choices.{Choices}
+use Rattle.mpw_asked.specs.declared.choices.Portion.{Portion}
+use Rattle.mpw_asked.specs.declared.choices.Portion.TheVariants as portion
+use Rattle.mpw_told.specs.declared.fault.FirmFault.{FirmFault}
+use Rattle.mpw_asked.specs.declared.options.Asked.{Asked}
+use Rattle.mpw_asked.specs.declared.options.Asked.TheVariants as asked
+use Rattle.mpw_asked.specs.declared.options.Options.{Options}
+use Rattle.mpw_asked.specs.declared.options.Telling.{Telling}
+use Rattle.mpw_asked.specs.declared.picture_options.Wanted.{Wanted}
+use Rattle.mpw_asked.specs.declared.stitch_options.StitchOptions.{StitchOptions}
 use Rattle.mpw_firm.specs.declared.whole.Whole.{Whole}
 
 -- ---- texts in their places
-
-abbrev pub on_output : List ℕ → Kept
-on_output text = record { place = None; text = text }
-
-abbrev pub in_file : (name text : List ℕ) → Kept
-in_file name text = record { place = Some name; text = text }
 
 -- The report of markers, where a file for it is wanted.
 abbrev pub report_texts : Option (List ℕ) → Shown → List Kept
@@ -73,7 +70,7 @@ PutsAll options s old new =
     PutsPicture options.picture s old new
     (listing_texts (option_map string_bytes options.report) s)
 
--- What is shown of a check: the library's file, and the limit that is chosen.
+-- What is shown of a check: the library's file, the limit that is chosen, and what is told of what is looked at.
 abbrev pub shown_by : Options → Choices → Drawn → List Marker → Shown
 shown_by options choices drawn book = record {
   original = Some (string_bytes options.file);
@@ -81,17 +78,23 @@ shown_by options choices drawn book = record {
   layout = drawn.layout;
   book = book;
   limit = choices.limit;
+  notes = notes_of drawn.layout;
 }
 
--- What is shown of parts: they name no file, and all is.
-abbrev pub shown_whole : Whole → Shown
-shown_whole whole = record {
+-- What is shown of parts with these notes: they name no file.
+abbrev pub shown_with : List Noted → Option ℕ → Whole → Shown
+shown_with notes limit whole = record {
   original = None;
   top = whole.top;
   layout = whole.layout;
   book = whole.book;
-  limit = None;
+  limit = limit;
+  notes = notes;
 }
+
+-- They don't tell which layers have shapes.
+abbrev pub shown_whole : Option ℕ → Whole → Shown
+shown_whole limit whole = shown_with (rule_notes whole.layout.deck.rules) limit whole
 
 -- A deck and a library were checked, their markers are told in all that is wanted, and they are so many. The markers are those of the
 -- flat list of the structure, whatever the side of the tiles is.
@@ -138,7 +141,7 @@ pub record IsStitched (options : StitchOptions) (old new : Option (List Kept)) (
     pub made : IsWholeOf parts whole
     pub count : found ≡ length whole.book
     pub kept : Grows old new
-        (listing_texts (option_map string_bytes options.report) (shown_whole whole))
+        (listing_texts (option_map string_bytes options.report) (shown_whole options.limit whole))
 
 -- ---- of a command line
 

@@ -7,28 +7,21 @@ use Rattle.mpw_choices.specs.Sides.{with_side}
 use Rattle.mpw_choices.specs.Tops.{only_top}
 use Rattle.mpw_deck.specs.Decks.{Deck}
 use Rattle.mpw_deck.specs.Reading.{deck_of}
-use Rattle.mpw_deck.specs.declared.deck.DeckFault.{DeckFault}
-use Rattle.mpw_firm.specs.declared.fault.FirmFault.{FirmFault}
-use Rattle.mpw_firm.specs.declared.fault.FirmFault.TheVariants.{Memory}
+use Rattle.mpw_told.specs.declared.fault.FirmFault.{FirmFault}
+use Rattle.mpw_told.specs.declared.fault.FirmFault.TheVariants.{Memory}
 use Rattle.mpw_firm.specs.declared.checked.Drawn.{Drawn}
-use Rattle.mpw_firm.specs.declared.choices.Choices.{Choices}
-use Rattle.mpw_firm.specs.declared.options.Options.{Options}
-use Rattle.mpw_firm.specs.Sources.{Source, IsSourceOf, kept_text, moved, moved_fault}
+use Rattle.mpw_asked.specs.declared.choices.Choices.{Choices}
+use Rattle.mpw_asked.specs.declared.options.Options.{Options}
+use Rattle.mpw_sources.specs.Sources.{Source, IsSourceOf, kept_text, moved, moved_fault}
 use Rattle.mpw_hier.specs.Values.{flat}
 use Rattle.mpw_job.specs.Layout.{AreFlatMarkers, AreLayoutMarkers}
 use Rattle.mpw_library.specs.Grammar.{library_of}
 use Rattle.mpw_markers.specs.declared.marker.Marker.{Marker}
 use Rattle.mpw_records.specs.declared.fault.ReadFault.{ReadFault}
 use Rattle.mpw_structures.specs.declared.structures.Structure.{Structure}
-use Rattle.mpw_firm.specs.Told.{Refuses, Tells}
-use Rattle.mpw_firm.specs.ToldFaults.{check_told, deck_told, library_text}
+use Rattle.mpw_told.specs.Told.{Refuses, Tells}
+use Rattle.mpw_told.specs.ToldFaults.{IsOfDeck, check_told, library_text}
 use Rattle.mpw_tiles.specs.Snapshots.{Snapshot}
-
--- A deck's text is refused that has a fault, and that is told of the file; or there is no room.
-abbrev pub IsOfDeck : (file text : List ℕ) → FirmFault → Type 0
-IsOfDeck file text fault =
-    (fault ≡ Memory)
-    ⊎ ((why : DeckFault) × (deck_of text ≡ Err why) × Tells (deck_told file why text) fault)
 
 -- The texts are a deck's and a library's, whose structure of that name is drawn under the deck.
 abbrev pub IsReadFrom : (deck top library : List ℕ) → Snapshot → Type 0

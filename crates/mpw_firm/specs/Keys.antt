@@ -9,9 +9,9 @@ use Rattle.mpw_picture.specs.Windows.{marker_window, whole_window}
 use Rattle.mpw_picture.specs.declared.picture.View.{View}
 use Rattle.mpw_tiles.specs.Snapshots.{Snapshot, shown_extent}
 use Rattle.mpw_wire.specs.Keys.{key_text, spot_of}
-use Rattle.mpw_firm.specs.declared.fault.FirmFault.{FirmFault}
-use Rattle.mpw_firm.specs.declared.fault.FirmFault.TheVariants.{Memory}
-use Rattle.mpw_firm.specs.Told.{Misuses}
+use Rattle.mpw_told.specs.declared.fault.FirmFault.{FirmFault}
+use Rattle.mpw_told.specs.declared.fault.FirmFault.TheVariants.{Memory}
+use Rattle.mpw_told.specs.Told.{Misuses}
 
 -- Whether a marker of that rule has the key, as the listing prints it.
 abbrev pub is_keyed : List ℕ → Marker → Option Rule → Bool

@@ -5,12 +5,12 @@ use Rattle.mpw_parts.specs.Parts.{Found}
 use Rattle.mpw_spread.specs.Ranges.{span_of}
 use Rattle.mpw_spread.specs.declared.range.TileRange.{TileRange}
 use Rattle.mpw_tiles.specs.Snapshots.{Snapshot}
-use Rattle.mpw_firm.specs.declared.fault.FirmFault.{FirmFault}
-use Rattle.mpw_firm.specs.declared.fault.FirmFault.TheVariants.{Memory}
-use Rattle.mpw_firm.specs.declared.checked.Target.{Target}
-use Rattle.mpw_firm.specs.Sides.{IsOfTiles}
-use Rattle.mpw_firm.specs.Told.{Misuses}
-use Rattle.mpw_firm.specs.ToldParts.{range_text}
+use Rattle.mpw_told.specs.declared.fault.FirmFault.{FirmFault}
+use Rattle.mpw_told.specs.declared.fault.FirmFault.TheVariants.{Memory}
+use Rattle.mpw_sources.specs.declared.target.Target.{Target}
+use Rattle.mpw_sources.specs.Sides.{IsOfTiles}
+use Rattle.mpw_told.specs.Told.{Misuses}
+use Rattle.mpw_told.specs.ToldParts.{range_text}
 
 -- The part has just the tiles that are asked for, and the plan has these.
 abbrev pub HasTilesOf : Snapshot → TileRange → Found → Type 0

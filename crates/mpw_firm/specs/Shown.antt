@@ -1,10 +1,10 @@
 -- What is told of a layout's markers: their listing and their report, of the first of each rule where there is a limit.
-use Rattle.std.specs.Prelude.{ℕ, ◌-◌, ◌^◌, List, [], Option, None, Some, option_map}
-use Rattle.mpw_firm.specs.Listed.{listed_text}
+use Rattle.std.specs.Prelude.{ℕ, ◌-◌, ◌^◌, List, [], map, Option, None, Some, option_map}
+use Rattle.mpw_outputs.specs.Listed.{listed_text}
 use Rattle.mpw_firm.specs.declared.checked.Checked.{Checked}
 use Rattle.mpw_limits.specs.Limits.{Limited, limited_text}
 use Rattle.mpw_markers.specs.declared.marker.Marker.{Marker}
-use Rattle.mpw_report.specs.Content.{Content}
+use Rattle.mpw_report.specs.Content.{Content, Noted, note_of}
 use Rattle.mpw_tiles.specs.Snapshots.{Snapshot}
 
 -- A limit as a number: without one the greatest.
@@ -12,13 +12,15 @@ abbrev pub most_of : Option ℕ → ℕ
 most_of None = 2 ^ 64 - 1
 most_of (Some limit) = limit
 
--- What is shown of markers: the name of the layout's file, the structure's, the layout, the markers and the limit.
+-- What is shown of markers: the name of the layout's file, the structure's, the layout, the markers, the limit, and what is told of what was
+-- looked at.
 pub record Shown : Type 0 where
   pub original : Option (List ℕ)
   pub top : List ℕ
   pub layout : Snapshot
   pub book : List Marker
   pub limit : Option ℕ
+  pub notes : List Noted
 
 abbrev pub shown_of : Checked → Shown
 shown_of c = record {
@@ -27,6 +29,7 @@ shown_of c = record {
   layout = c.layout.now;
   book = c.book.now;
   limit = c.limit;
+  notes = map note_of c.notes.now;
 }
 
 abbrev pub limited_of : Shown → ℕ → Limited
@@ -49,5 +52,6 @@ content_of s = record {
   rules = s.layout.deck.rules;
   markers = s.book;
   limit = most_of s.limit;
+  notes = s.notes;
   faults = [];
 }

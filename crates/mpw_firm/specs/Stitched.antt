@@ -12,16 +12,15 @@ use Rattle.mpw_parts.specs.Stitching.{IsBookOf, IsFaultOf}
 use Rattle.mpw_parts.specs.declared.fault.PartsFault.{PartsFault}
 use Rattle.mpw_spread.specs.Spread.{Texts, IsPartOf, IsPartBeside}
 use Rattle.mpw_tiles.specs.Snapshots.{Snapshot}
-use Rattle.mpw_firm.specs.declared.fault.FirmFault.{FirmFault}
-use Rattle.mpw_firm.specs.declared.fault.FirmFault.TheVariants.{Memory}
+use Rattle.mpw_told.specs.declared.fault.FirmFault.{FirmFault}
+use Rattle.mpw_told.specs.declared.fault.FirmFault.TheVariants.{Memory}
 use Rattle.mpw_firm.specs.declared.whole.Subject.{Subject}
 use Rattle.mpw_firm.specs.declared.whole.Whole.{Whole}
 use Rattle.mpw_firm.specs.Blanks.{blank_text}
-use Rattle.mpw_firm.specs.Drawings.{IsOfDeck}
-use Rattle.mpw_firm.specs.Listed.{listed_text}
-use Rattle.mpw_firm.specs.Told.{Refuses, Tells}
-use Rattle.mpw_firm.specs.ToldFaults.{check_told}
-use Rattle.mpw_firm.specs.ToldParts.{Holder, no_markers_text, no_part_text, fault_text}
+use Rattle.mpw_told.specs.ToldFaults.{IsOfDeck, check_told}
+use Rattle.mpw_outputs.specs.Listed.{listed_text}
+use Rattle.mpw_told.specs.Told.{Refuses, Tells}
+use Rattle.mpw_told.specs.ToldParts.{Holder, no_markers_text, no_part_text, fault_text}
 
 -- A file is refused whose text is no part; or there is no room.
 abbrev pub IsOfFile : List ℕ → List ℕ → FirmFault → Type 0

@@ -2,27 +2,13 @@
 use Rattle.std.specs.Prelude.{ℕ, List, [], ◌∷◌, ◌++◌, codes, map, Option, None, Some, option_map, if◌then◌else◌}
 use Rattle.std.specs.String.{string_bytes}
 use Rattle.mpw_geom.specs.Names.{name_eq}
-use Rattle.mpw_firm.specs.declared.apart.Use.{Use}
-use Rattle.mpw_firm.specs.declared.options.Options.{Options}
-use Rattle.mpw_firm.specs.declared.picture_options.Wanted.{Wanted}
-use Rattle.mpw_firm.specs.declared.stitch_options.StitchOptions.{StitchOptions}
+use Rattle.mpw_asked.specs.Given.{picture_file}
+use Rattle.mpw_asked.specs.declared.options.Options.{Options}
+use Rattle.mpw_asked.specs.declared.stitch_options.StitchOptions.{StitchOptions}
 
 -- The name of a file that is read; `-` is the standard input.
 abbrev pub input_name : List ℕ → List ℕ
 input_name file = if name_eq file (codes "-") then codes "/dev/stdin" else file
-
-abbrev pub names_of : List Use → List (List ℕ)
-names_of uses = map (λ u. u.name.now) uses
-
--- An output is a file that is used otherwise too.
-unfoldable pub one_file_text : (out other : Use) → List ℕ
-one_file_text out other =
-    codes "error: "
-    ++ (out.what.now
-    ++ (codes " can't be written over "
-    ++ (other.what.now
-    ++ (codes ": "
-    ++ (out.name.now ++ (codes " and " ++ (other.name.now ++ codes " are one file")))))))
 
 abbrev pub one_or_none : Option (List ℕ) → List (List ℕ)
 one_or_none None = []
@@ -32,9 +18,6 @@ one_or_none (Some name) = name ∷ []
 abbrev pub outputs_of : (report picture : Option (List ℕ)) → List (List ℕ)
 outputs_of report picture =
     codes "/dev/stdout" ∷ (one_or_none report ++ one_or_none picture)
-
-abbrev pub picture_file : Option Wanted → Option (List ℕ)
-picture_file wanted = option_map (λ (w : Wanted). string_bytes w.file) wanted
 
 -- Of a check.
 abbrev pub check_inputs : Options → List (List ℕ)

@@ -1,26 +1,15 @@
 //! That no output is one of the inputs, or another output.
-ghost use Rattle.std.specs.Prelude.{◌≡◌, map, is_some, option_map, IfOk, IfErr, IfSome};
+ghost use Rattle.std.specs.Prelude.{◌≡◌, map, option_map, IfOk, IfErr};
 ghost use Rattle.std.specs.String.{string_bytes};
-ghost use Rattle.mpw_firm.specs.Outputs.{AreApart, is_among};
-ghost use Rattle.mpw_firm.specs.Uses.{check_inputs, check_outputs, input_name, names_of, one_file_text, outputs_of, stitch_inputs, stitch_outputs};
-ghost use Rattle.mpw_firm.specs.Told.{IsMisuse, Misuses};
+ghost use Rattle.mpw_outputs.specs.Outputs.{AreApart};
+ghost use Rattle.mpw_firm.specs.Uses.{check_inputs, check_outputs, input_name, outputs_of, stitch_inputs, stitch_outputs};
+ghost use Rattle.mpw_outputs.specs.Apart.{names_of};
+ghost use Rattle.mpw_told.specs.Told.{IsMisuse};
 
-use crate::fault::FirmFault;
-use crate::options::Options;
-use crate::outputs::Outputs;
-use crate::spot::are_one;
-use crate::stitch_options::StitchOptions;
-use crate::told::misuse;
+use mpw_asked::{Options, StitchOptions};
+use mpw_outputs::{Outputs, Use, apart};
+use mpw_told::FirmFault;
 use std::alloc::{AllocError, Global};
-
-/// A file with what it is used for.
-#[derive(Clone, Copy, Drop)]
-pub struct Use<'a> {
-    /// What it is used for, as that is told.
-    pub what: &'a str,
-    /// Its name.
-    pub name: &'a str,
-}
 
 /// A file that is read, or the standard input where it is `-`.
 fn input<'a>(what: &'a str, name: &'a str) -> Use<'a>
@@ -62,59 +51,6 @@ fn outputs_with<'a>(
         })?;
     }
     Ok(uses)
-}
-
-/// The first of these files to which a name leads too.
-fn same_as<'a, O: Outputs>(
-    outputs: &O,
-    alloc: Global,
-    uses: &[Use<'a>],
-    name: &str,
-) -> Result<Option<Use<'a>>, AllocError>
-    ensures { IfOk result (λ found. IfSome (O.files outputs.now) (λ leads. is_some found ≡ is_among leads (names_of uses.now) name.now)) }
-{
-    let spot = outputs.spot(alloc, name)?;
-    for other in uses {
-        if are_one(&outputs.spot(alloc, other.name)?, &spot) {
-            return Ok(Some(*other));
-        }
-    }
-    Ok(None)
-}
-
-/// What is told of an output that is a file which is used otherwise too.
-#[tactic(auto, unfolding(crate::specs::Uses::one_file_text))]
-fn one_file(alloc: Global, out: &Use<'_>, other: &Use<'_>) -> FirmFault
-    ensures { Misuses (one_file_text out.now other.now) result }
-{
-    let (what, name, over, there) = (out.what, out.name, other.what, other.name);
-    misuse(format!(in alloc;
-        "error: {what} can't be written over {over}: {name} and {there} are one file"
-    ))
-}
-
-/// Refuses an output that is one of the inputs, or an output before it. It asks for each file of each output where it leads.
-///
-/// # Errors
-/// `Usage`, with a text that names both; and `Memory`.
-pub fn apart<O: Outputs>(
-    outputs: &O,
-    alloc: Global,
-    inputs: &[Use<'_>],
-    outs: &[Use<'_>],
-) -> Result<(), FirmFault>
-    ensures apart { IfOk result (λ _. AreApart (O.files outputs.now) (names_of inputs.now) (names_of outs.now)) }
-    ensures refused { IfErr result IsMisuse }
-{
-    let mut taken = Vec::new(alloc);
-    taken.extend_from_slice(inputs)?;
-    for out in outs {
-        if let Some(other) = same_as(outputs, alloc, taken.as_slice(), out.name)? {
-            return Err(one_file(alloc, out, &other));
-        }
-        taken.push(*out).map_err(AllocError::from)?;
-    }
-    Ok(())
 }
 
 /// Refuses a check of which an output is one of its inputs, or another output.

@@ -1,31 +1,28 @@
 //! A check of a whole layout, done.
-ghost use Rattle.std.specs.Prelude.{◌⊎◌, option_map, IfOk, IfErr};
+ghost use Rattle.std.specs.Prelude.{◌≡◌, ◌⊎◌, length, option_map, IfOk, IfErr};
 ghost use Rattle.std.specs.String.{string_bytes};
-ghost use Rattle.mpw_check.specs.Tiled.{IsOfPlan};
 ghost use Rattle.mpw_job.specs.Layout.{AreLayoutMarkers};
 ghost use Rattle.mpw_firm.specs.Came.{IsChecked, PutsAll, listing_texts};
-ghost use Rattle.mpw_firm.specs.Outputs.{AreApart, Grows, IsUnwritten};
+ghost use Rattle.mpw_outputs.specs.Outputs.{AreApart, Grows, IsUnwritten};
 ghost use Rattle.mpw_firm.specs.Shown.{shown_of};
-ghost use Rattle.mpw_firm.specs.Sides.{IsOfTiles};
-ghost use Rattle.mpw_firm.specs.Told.{Fails, output_text};
+ghost use Rattle.mpw_sources.specs.Sides.{IsOfTiles};
+ghost use Rattle.mpw_told.specs.Told.{Fails, output_text};
 ghost use Rattle.mpw_firm.specs.Uses.{check_inputs, check_outputs};
 
-use crate::checked::{Checked, Target};
-use crate::choices::Choices;
-use crate::drawing::{drawn_by, refusal_of};
-use crate::fault::FirmFault;
+use crate::checked::Checked;
+use crate::drawing::drawn_by;
 use crate::laws::markers_are_flat;
 use crate::line::Line;
-use crate::looked::{look, tell_looks};
-use crate::options::Options;
-use crate::outputs::Outputs;
 use crate::picture::{picture, view_of};
 use crate::progress::tell_summary;
 use crate::report::{list, report};
-use crate::side::many_tiles;
-use mpw_check::{CheckFault, check_layout};
+use mpw_asked::{Choices, Options};
+use mpw_check::check_layout;
 use mpw_markers::Book;
+use mpw_outputs::Outputs;
+use mpw_sources::{Target, look, many_tiles, notes_of, tell_notes};
 use mpw_tiles::Snapshot;
+use mpw_told::FirmFault;
 use std::alloc::Global;
 use std::thread::Threads;
 
@@ -69,35 +66,24 @@ fn write_all<O: Outputs>(
 }
 
 /// The markers of a layout, while a terminal is told how far the check came.
-fn book_of(
+///
+/// # Errors
+/// Want of memory.
+fn found_in(
     rt: &HostRuntime,
     threads: &(impl Threads + Sync),
     snapshot: &Snapshot,
     line: &mut Line<'_>,
-) -> Result<Book, CheckFault>
-    ensures markers { IfOk result (AreLayoutMarkers snapshot.now) }
-    ensures faults { IfErr result (IsOfPlan snapshot.now) }
+) -> Result<Book, FirmFault>
+    requires alone { length snapshot.now.shelf ≡ 1 }
+    ensures { IfOk result (AreLayoutMarkers snapshot.now) }
 {
     line.tell_read(snapshot);
     let book = check_layout(threads, rt.alloc(), snapshot, line);
     line.end();
-    book
-}
-
-/// The markers of the layout that is checked.
-fn found_in(
-    rt: &HostRuntime,
-    threads: &(impl Threads + Sync),
-    target: &Target<'_>,
-    snapshot: &Snapshot,
-    line: &mut Line<'_>,
-) -> Result<Book, FirmFault>
-    ensures { IfOk result (AreLayoutMarkers snapshot.now) }
-{
-    match book_of(rt, threads, snapshot, line) {
+    match book {
         Ok(book) => Ok(book),
-        Err(CheckFault::Tiles) => Err(tiles_of(rt, target, snapshot)),
-        Err(fault) => Err(refusal_of(rt, target, &fault, &[])),
+        Err(_) => Err(FirmFault::Memory),
     }
 }
 
@@ -118,19 +104,22 @@ pub fn check<O: Outputs>(
     ensures { IfOk result (IsChecked options.now choices.now (O.kept outputs.old) (O.kept outputs.new)) }
 {
     let mut line = Line::new(rt);
-    let drawn = drawn_by(rt, options, choices)?;
+    let drawn = drawn_by(rt, outputs, options, choices)?;
     let (top, layout) = (&drawn.top, &drawn.layout);
     let file = options.file.as_str();
     let target = Target { file, top };
-    let _ = tell_looks(rt, layout);
+    let notes = notes_of(rt.alloc(), layout)?;
+    let told = notes.as_slice();
+    let _ = tell_notes(rt, told);
     look(rt.alloc(), options.strict, &target, layout)?;
-    let book = &found_in(rt, threads, &target, layout, &mut line)?;
+    let book = &found_in(rt, threads, layout, &mut line)?;
     let checked = Checked {
         top,
         layout,
         book,
         original: Some(file),
         limit: choices.limit,
+        notes: told,
     };
     let _ = tell_summary(rt, &checked, &line);
     markers_are_flat();

@@ -5,16 +5,8 @@ ghost use Rattle.mpw_firm.specs.Shown.{most_of};
 
 use mpw_geom::Name;
 use mpw_markers::Book;
+use mpw_report::Note;
 use mpw_tiles::Snapshot;
-
-/// What is told of where something is refused: the library's file, and the structure.
-#[derive(Clone, Copy, Drop)]
-pub struct Target<'a> {
-    /// The name of the library's file.
-    pub file: &'a str,
-    /// The structure that is checked.
-    pub top: &'a Name,
-}
 
 /// A layout that was checked: the structure's name, the layout, and its markers.
 #[derive(Clone, Copy, Drop)]
@@ -29,6 +21,8 @@ pub struct Checked<'a> {
     pub original: Option<&'a str>,
     /// How many markers of each rule are listed, written and drawn at most.
     pub limit: Option<u32>,
+    /// What the report tells of what was looked at.
+    pub notes: &'a [Note<'a>],
 }
 
 impl Checked<'_> {

@@ -3,27 +3,26 @@ ghost use Rattle.std.specs.Prelude.{◌≡◌, ℕ, List, None, option_map, IfOk
 ghost use Rattle.std.specs.String.{string_bytes};
 ghost use Rattle.mpw_check.specs.Drawn.{IsDrawnFrom};
 ghost use Rattle.mpw_choices.specs.Tops.{only_top};
-ghost use Rattle.mpw_firm.specs.Drawings.{above, IsDeckOf, IsDrawnBy, IsDrawnOf, IsOfDeck, IsOfDrawing, IsOfNoTop, IsOfSource, IsOfTexts, IsReadBy, IsTopOf, no_top_text};
-ghost use Rattle.mpw_firm.specs.Sources.{kept_text};
-ghost use Rattle.mpw_firm.specs.Told.{Refuses, Tells};
-ghost use Rattle.mpw_firm.specs.ToldFaults.{check_told};
+ghost use Rattle.mpw_firm.specs.Drawings.{above, IsDeckOf, IsDrawnBy, IsDrawnOf, IsOfDrawing, IsOfNoTop, IsOfSource, IsOfTexts, IsReadBy, IsTopOf, no_top_text};
+ghost use Rattle.mpw_told.specs.ToldFaults.{IsOfDeck, check_told};
+ghost use Rattle.mpw_sources.specs.Sources.{kept_text};
+ghost use Rattle.mpw_told.specs.Told.{Refuses, Tells};
 
-use crate::checked::{Drawn, Target};
-use crate::choices::Choices;
-use crate::fault::FirmFault;
-use crate::options::Options;
-use crate::reading::{Content, deck_of, read_file, read_library};
-use crate::source::Source;
-use crate::told::{check_fault, library_fault, refusal};
-use crate::told_faults::{tell_faults, tell_left_out};
-use crate::tops::tell_tops;
+use crate::checked::Drawn;
+use crate::faulty::faulty;
+use mpw_asked::{Choices, Options};
 use mpw_check::{CheckFault, read_layout};
 use mpw_choices::{TileSide, only_top, with_side};
 use mpw_deck::Deck;
 use mpw_elements::ReadError;
 use mpw_geom::Name;
 use mpw_hier::HierFault;
+use mpw_outputs::Outputs;
+use mpw_sources::{
+    Content, Source, Target, deck_of, read_file, read_library, tell_left_out, tell_tops,
+};
 use mpw_tiles::Snapshot;
+use mpw_told::{FirmFault, check_fault, library_fault, refusal};
 use std::alloc::Global;
 
 /// Whether a library has no structure of the name that is asked for.
@@ -190,23 +189,33 @@ fn above<'a>(options: &'a Options, choices: &Choices) -> Option<&'a Name>
 }
 
 /// What is checked of the whole, of the files that the command line names. What is left out of the library is told on the standard
-/// error, and, where that is asked for, each fault of its elements.
+/// error, and, where that is asked for, each fault of its elements, which are reported too.
 ///
 /// # Errors
-/// A file that can't be read, a deck or a library with a fault, a structure that can't be checked, or want of memory.
-pub fn drawn_by(rt: &HostRuntime, options: &Options, choices: &Choices) -> Result<Drawn, FirmFault>
-    ensures { IfOk result (λ drawn. (deck library : List ℕ) × IsReadBy options.now.top choices.now deck library drawn) }
+/// A file that can't be read, a deck or a library with a fault, a structure that can't be checked, a report of faults that can't be
+/// written, or want of memory.
+pub fn drawn_by<O: Outputs>(
+    rt: &HostRuntime,
+    outputs: &mut O,
+    options: &Options,
+    choices: &Choices,
+) -> Result<Drawn, FirmFault>
+    ensures read { IfOk result (λ drawn. (deck library : List ℕ) × IsReadBy options.now.top choices.now deck library drawn) }
+    ensures kept { IfOk result (λ _. O.kept outputs.new ≡ O.kept outputs.old) }
 {
     let text = read_file(rt, options.deck.as_str(), Content::Deck)?;
     let library = read_library(rt, options.file.as_str())?;
     let above = above(options, choices);
     let source = Source::new(rt.alloc(), choices.skip.as_slice(), above, library)?;
     let _ = tell_left_out(rt, options.file.as_str(), &source);
-    match drawn_of(rt, options, &choices.tile, &text, &source) {
+    let deck = deck_under(rt.alloc(), options, &choices.tile, &text)?;
+    let rules = deck.rules().copy()?;
+    match drawn_under(rt, options, deck, &source) {
         Ok(drawn) => Ok(drawn),
         Err(fault) => {
             if choices.faults {
-                let _ = tell_faults(rt, options.file.as_str(), &source);
+                let rules = rules.as_slice();
+                return Err(faulty(rt, outputs, options, rules, &source, fault));
             }
             Err(fault)
         }

@@ -6,65 +6,38 @@
 
 ghost use Rattle.std.specs.Prelude.{◌≡◌, ◌∷◌, [], IfOk, IfErr};
 ghost use Rattle.std.specs.Process.{exit_status};
-ghost use Rattle.mpw_firm.specs.Came.{Ends, IsCheckDone, IsDone, IsDoneOf, IsDoneOfSome, IsStitched, on_output};
-ghost use Rattle.mpw_firm.specs.Outputs.{Grows};
-ghost use Rattle.mpw_firm.specs.Told.{Fails, IsMisuse, output_text};
+ghost use Rattle.mpw_firm.specs.Came.{Ends, IsCheckDone, IsDone, IsDoneOf, IsDoneOfSome, IsStitched};
+ghost use Rattle.mpw_outputs.specs.Outputs.{on_output, Grows};
+ghost use Rattle.mpw_told.specs.Told.{Fails, IsMisuse, output_text};
 
 mod apart;
 mod asked;
 mod blank;
-mod cause;
 mod checked;
-mod choices;
-mod colon;
 mod drawing;
-mod fault;
-mod host;
+mod faulty;
 mod key;
 mod laps;
 mod laws;
-mod layered;
 mod line;
-mod listing;
-mod looked;
-mod options;
-mod out_file;
-mod outputs;
 mod part;
 mod picture;
-mod picture_options;
-mod place;
 mod progress;
-mod reading;
 mod report;
-mod sentences;
-mod side;
-mod source;
-mod spot;
 mod stitch;
-mod stitch_options;
-mod texts;
-mod told;
-mod told_faults;
-mod told_parts;
-mod tops;
 mod whole;
 
 use apart::{check_apart, stitch_apart};
 use asked::check;
-use choices::Portion;
-use fault::{FirmFault, exit_status};
-use host::Host;
-use options::{Asked, Options, read_options};
-use outputs::{Outputs, Place, put};
+use mpw_asked::{Asked, Options, Portion, StitchOptions, read_options};
+use mpw_outputs::{Host, Outputs, Place, Text, put};
+use mpw_told::{FirmFault, exit_status};
 use part::check_range;
 use std::alloc::Global;
 use std::process::ExitCode;
 use std::thread::Threads;
 use std::{env, io};
 use stitch::stitch;
-use stitch_options::StitchOptions;
-use texts::Text;
 
 /// The words of the command line.
 fn words(rt: &HostRuntime) -> Result<Vec<String>, FirmFault>

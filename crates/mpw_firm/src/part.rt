@@ -4,26 +4,21 @@ ghost use Rattle.mpw_spread.specs.Spread.{IsPartOf};
 ghost use Rattle.mpw_firm.specs.Came.{IsPartChecked};
 ghost use Rattle.mpw_firm.specs.Drawings.{IsReadFrom};
 ghost use Rattle.mpw_firm.specs.Ranges.{HasTilesOf, IsOfRange};
-ghost use Rattle.mpw_firm.specs.Outputs.{AreApart};
+ghost use Rattle.mpw_outputs.specs.Outputs.{AreApart};
 ghost use Rattle.mpw_firm.specs.Uses.{check_inputs, check_outputs};
 
 use crate::asked::tiles_of;
-use crate::checked::Target;
 use crate::drawing::drawn_of;
-use crate::fault::FirmFault;
 use crate::line::Line;
-use crate::looked::{look, tell_looks};
-use crate::options::Options;
-use crate::outputs::{Outputs, Place, put};
 use crate::progress::{count_of, tell_part};
-use crate::reading::{Content, read_file, read_library};
-use crate::source::Source;
-use crate::texts::Text;
-use crate::told_parts::beyond_plan;
+use mpw_asked::Options;
 use mpw_check::tile_count;
+use mpw_outputs::{Outputs, Place, Text, put};
 use mpw_parts::Part;
+use mpw_sources::{Content, Source, Target, look, notes_of, read_file, read_library, tell_notes};
 use mpw_spread::{TileRange, check_part, subject_of};
 use mpw_tiles::Snapshot;
+use mpw_told::{FirmFault, beyond_plan};
 use std::alloc::{AllocError, Global};
 use std::thread::Threads;
 
@@ -101,7 +96,9 @@ pub fn check_range<O: Outputs>(
         file: options.file.as_str(),
         top: &drawn.top,
     };
-    let _ = tell_looks(rt, &drawn.layout);
+    let notes = notes_of(rt.alloc(), &drawn.layout)?;
+    let told = notes.as_slice();
+    let _ = tell_notes(rt, told);
     look(rt.alloc(), options.strict, &target, &drawn.layout)?;
     let asked = PartAsked {
         target,

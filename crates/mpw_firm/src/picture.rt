@@ -5,20 +5,17 @@ ghost use Rattle.mpw_geom.specs.Plane.{IsBoxInPlane};
 ghost use Rattle.mpw_picture.specs.Drawn.{IsDrawn};
 ghost use Rattle.mpw_picture.specs.Text.{picture_text};
 ghost use Rattle.mpw_picture.specs.declared.picture.Picture.{Picture};
-ghost use Rattle.mpw_firm.specs.Came.{in_file};
+ghost use Rattle.mpw_outputs.specs.Outputs.{in_file, Grows};
 ghost use Rattle.mpw_firm.specs.Keys.{IsOfKey, IsRound, IsUnknown, IsViewOf, unknown_text};
-ghost use Rattle.mpw_firm.specs.Outputs.{Grows};
 ghost use Rattle.mpw_firm.specs.Shown.{most_of};
-ghost use Rattle.mpw_firm.specs.Told.{CannotBeWritten, Misuses};
+ghost use Rattle.mpw_told.specs.Told.{CannotBeWritten, Misuses};
 
 use crate::checked::Checked;
-use crate::fault::FirmFault;
 use crate::key::find_marker;
-use crate::outputs::{Outputs, Place, put};
-use crate::picture_options::Wanted;
-use crate::texts::Text;
-use crate::told::misuse;
+use mpw_asked::Wanted;
+use mpw_outputs::{Outputs, Place, Text, put};
 use mpw_picture::{View, draw_view, marker_window, whole_window};
+use mpw_told::{FirmFault, misuse};
 use std::alloc::Global;
 
 /// What is told of a key that no marker has.

@@ -1,17 +1,20 @@
 //! What is told on the standard error of a check that has ended.
 ghost use Rattle.std.specs.Prelude.{◌≡◌, nat_lt};
 ghost use Rattle.std.specs.List.{list_any};
-ghost use Rattle.mpw_firm.specs.Status.{count_of, has_some};
+ghost use Rattle.mpw_firm.specs.Counts.{count_of, has_some};
 
 use crate::checked::Checked;
 use crate::line::Line;
-use mpw_check::tile_count;
+use mpw_check::{MAX_IN_TILES, tile_count};
 use mpw_deck::Rules;
 use mpw_limits::count_of_rule;
 use mpw_markers::{Marker, TileMarkers};
 use mpw_parts::Part;
 use mpw_tiles::Snapshot;
 use std::io;
+
+/// The most shapes of a submission to a desk.
+const MAX_ON_DESK: u64 = 1 << 20;
 
 /// How many tiles the layout has.
 fn tiles_of(snapshot: &Snapshot) -> u32 {
@@ -46,19 +49,33 @@ fn tell_time(rt: &HostRuntime, taken: Option<u64>) -> io::Result<()> {
     }
 }
 
-/// Tells what was checked and found, and the time that it took.
+/// Tells in how many tiles a layout of so many shapes was checked, or that columns were.
+fn tell_way(rt: &HostRuntime, snapshot: &Snapshot, shapes: u64) -> io::Result<()> {
+    match tile_count(snapshot) {
+        Some(tiles) if shapes <= MAX_IN_TILES => eprint!(rt; "{tiles} tiles, "),
+        _ => eprint!(rt; "by columns, "),
+    }
+}
+
+/// Tells what was checked and found, and the time that it took; and of a layout that shows more shapes than a desk takes, that.
 pub fn tell_summary(rt: &HostRuntime, checked: &Checked<'_>, line: &Line<'_>) -> io::Result<()> {
     let layout = checked.layout;
-    let tiles = tiles_of(layout);
     let shapes = layout.shelf().count(0);
-    eprint!(rt; "{shapes} shapes, {tiles} tiles, ")?;
+    eprint!(rt; "{shapes} shapes, ")?;
+    tell_way(rt, layout, shapes)?;
     tell_markers(rt, layout.deck().rules(), checked.book.as_slice())?;
     tell_time(rt, line.taken())?;
+    if shapes > MAX_ON_DESK {
+        eprintln!(rt; "note: more than 1048576 shapes: the desk takes no more")?;
+    }
     tell_limit(rt, checked)
 }
 
 /// Tells of which rules markers are left out, and how many.
-fn tell_limit(rt: &HostRuntime, checked: &Checked<'_>) -> io::Result<()> {
+///
+/// # Errors
+/// That of the standard error.
+pub fn tell_limit(rt: &HostRuntime, checked: &Checked<'_>) -> io::Result<()> {
     let (markers, most) = (checked.book.as_slice(), checked.most());
     for (place, rule) in checked.layout.deck().rules().as_slice().iter().enumerate() {
         let count = count_of_rule(markers, place);

@@ -1,19 +1,18 @@
 //! The listing and the report of a check. KLayout's marker browser opens the latter.
 ghost use Rattle.std.specs.Prelude.{◌≡◌, ◌∷◌, [], option_map, IfOk, IfErr};
 ghost use Rattle.std.specs.String.{string_bytes};
-ghost use Rattle.mpw_firm.specs.Came.{on_output, report_texts};
+ghost use Rattle.mpw_outputs.specs.Outputs.{on_output, Grows, IsUnwritten};
+ghost use Rattle.mpw_firm.specs.Came.{report_texts};
 ghost use Rattle.mpw_limits.specs.Limits as listing;
 ghost use Rattle.mpw_report.specs.Content as told;
-ghost use Rattle.mpw_firm.specs.Outputs.{Grows, IsUnwritten};
 ghost use Rattle.mpw_firm.specs.Shown.{content_of, limited_of, listing_text, shown_of};
-ghost use Rattle.mpw_firm.specs.Told.{Fails, output_text};
+ghost use Rattle.mpw_told.specs.Told.{Fails, output_text};
 
 use crate::checked::Checked;
-use crate::fault::FirmFault;
-use crate::outputs::{Outputs, Place, put};
-use crate::texts::Text;
 use mpw_limits::Limited;
+use mpw_outputs::{Outputs, Place, Text, put};
 use mpw_report::{Fault, Report};
+use mpw_told::FirmFault;
 use std::alloc::Global;
 
 /// The first markers of each rule.
@@ -39,6 +38,7 @@ fn report_of<'a>(checked: &Checked<'a>) -> Report<'a>
         rules: checked.layout.deck().rules().as_slice(),
         markers: checked.book.as_slice(),
         limit: checked.most(),
+        notes: checked.notes,
         faults,
     }
 }

@@ -1,22 +1,24 @@
 //! Parts stitched, and the markers of the whole.
-ghost use Rattle.std.specs.Prelude.{◌≡◌, List, Some, IfOk, IfErr};
+ghost use Rattle.std.specs.Prelude.{◌≡◌, List, Some, IfOk, IfErr, length, map, option_map};
+ghost use Rattle.std.specs.String.{string_bytes};
+ghost use Rattle.mpw_report.specs.Content.{note_of};
 ghost use Rattle.mpw_parts.specs.Parts.{Found};
 ghost use Rattle.mpw_parts.specs.Reading.{part_of};
-ghost use Rattle.mpw_firm.specs.Came.{IsStitched};
-ghost use Rattle.mpw_firm.specs.Outputs.{AreApart};
+ghost use Rattle.mpw_firm.specs.Came.{IsStitched, listing_texts, shown_with};
+ghost use Rattle.mpw_outputs.specs.Outputs.{AreApart, Grows};
 ghost use Rattle.mpw_firm.specs.Stitched.{IsOfFile, IsWholeOf};
 ghost use Rattle.mpw_firm.specs.Uses.{stitch_inputs, stitch_outputs};
 
 use crate::checked::Checked;
-use crate::fault::FirmFault;
-use crate::outputs::Outputs;
-use crate::progress::tell_markers;
-use crate::reading::{Content, read_file};
+use crate::progress::{tell_limit, tell_markers};
 use crate::report::{list, report};
-use crate::stitch_options::StitchOptions;
-use crate::told_parts::{PartFile, no_part};
 use crate::whole::{Whole, whole_of};
+use mpw_asked::StitchOptions;
+use mpw_outputs::Outputs;
 use mpw_parts::{Part, read_part};
+use mpw_report::Note;
+use mpw_sources::{Content, read_file, rule_notes};
+use mpw_told::{FirmFault, PartFile, no_part};
 use std::alloc::{AllocError, Global};
 use std::io;
 
@@ -58,6 +60,33 @@ fn tell_stitched(rt: &HostRuntime, parts: usize, whole: &Whole) -> io::Result<()
     eprintln!(rt; "")
 }
 
+/// Prints the markers of a whole, writes its report, and tells how many markers there are.
+fn write_whole<'a, O: Outputs>(
+    rt: &HostRuntime,
+    outputs: &mut O,
+    options: &StitchOptions,
+    whole: &'a Whole,
+    notes: &'a [Note<'a>],
+) -> Result<usize, FirmFault>
+    ensures count { IfOk result (λ found. found ≡ length whole.entry.now.book) }
+    ensures kept { IfOk result (λ _. Grows (O.kept outputs.old) (O.kept outputs.new)
+        (listing_texts (option_map string_bytes options.now.report) (shown_with (map note_of notes.entry.now) options.now.limit whole.entry.now))) }
+{
+    let alloc = rt.alloc();
+    let checked = Checked {
+        top: &whole.top,
+        layout: &whole.layout,
+        book: &whole.book,
+        original: None,
+        limit: options.limit,
+        notes,
+    };
+    let _ = tell_limit(rt, &checked);
+    list(outputs, alloc, &checked)?;
+    report(outputs, alloc, &options.report, &checked)?;
+    Ok(whole.book.len())
+}
+
 /// Stitches the parts that the command line names, prints the markers, writes the report and tells how many markers there are.
 ///
 /// # Errors
@@ -73,14 +102,9 @@ pub fn stitch<O: Outputs>(
     let alloc = rt.alloc();
     let whole = whole_in(rt, options.files.as_slice())?;
     let _ = tell_stitched(rt, options.files.len(), &whole);
-    let checked = Checked {
-        top: &whole.top,
-        layout: &whole.layout,
-        book: &whole.book,
-        original: None,
-        limit: None,
-    };
-    list(outputs, alloc, &checked)?;
-    report(outputs, alloc, &options.report, &checked)?;
-    Ok(whole.book.len())
+    let rules = whole.layout.deck().rules().as_slice();
+    let notes = rule_notes(alloc, rules)?;
+    let told = notes.as_slice();
+    let found = write_whole(rt, outputs, options, &whole, told)?;
+    Ok(found)
 }

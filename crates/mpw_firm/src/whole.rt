@@ -4,16 +4,14 @@ ghost use Rattle.mpw_parts.specs.Stitching.{IsBookOf};
 ghost use Rattle.mpw_firm.specs.Stitched.{are_alone, first_name, is_alone, IsListedAsCheck, IsListedAsEach, IsNamed, IsSubjectOf, IsWholeOf, IsOfBlank, IsOfBook, IsOfFirst, IsOfMarkers, IsOfParts, IsOfWhole};
 
 use crate::blank::blank_layout;
-use crate::fault::FirmFault;
 use crate::laws::wholes_are_listed_as_checks;
-use crate::reading::deck_of;
-use crate::told::check_fault;
-use crate::told_parts::{PartFile, no_markers, parts_fault};
 use mpw_deck::Deck;
 use mpw_geom::Name;
 use mpw_markers::{Book, Marker};
 use mpw_parts::{Part, stitch_parts};
+use mpw_sources::deck_of;
 use mpw_tiles::Snapshot;
+use mpw_told::{FirmFault, PartFile, check_fault, no_markers, parts_fault};
 use std::alloc::Global;
 
 /// What was checked: the deck, the structure's name, and the number of tiles.

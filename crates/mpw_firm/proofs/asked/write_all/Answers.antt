@@ -1,5 +1,5 @@
 use Rattle.std.proofs.lemmas.Result.{IfOk-weaker}
-use Rattle.mpw_firm.proofs.Growth.{grows_named}
+use Rattle.mpw_outputs.proofs.Growth.{grows_named}
 use Rattle.mpw_firm.proofs.asked.write_all.Goals as goal
 
 pub returns : goal.returns

@@ -1,6 +1,6 @@
 use Rattle.std.proofs.Common.{◌≡◌, ◌||◌, ltb, drop, take}
 use Rattle.std.specs.List.{list_any}
-use Rattle.mpw_firm.specs.Status.{count_of, has_some}
+use Rattle.mpw_firm.specs.Counts.{count_of, has_some}
 use Rattle.mpw_firm.proofs.progress.count_of.Given as goal
 
 -- the count is that of the lists so far; some were found so far, or are still to find

@@ -1,6 +1,0 @@
-use Rattle.mpw_firm.specs.Uses.{one_file_text}
-use Rattle.mpw_firm.proofs.apart.one_file.Goals as goal
-
-pub returns : goal.returns
-unfolding one_file_text
-returns c = c.misuse.ensures (one_file_text c.args.out.now c.args.other.now) c.format.ensures.ok

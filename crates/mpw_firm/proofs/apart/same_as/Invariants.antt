@@ -1,8 +1,0 @@
-use Rattle.mpw_firm.proofs.Separate.{IsLeft, Leads}
-use Rattle.mpw_firm.proofs.apart.same_as.Given as goal
-
--- none of the files so far is the one that the name leads to
-abbrev pub invariant-loop-other : goal.invariant-loop-other
-invariant-loop-other g l =
-    let files = g.O.Outputs.files l.outputs in
-    Leads files l.name l.spot × IsLeft files l.uses l.name l.other-index

@@ -1,7 +1,0 @@
-use Rattle.std.proofs.Common.{◌≡◌, take}
-use Rattle.std.specs.String.{string_bytes}
-use Rattle.mpw_firm.specs.ToldParts.{names_with}
-use Rattle.mpw_firm.proofs.told_parts.holders.Given as goal
-
-abbrev pub invariant-loop-file : goal.invariant-loop-file
-invariant-loop-file l = string_bytes l.names ≡ names_with l.tile (take l.file-index l.files)

@@ -1,0 +1,4 @@
+pub mod Apart
+pub mod Listed
+pub mod Outputs
+pub mod Texts

@@ -1,0 +1,120 @@
+//! Where texts are written to. `specs/Outputs.antt` has what contracts say of it.
+ghost use Rattle.std.specs.Prelude.{◌≡◌, ℕ, List, [], Option, Some, false, IfOk, IfErr, IfSome};
+ghost use Rattle.mpw_outputs.specs.Outputs.{Kept, Spot, Grows, IsOfWrite, IsUnput, Puts};
+ghost use Rattle.mpw_outputs.specs.Texts.{kept_of, place_of, text_of};
+
+use crate::spot::FileSpot;
+use crate::texts::{Text, Writer, write_text};
+use mpw_told::{FirmFault, output_fault, unwritten};
+use mpw_wire::{Sink, WireFault};
+use std::alloc::{AllocError, Global};
+
+/// A place for a text.
+#[derive(Clone, Copy, Drop)]
+pub enum Place<'a> {
+    /// The standard output.
+    Standard,
+    /// The file of that name.
+    File(&'a str),
+}
+
+/// A text that isn't in its place yet: what takes its bytes, and what is known of its place, which is as it was.
+#[derive(Drop)]
+pub struct Draft<S, N> {
+    /// What takes the bytes.
+    pub writer: Writer<S>,
+    /// What is known of the place.
+    pub name: N,
+}
+
+/// Where texts are written to. Contracts see the texts that are in their places, in the order in which they came there, and which
+/// file a name leads to, or `None`, which claims nothing, where nobody can say what a device holds.
+pub trait Outputs {
+    /// What takes a draft's bytes.
+    type Bytes: Sink + Drop;
+
+    /// What is known of a draft's place.
+    type Name: Drop;
+
+    ghost kept: { Self → Option (List Kept) };
+
+    ghost files: { Self → Option (List ℕ → Option Spot) };
+
+    /// The name of a draft's place; none is the standard output's.
+    ghost place: { Self.Name → Option (List ℕ) };
+
+    /// The file that a name leads to, where it leads to one that holds what is written there.
+    ///
+    /// # Errors
+    /// Want of memory.
+    fn spot(&self, alloc: Global, name: &str) -> Result<Option<FileSpot>, AllocError>
+        ensures { IfOk result (λ spot. IfSome (files self.now) (λ leads. spot ≡ leads name.now)) };
+
+    /// Begins a text for a place.
+    ///
+    /// # Errors
+    /// `Device` where it can't be begun, and `Memory`.
+    fn begin(
+        &mut self,
+        alloc: Global,
+        to: Place<'_>,
+    ) -> Result<Draft<Self::Bytes, Self::Name>, FirmFault>
+        ensures place { IfOk result (λ draft. place draft.name ≡ place_of to.entry) }
+        ensures empty { IfOk result (λ draft. IfSome (kept self.new) (λ _. Self.Bytes.contents draft.writer.sink ≡ Some [])) }
+        ensures kept { kept self.new ≡ kept self.old }
+        ensures refused { IfErr result (IsUnput (place_of to.entry)) };
+
+    /// Puts a text into its place, whole and at once.
+    ///
+    /// # Errors
+    /// `Device` where that failed, and `Memory`; what was in the place is as it was.
+    fn keep(
+        &mut self,
+        alloc: Global,
+        draft: Draft<Self::Bytes, Self::Name>,
+    ) -> Result<(), FirmFault>
+        requires whole { Self.Bytes.pending draft.writer.sink ≡ false }
+        ensures kept { IfOk result (λ _. Puts (kept self.old) (kept self.new) (place draft.name) (Self.Bytes.contents draft.writer.sink)) }
+        ensures refused { IfErr result (IsUnput (place draft.name)) };
+}
+
+/// Writes a text and puts it into its place, once all of it was handed on.
+///
+/// # Errors
+/// `Device` where that failed, and `Memory`. What was in the place of a file is then as it was.
+pub fn put<O: Outputs>(
+    outputs: &mut O,
+    alloc: Global,
+    to: Place<'_>,
+    text: &Text<'_>,
+) -> Result<(), FirmFault>
+    ensures kept { IfOk result (λ _. Grows (O.kept outputs.old) (O.kept outputs.new) (kept_of to.entry text.now)) }
+    ensures refused { IfErr result (IsUnput (place_of to.entry)) }
+{
+    let mut draft = outputs.begin(alloc, to)?;
+    if let Err(why) = write_text(alloc, &mut draft.writer, text) {
+        return Err(unput(alloc, to, why));
+    }
+    outputs.keep(alloc, draft)
+}
+
+/// What is told of a place that doesn't take a text.
+fn untaken(alloc: Global, to: Place<'_>) -> FirmFault
+    ensures { IsUnput (place_of to.entry) result }
+{
+    match to {
+        Place::Standard => output_fault(alloc),
+        Place::File(file) => unwritten(alloc, file, "the device is full, or it failed"),
+    }
+}
+
+/// What is told of what came of writing a text for a place.
+pub fn unput(alloc: Global, to: Place<'_>, why: WireFault) -> FirmFault
+    ensures place { IsUnput (place_of to.entry) result }
+    ensures told { IsOfWrite (place_of to.entry) why result }
+{
+    match why {
+        WireFault::Memory => FirmFault::Memory,
+        WireFault::Read | WireFault::Write => untaken(alloc, to),
+    }
+}

@@ -1,0 +1,7 @@
+use Rattle.std.proofs.Common.{◌≡◌, drop}
+use Rattle.mpw_sources.specs.Notes.{is_named}
+use Rattle.mpw_sources.proofs.notes.is_named.Given as goal
+
+-- none of the rules so far names the layer
+abbrev pub invariant-loop-rule : goal.invariant-loop-rule
+invariant-loop-rule l = is_named (drop l.rule-index l.rules) l.layer ≡ is_named l.rules l.layer

@@ -1,0 +1,9 @@
+use Rattle.std.proofs.Common.{◌≡◌, map, take}
+use Rattle.mpw_sources.specs.Seen.{told_by, told_seen}
+use Rattle.mpw_sources.proofs.seen.all_seen.Given as goal
+
+abbrev pub invariant-loop-fault : goal.invariant-loop-fault
+invariant-loop-fault l =
+    map told_seen l.faults.items
+    ≡ map (told_by l.source l.seen.unit l.seen.text.now l.seen.spans.now l.seen.top.now)
+    (take l.fault-index l.found)

@@ -1,0 +1,5 @@
+pub mod Looks
+pub mod Notes
+pub mod Seen
+pub mod Sides
+pub mod Sources

@@ -1,0 +1,56 @@
+-- Whether a check looks at something: a rule whose layer has no shapes finds nothing, whatever the layout is.
+use Rattle.std.specs.Prelude.{◌≡◌, ◌==◌, ◌&&◌, ℕ, Bool, true, false, is_none, List, [], ◌∷◌, ◌++◌, codes, Option, None, Some, if◌then◌else◌}
+use Rattle.std.specs.List.{list_all, list_any}
+use Rattle.mpw_deck.specs.declared.rule.Check.{Check}
+use Rattle.mpw_deck.specs.declared.rule.Check.TheVariants.{Width, Space, Separation, Enclosing}
+use Rattle.mpw_deck.specs.declared.rule.Rule.{Rule}
+use Rattle.mpw_geom.specs.declared.plane.Layer.{Layer}
+use Rattle.mpw_geom.specs.Layers.{same_layer}
+use Rattle.mpw_structures.specs.declared.element.Element.{Element}
+use Rattle.mpw_structures.specs.declared.element.Element.TheVariants.{Boundary, Path, Reference}
+use Rattle.mpw_tiles.specs.Snapshots.{Snapshot}
+use Rattle.mpw_walk.specs.Turns.{flat_roots}
+use Rattle.mpw_told.specs.Told.{Refuses}
+use Rattle.mpw_told.specs.declared.fault.FirmFault.{FirmFault}
+use Rattle.mpw_sources.specs.declared.target.Target.{Target}
+
+-- A shape is on the layer.
+abbrev pub is_on : Layer → Element → Bool
+is_on layer (Boundary boundary) = same_layer boundary.layer layer
+is_on layer (Path path) = same_layer path.layer layer
+is_on layer (Reference reference) = false
+
+-- The layout shows a shape on the layer.
+unfoldable pub shows : Snapshot → Layer → Bool
+shows s layer = list_any (λ item. is_on layer item.element) (flat_roots s.shelf s.roots)
+
+-- A layer of a check on which the layout shows no shape, the first of them.
+abbrev pub empty_layer : Snapshot → Check → Option Layer
+empty_layer s (Width layer) = if shows s layer then None else Some layer
+empty_layer s (Space layer) = if shows s layer then None else Some layer
+empty_layer s (Separation first second) =
+    if shows s first then (if shows s second then None else Some second) else Some first
+empty_layer s (Enclosing first second) =
+    if shows s first then (if shows s second then None else Some second) else Some first
+
+-- There are rules, and each has shapes on its layers.
+abbrev pub looks : Snapshot → List Rule → Bool
+looks s [] = false
+looks s (rule ∷ rules) = list_all (λ r. is_none (empty_layer s r.check)) (rule ∷ rules)
+
+-- A check that is asked for strictly does.
+abbrev pub IsLookedAt : Bool → Snapshot → Type 0
+IsLookedAt strict s = strict ≡ true → looks s s.deck.rules ≡ true
+
+unfoldable pub idle_text : (file top : List ℕ) → List ℕ
+idle_text file top =
+    file
+    ++ (codes ": "
+    ++ (top
+    ++ codes ": a rule looks at nothing, or there is none, as the notes say: --strict asks for shapes on each layer of each rule"))
+
+-- Else it is refused, and that is told; or there is no room.
+abbrev pub IsOfLook : Target → Bool → Snapshot → FirmFault → Type 0
+IsOfLook target strict s fault =
+    (strict ≡ true) × (looks s s.deck.rules ≡ false)
+    × Refuses (idle_text target.file.now target.top.now) fault

@@ -1,0 +1,28 @@
+//! What `mpw check` reads: decks and libraries, what is left out of these, and what is told of them beside a fault.
+//!
+//! [`read_file`] and [`read_library`] read a file to its end, or as far as is needed to refuse it. A [`Source`] is a library's text as it is read,
+//! without the elements and structures that are set aside. [`tell_faults`] tells all faults of its elements, which [`faults_seen`] gives to a report, [`look`] and [`notes_of`] whether the rules look at
+//! something, [`many_tiles`] which side of the tiles does.
+#![tactic(auto)]
+
+mod layered;
+mod looked;
+mod notes;
+mod reading;
+mod seen;
+mod side;
+mod source;
+mod target;
+mod told_faults;
+mod tops;
+
+pub use layered::Layered;
+pub use looked::look;
+pub use notes::{notes_of, rule_notes, tell_notes};
+pub use reading::{Content, deck_of, read_file, read_library};
+pub use seen::{SeenFault, faults_seen, report_faults};
+pub use side::many_tiles;
+pub use source::Source;
+pub use target::Target;
+pub use told_faults::{tell_faults, tell_left_out};
+pub use tops::tell_tops;

@@ -1,0 +1,84 @@
+//! What led to a library's fault, where its code alone doesn't tell it.
+ghost use Rattle.std.specs.Prelude.{◌≡◌, drop};
+ghost use Rattle.mpw_told.specs.Causes.{begins_with, behind_first, first_length, cause_at, cause_of};
+
+use mpw_records::kind::{PROPATTR, PROPVALUE, XY};
+use mpw_records::{Code, ReadFault};
+
+/// What led to a fault.
+#[derive(Clone, Copy)]
+pub enum Cause {
+    /// What the code says.
+    Code,
+    /// The points of an element stand in several XY records.
+    Split,
+    /// A property stands where the format has none, as behind UNITS.
+    Property,
+    /// The text isn't GDSII at all.
+    Foreign,
+}
+
+/// Whether the first record of a text is of that type.
+fn begins_with(kind: u8, text: &[u8]) -> bool
+    ensures { result ≡ begins_with kind text.now }
+{
+    match text.get(2) {
+        Some(first) => *first == kind,
+        None => false,
+    }
+}
+
+/// The length of the first record, 0 where it isn't there.
+fn first_length(text: &[u8]) -> usize
+    ensures { result ≡ first_length text.now }
+{
+    match text {
+        [high, low, ..] => usize::from(*high) * 256 + usize::from(*low),
+        _ => 0,
+    }
+}
+
+/// The text from a place on; nothing behind its end.
+fn rest(text: &[u8], from: usize) -> &[u8]
+    ensures { result.now ≡ drop from text.now }
+{
+    if from > text.len() {
+        &[]
+    } else {
+        &text[from..]
+    }
+}
+
+/// The text behind the first record.
+fn behind_first(text: &[u8]) -> &[u8]
+    ensures { result.now ≡ behind_first text.now }
+{
+    rest(text, first_length(text))
+}
+
+/// What led to a fault of that code at the first record of a text.
+#[tactic(auto, unfolding(crate::specs::Causes::cause_at))]
+fn cause_at(code: Code, text: &[u8]) -> Cause
+    ensures { result ≡ cause_at code text.now }
+{
+    match code {
+        Code::NotManhattan | Code::PointPath if begins_with(XY, behind_first(text)) => Cause::Split,
+        Code::Unexpected if begins_with(XY, text) => Cause::Split,
+        Code::Unexpected if begins_with(PROPATTR, text) || begins_with(PROPVALUE, text) => {
+            Cause::Property
+        }
+        _ => Cause::Code,
+    }
+}
+
+/// What led to a fault of a text. Constant time.
+#[tactic(auto, unfolding(crate::specs::Causes::cause_of))]
+pub fn cause_of(fault: ReadFault, text: &[u8]) -> Cause
+    ensures { result ≡ cause_of fault text.now }
+{
+    if fault.offset == 0 {
+        Cause::Foreign
+    } else {
+        cause_at(fault.code, rest(text, fault.offset))
+    }
+}

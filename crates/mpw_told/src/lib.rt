@@ -1,0 +1,21 @@
+//! What `mpw check` and `mpw stitch` tell of what goes wrong, and their exit status.
+//!
+//! A [`FirmFault`] is what ends a command, with its text; [`exit_status`] is the status that it gives. [`check_fault`] and [`deck_fault`]
+//! tell what keeps a library or a deck from being checked: its place, and a sentence on what it means and what to do.
+//! [`parts_fault`] tells what keeps parts from being stitched. `specs/` has each text, word for word.
+#![tactic(auto)]
+
+mod cause;
+mod colon;
+mod fault;
+mod place;
+mod sentences;
+mod told;
+mod told_parts;
+
+pub use fault::{FirmFault, exit_status};
+pub use told::{
+    check_fault, deck_fault, library_fault, misuse, output_fault, refusal, tiles_fault, unread_by,
+    unwritten, unwritten_by,
+};
+pub use told_parts::{PartFile, beyond_plan, no_markers, no_part, parts_fault};

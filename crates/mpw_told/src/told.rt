@@ -1,0 +1,227 @@
+//! What is told on the standard error. `specs/Told.antt` and `specs/ToldFaults.antt` have what contracts say of it.
+ghost use Rattle.std.specs.Prelude.{◌≡◌, ℕ, List, IfOk};
+ghost use Rattle.std.specs.String.{string_bytes};
+ghost use Rattle.mpw_records.specs.Words.{fault_text};
+ghost use Rattle.mpw_told.specs.Told.{CannotBeRead, CannotBeWritten, Fails, Misuses, Refuses, Tells, output_text, unread_text, unwritten_text};
+ghost use Rattle.mpw_told.specs.ToldFaults.{check_told, deck_text, deck_told, library_text, line_sentence, named_text, outside_text, record_text, spaced, structure_text, tiles_text};
+
+use crate::colon::is_of_colon;
+use crate::fault::FirmFault;
+use crate::place::structure_at;
+use crate::sentences::{of_colon, of_deck, of_library, of_structure};
+use mpw_check::CheckFault;
+use mpw_deck::{DeckFault, DeckKind};
+use mpw_geom::{Name, Names};
+use mpw_hier::HierFault;
+use mpw_records::ReadFault;
+use std::alloc::{AllocError, Global};
+use std::io::{self, ErrorKind};
+
+/// A fault of a library, a deck or parts that was told, or want of memory.
+pub fn refusal(text: Result<String, AllocError>) -> FirmFault
+    ensures { (bytes : List ℕ) → IfOk text (λ t. string_bytes t ≡ bytes) → Refuses bytes result }
+{
+    match text {
+        Ok(text) => FirmFault::Refused(text),
+        Err(_) => FirmFault::Memory,
+    }
+}
+
+/// A fault of the command line that was told, or want of memory.
+pub fn misuse(text: Result<String, AllocError>) -> FirmFault
+    ensures { (bytes : List ℕ) → IfOk text (λ t. string_bytes t ≡ bytes) → Misuses bytes result }
+{
+    match text {
+        Ok(text) => FirmFault::Usage(text),
+        Err(_) => FirmFault::Memory,
+    }
+}
+
+/// The failure of a file or a device that was told, or want of memory.
+pub fn failure(text: Result<String, AllocError>) -> FirmFault
+    ensures { (bytes : List ℕ) → IfOk text (λ t. string_bytes t ≡ bytes) → Fails bytes result }
+{
+    match text {
+        Ok(text) => FirmFault::Device(text),
+        Err(_) => FirmFault::Memory,
+    }
+}
+
+/// The names, with a space before each.
+fn list_of_names(alloc: Global, names: &Names) -> Result<String, AllocError>
+    ensures { IfOk result (λ text. string_bytes text ≡ spaced names.now) }
+{
+    let mut text = String::new(alloc);
+    for name in names.as_slice() {
+        text.push_str(" ")?;
+        text.push_str(name.as_str())?;
+    }
+    Ok(text)
+}
+
+/// What is told of a deck's line.
+#[tactic(auto, unfolding(crate::specs::ToldFaults::deck_text))]
+fn line_fault(alloc: Global, file: &str, fault: DeckFault, sentence: &str) -> FirmFault
+    ensures { Refuses (deck_text file.now fault sentence.now) result }
+{
+    refusal(format!(in alloc; "{file}: {fault}: {sentence}"))
+}
+
+/// What the fault of a deck's line means and what to do.
+fn line_sentence(alloc: Global, fault: DeckFault, text: &[u8]) -> Result<&'static str, AllocError>
+    ensures { IfOk result (λ sentence. sentence.now ≡ line_sentence fault text.now) }
+{
+    if is_of_colon(alloc, fault, text)? {
+        Ok(of_colon())
+    } else {
+        Ok(of_deck(fault.kind))
+    }
+}
+
+/// What is told of a fault of a deck's text.
+pub fn deck_fault(alloc: Global, file: &str, fault: DeckFault, text: &[u8]) -> FirmFault
+    ensures { Tells (deck_told file.now fault text.now) result }
+{
+    match fault.kind {
+        DeckKind::Memory => FirmFault::Memory,
+        _ => match line_sentence(alloc, fault, text) {
+            Ok(sentence) => line_fault(alloc, file, fault, sentence),
+            Err(_) => FirmFault::Memory,
+        },
+    }
+}
+
+/// What is told where names stand outside the library.
+#[tactic(auto, unfolding(crate::specs::ToldFaults::outside_text))]
+fn outside(alloc: Global, file: &str, names: &Names) -> FirmFault
+    ensures { Refuses (outside_text file.now (spaced names.now)) result }
+{
+    match list_of_names(alloc, names) {
+        Ok(names) => refusal(format!(in alloc;
+            "{file}: structures that the library doesn't have:{names}: a check by itself needs \
+            them in the file"
+        )),
+        Err(_) => FirmFault::Memory,
+    }
+}
+
+/// What is told of a fault of records in a structure of that name.
+#[tactic(auto, unfolding(crate::specs::ToldFaults::named_text))]
+fn named_fault(
+    alloc: Global,
+    file: &str,
+    fault: ReadFault,
+    name: &Name,
+    sentence: &str,
+) -> FirmFault
+    ensures { Refuses (named_text file.now (fault_text fault) name.now sentence.now) result }
+{
+    refusal(format!(in alloc; "{file}: {fault} in {name}: {sentence}"))
+}
+
+/// What is told of a fault of records in no structure.
+#[tactic(auto, unfolding(crate::specs::ToldFaults::record_text))]
+fn record_fault(alloc: Global, file: &str, fault: ReadFault, sentence: &str) -> FirmFault
+    ensures { Refuses (record_text file.now (fault_text fault) sentence.now) result }
+{
+    refusal(format!(in alloc; "{file}: {fault}: {sentence}"))
+}
+
+/// What is told of a fault of a library's records: the code and the byte, the structure, and what it means.
+pub fn library_fault(alloc: Global, file: &str, fault: ReadFault, text: &[u8]) -> FirmFault
+    ensures { Refuses (library_text file.now fault text.now) result }
+{
+    let sentence = of_library(fault, text);
+    match structure_at(alloc, text, fault.offset) {
+        Ok(Some(name)) => named_fault(alloc, file, fault, &name, sentence),
+        Ok(None) => record_fault(alloc, file, fault, sentence),
+        Err(_) => FirmFault::Memory,
+    }
+}
+
+/// What is told of a fault of the structures below a top.
+#[tactic(auto, unfolding(crate::specs::ToldFaults::structure_text))]
+fn structure_fault(alloc: Global, file: &str, top: &str, fault: HierFault) -> FirmFault
+    ensures { Refuses (structure_text file.now top.now fault) result }
+{
+    let sentence = of_structure(fault);
+    refusal(format!(in alloc; "{file}: {top}: {fault}: {sentence}"))
+}
+
+/// What is told of a plan of too many tiles.
+#[tactic(auto, unfolding(crate::specs::ToldFaults::tiles_text))]
+pub fn tiles_fault(alloc: Global, file: &str, top: &str) -> FirmFault
+    ensures { Refuses (tiles_text file.now top.now) result }
+{
+    refusal(format!(in alloc;
+        "{file}: {top}: more than 4096 tiles: take a larger tile in the deck's first line"
+    ))
+}
+
+/// What is told of what keeps a library of that text from being checked.
+pub fn check_fault(
+    alloc: Global,
+    file: &str,
+    top: &str,
+    fault: &CheckFault,
+    text: &[u8],
+) -> FirmFault
+    ensures { Tells (check_told file.now top.now fault.now text.now) result }
+{
+    match fault {
+        CheckFault::Memory => FirmFault::Memory,
+        CheckFault::Library(fault) => library_fault(alloc, file, *fault, text),
+        CheckFault::Outside(names) => outside(alloc, file, names),
+        CheckFault::Structure(fault) => structure_fault(alloc, file, top, *fault),
+    }
+}
+
+/// What is told of a file or a device that can't be read, for that reason.
+#[tactic(auto, unfolding(crate::specs::Told::unread_text))]
+fn unread(alloc: Global, file: &str, reason: &str) -> FirmFault
+    ensures { Fails (unread_text file.now reason.now) result }
+{
+    failure(format!(in alloc; "{file}: can't be read: {reason}"))
+}
+
+/// What is told of a file that can't be written, for that reason.
+#[tactic(auto, unfolding(crate::specs::Told::unwritten_text))]
+pub fn unwritten(alloc: Global, file: &str, reason: &str) -> FirmFault
+    ensures { Fails (unwritten_text file.now reason.now) result }
+{
+    failure(format!(in alloc; "{file}: can't be written: {reason}"))
+}
+
+/// What is told of a file or a device that can't be read, with what the system says of it.
+pub fn unread_by(alloc: Global, file: &str, error: io::Error) -> FirmFault
+    ensures { CannotBeRead file.now result }
+{
+    if error.kind() == ErrorKind::OutOfMemory {
+        return FirmFault::Memory;
+    }
+    match error.to_string(alloc) {
+        Ok(reason) => unread(alloc, file, reason.as_str()),
+        Err(_) => FirmFault::Memory,
+    }
+}
+
+/// What is told of a file that can't be written, with what the system says of it.
+pub fn unwritten_by(alloc: Global, file: &str, error: io::Error) -> FirmFault
+    ensures { CannotBeWritten file.now result }
+{
+    if error.kind() == ErrorKind::OutOfMemory {
+        return FirmFault::Memory;
+    }
+    match error.to_string(alloc) {
+        Ok(reason) => unwritten(alloc, file, reason.as_str()),
+        Err(_) => FirmFault::Memory,
+    }
+}
+
+/// What is told where the standard output failed.
+#[tactic(auto, unfolding(crate::specs::Told::output_text))]
+pub fn output_fault(alloc: Global) -> FirmFault
+    ensures { Fails output_text result }
+{
+    failure(String::from_str(alloc, "the standard output failed"))
+}
