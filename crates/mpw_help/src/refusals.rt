@@ -52,7 +52,7 @@ static LIMITS: [Entry; 9] = [
     Entry {
         word: "shapes",
         form: "REFUSED 25 shapes",
-        meaning: "the structure shows more than 2^20 shapes",
+        meaning: "the structure shows more than 2^20 shapes (`mpw check`: 2^40)",
         detail: Detail::Refusal {
             number: "25",
             remedy: "split it, and check each piece with --top; on the wafer, place less",
