@@ -7,6 +7,9 @@ use mpw_plain::put_text;
 use mpw_walk::{Root, Walk, all_fit};
 use mpw_words::number;
 
+/// The most shapes that a submission may show: those of a desk's.
+const MAX_SHAPES: u64 = 1 << 20;
+
 /// Prints how many shapes and levels the submission shows, or why there is none.
 pub fn submit(
     rt: &(impl Print + AllocGlobal),
@@ -15,7 +18,7 @@ pub fn submit(
     top: &str,
     bytes: &[u8],
 ) -> Result<()> {
-    match put_text(rt.alloc(), shelf, cell, top, bytes)? {
+    match put_text(rt.alloc(), shelf, cell, top, bytes, MAX_SHAPES)? {
         Ok(number) => {
             let (count, height) = (shelf.count(number), shelf.height(number));
             Ok(println!(rt; "    {number}: {count} shapes, {height} levels")?)

@@ -4,7 +4,7 @@ ghost use Rattle.mpw_structures.specs.Library.{IsLibrary};
 
 use anyhow::Result;
 use mpw_geom::Name;
-use mpw_hier::{HierFault, Outline, Shelf, Submission};
+use mpw_hier::{HierFault, MAX_SHAPES, Outline, Shelf, Submission};
 use mpw_library::read_library;
 use mpw_samples::text_of_library;
 use mpw_structures::Library;
@@ -31,7 +31,7 @@ fn put(
         top,
         bound,
     };
-    shelf.put(alloc, submission, &outline)
+    shelf.put(alloc, submission, &outline, MAX_SHAPES)
 }
 
 /// Submits a square as a cell, and gives the submission's number.
