@@ -137,6 +137,76 @@ def fault(at, layer, x, structure="TOP"):
     return f"fault: two-bars.gds: notmanhattan at byte {at} in {structure}, layer {layer}/0, at {x},9000"
 
 
+def reference(kind, x, y, turned=b""):
+    """A reference to ARM at a point, as SREF, or as AREF of one column and row; behind STRANS and ANGLE where it is turned."""
+    points = [(x, y)] if kind == 10 else [(x, y), (x + 500, y), (x, y + 500)]
+    counts = b"" if kind == 10 else record(19, 2, struct.pack(">HH", 1, 1))
+    place = b"".join(struct.pack(">ii", *point) for point in points)
+    return record(kind, 0) + record(18, 6, b"ARM\0") + turned + counts + record(16, 3, place) + record(17, 0)
+
+
+# STRANS and an ANGLE of 90 degrees, which is 5A hex times 16 ^ 2 over 256.
+QUARTER = record(26, 1, bytes(2)) + record(28, 5, bytes([0x42, 0x5A, 0, 0, 0, 0, 0, 0]))
+
+
+def is_reported(references, in_top, box):
+    """ARM, with a triangle whose points are 0,9000 and 90,9000 and 90,9090, is placed by these references; where it is told in the top's coordinates, and with
+    which box, is worked out by hand."""
+    with Folder() as folder:
+        text, _ = with_elements(folder.read("two-bars.gds"), references)
+        place = text.rindex(record(4, 0))
+        arm = record(5, 2, bytes(24)) + record(6, 6, b"ARM\0")
+        folder.write("two-bars.gds", text[:place] + arm + triangle(5, 0) + ENDSTR + text[place:])
+        at = place + len(arm) + 16
+        status, printed, told = folder.run(*CHECK, "--faults", "--report", "report", "two-bars.gds")
+        report = folder.read("report").decode()
+        found = {
+            "status": status,
+            "printed": printed,
+            "told": told,
+            "items": report.count("<item>"),
+            "text": report.count(f"<value>text: 'notmanhattan at byte {at} in ARM'</value>"),
+            "boxes": [line.strip() for line in report.splitlines() if "box: " in line],
+            "description": "<description>Markers of TOP; the library has faults, so nothing is checked</description>" in report,
+        }
+        behind = f", in TOP at {in_top}" if in_top else ""
+        wanted = {
+            "status": 4,
+            "printed": b"",
+            "told": [fault(at, 5, 0, "ARM") + behind, slanted(at, "ARM")],
+            "items": 1,
+            "text": 1,
+            "boxes": [f"<value>box: {box}</value>"] if box else [],
+            "description": True,
+        }
+        return differing(found, wanted)
+
+
+def is_described(rules, elements, description):
+    """What the report's description tells of what is looked at."""
+    with Folder() as folder:
+        folder.write("bars.deck", b"tile 256\n" + rules)
+        text, _ = with_elements(folder.read("two-bars.gds"), elements)
+        folder.write("two-bars.gds", text)
+        folder.run(*CHECK, "--report", "report", "two-bars.gds")
+        found = [line.strip() for line in folder.read("report").decode().splitlines() if line.startswith(" <description>")]
+        return differing({"description": found}, {"description": [f"<description>Markers of TOP{description}</description>"]})
+
+
+def are_stitched(limit, lines, left):
+    """The whole of one part lists as many markers of each rule as a check does."""
+    with Folder() as folder:
+        folder.write("bars.deck", b"tile 256\nwidth w 1/0 700\nspace s 1/0 51\n")
+        _, part, _ = folder.run(*CHECK, "--tiles", "1/1", "two-bars.gds")
+        folder.write("part", part)
+        status, printed, told = folder.run("stitch", "--limit", limit, "--report", "report", "part")
+        report = folder.read("report").decode()
+        found = {"status": status, "printed": printed.decode().splitlines(), "notes": [line for line in told if line.startswith("note: ")]}
+        found["items"] = report.count("<item>")
+        notes = [f"note: rule w: {left} of 4 markers left out"] if left else []
+        return differing(found, {"status": 1, "printed": [f"OK {len(lines)}", *lines], "notes": notes, "items": len(lines)})
+
+
 def unreached(count, faults):
     """What is told of structures that are left out."""
     told = f"note: two-bars.gds: structures left out, which the checked one doesn't reach: {count}"
@@ -246,7 +316,22 @@ CASES = {
     "three markers of each rule": lambda: is_limited("3", [*WIDE[:3], GAP], 1),
     "a limit that leaves none out": lambda: is_limited("4", [*WIDE, GAP], 0),
     "a limit that is none": lambda: is_no_limit("0"),
-    "a part with a limit": lambda: is_part_alone(["--limit", "1"], "error: a part has all markers of its tiles: --limit is for a check of all tiles"),
+    "a part with a limit": lambda: is_part_alone(["--limit", "1"], "error: a part has all markers of its tiles: give --limit to 'mpw stitch'"),
+    "one marker of each rule of parts": lambda: are_stitched("1", [*WIDE[:1], GAP], 3),
+    "all markers of parts": lambda: are_stitched("4", [*WIDE, GAP], 0),
+    "a fault in a structure that is placed once": lambda: is_reported(reference(10, 100, 200), "100,9200", "(0.1,9.2;0.19,9.29)"),
+    "a fault in a structure that is turned": lambda: is_reported(reference(10, 100, 200, QUARTER), "-8900,200", "(-8.99,0.2;-8.9,0.29)"),
+    "a fault in a structure in an array of one": lambda: is_reported(reference(11, 100, 200), "100,9200", "(0.1,9.2;0.19,9.29)"),
+    "a fault in a structure that is placed twice": lambda: is_reported(reference(10, 100, 200) + reference(10, 900, 200), None, None),
+    "a fault in a structure that is placed nowhere": lambda: is_reported(b"", None, None),
+    "a report of a check that looks at all": lambda: is_described(b"space s 1/0 51\n", b"", ""),
+    "a report under a deck without rules": lambda: is_described(
+        b"", b"", "; the deck has no rules, so nothing is looked at; no rule names layer 1/0, which has 2 shapes"
+    ),
+    "a report of a rule that looks at nothing": lambda: is_described(
+        b"space s 1/0 51\nspace t 2/0 9\n", boundary(7, [(0, 5000), (90, 5000), (90, 5090), (0, 5090), (0, 5000)]),
+        "; rule t looks at nothing: layer 2/0 has no shapes; no rule names layer 7/0, which has 1 shapes",
+    ),
     "a colon in a rule's name": lambda: is_colon("width"),
     "a colon in a line that is none": lambda: is_colon("#"),
 }

@@ -221,17 +221,17 @@ def looks(deck, strict, status, printed, told):
         return differing(found, {"status": status, "printed": printed, "told": told, "kept": status == 4})
 
 
-def is_covered(side, status, told):
+def is_covered(side, status, told, *words):
     """The pad ring by tiles of that side: its outermost shapes, the guard ring, are 3000 within the die of 400000. 64 tiles of 6157 cover 394000
     and the edge behind them each way, and of 6156 it takes 65."""
     with Folder() as folder:
         folder.write("bars.deck", f"tile {side}\nspace s 1/0 51\n".encode())
-        ended = folder.run(*CHECK, os.path.join(HERE, "pad-ring.gds"))
+        ended = folder.run(*CHECK, *words, os.path.join(HERE, "pad-ring.gds"))
         lines = [line.replace(HERE + "/", "") for line in ended[2] if line.startswith("error")]
         return differing({"status": ended[0], "told": lines}, {"status": status, "told": told})
 
 
-MANY = "error: pad-ring.gds: TOP: more than 4096 tiles: the deck's first line has to be at least 'tile 6157', or --tile at least 6157"
+MANY = "error: pad-ring.gds: TOP: more than 4096 tiles: the deck's first line has to be at least 'tile 6157'"
 
 
 def has_tops():
@@ -336,8 +336,10 @@ CASES = {
     "a layout that is looked at, strictly": lambda: looks(b"tile 256\nwidth w 1/0 50\n", True, 0, b"OK 0\n", []),
     "a structure that isn't there": has_tops,
     "tiles of the least side": lambda: is_covered(6157, 0, []),
-    "tiles of a lesser side": lambda: is_covered(6156, 4, [MANY]),
-    "tiles of a far lesser side": lambda: is_covered(256, 4, [MANY]),
+    "tiles of a lesser side": lambda: is_covered(6156, 0, []),
+    "tiles of a far lesser side": lambda: is_covered(256, 0, []),
+    "a part of tiles of the least side": lambda: is_covered(6157, 0, [], "--tiles", "1/4"),
+    "a part of tiles of a lesser side": lambda: is_covered(6156, 4, [MANY], "--tiles", "1/4"),
     "a library that never ends": lambda: is_endless([*CHECK, "/dev/zero"], 4, "error: /dev/zero: badlength at byte 0: the file doesn't begin as GDSII does"),
     "a deck that never ends": lambda: is_endless(["check", "--deck", "/dev/zero", "--top", "TOP", "two-bars.gds"], 4, "error: /dev/zero: line 1: "),
     "a part that never ends": lambda: is_endless(["stitch", "/dev/zero"], 4, "error: /dev/zero: no part"),
