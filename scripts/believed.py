@@ -26,8 +26,6 @@ LAWS = {
     ("mpw_run/specs/Same.antt", "same_snapshot"): ("mpw_run/specs/Laws.antt", "TestsAreExact"),
     ("mpw_run/specs/Same.antt", "same_tile_job"): ("mpw_run/specs/Laws.antt", "TestsAreExact"),
     ("mpw_run/specs/Stitching.antt", "stitched"): ("mpw_run/specs/Laws.antt", "StitchedComputes"),
-    ("mpw_edges/specs/Computed.antt", "has_pair_step"): ("mpw_edges/specs/Computed.antt", "TestDecidesPairSteps"),
-    ("mpw_job/specs/Layout.antt", "shown_on"): ("mpw_job/specs/Laws.antt", "TestsTellShown"),
     ("mpw_geom/specs/Links.antt", "leads"): ("mpw_geom/specs/Links.antt", "Leads"),
     ("mpw_hier/specs/Reach.antt", "is_cyclic"): ("mpw_hier/specs/Reach.antt", "CyclesAreFound"),
     ("mpw_hier/specs/Reach.antt", "external_names"): ("mpw_hier/specs/Reach.antt", "NamesOutsideAreFound"),
