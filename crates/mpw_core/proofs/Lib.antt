@@ -3,6 +3,7 @@ pub mod HistoryLemmas
 pub mod RefusalLemmas
 pub mod KeepingLemmas
 mod RunLemmas
+mod TakenLemmas
 pub mod OutcomeLemmas
 mod PlacingLemmas
 mod ReadyLemmas

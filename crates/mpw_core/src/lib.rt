@@ -17,4 +17,6 @@ mod settling;
 mod tables;
 
 pub use desk::{Core, MAX_EVENTS, replay};
-pub use laws::{every_state_counts_its_runs, every_state_keeps_its_placings};
+pub use laws::{
+    every_state_counts_its_hand_outs, every_state_counts_its_runs, every_state_keeps_its_placings,
+};

@@ -16,8 +16,8 @@ use Rattle.mpw_run.specs.declared.phase.RunReply.TheVariants as reply
 use Rattle.mpw_run.specs.declared.prepare.Change.TheVariants as change
 use Rattle.mpw_run.specs.declared.prepare.Prepared.{Prepared}
 use Rattle.mpw_run.specs.Run.{Planned, Tile, Checks, answers_of, answered, IsPlanned, IsChecks}
-use Rattle.mpw_run.specs.Step.{Run, Offer, Outcome, IsPhase, IsRun, job_of_tile, with_tiles, raised, answered_by, new_tiles, handed, begun, kept, next_from}
-use Rattle.mpw_run.specs.Prepared.{set_tile, next_phase, applied, IsPrepared}
+use Rattle.mpw_run.specs.Step.{Run, Offer, Outcome, IsPhase, IsRun, TakenAtMost, job_of_tile, with_tiles, raised, answered_by, new_tiles, handed, begun, kept, next_from}
+use Rattle.mpw_run.specs.Prepared.{set_tile, next_phase, applied, MayTake, IsPrepared}
 use Rattle.mpw_run.specs.Stitching.{stitched}
 use Rattle.mpw_run.specs.Laws.{StitchedComputes}
 use Rattle.mpw_run.proofs.TileLists.{one_answered}
@@ -33,20 +33,25 @@ phase_of run phase e h = subst (IsPhase run.number) e h
 
 -- a tile is handed out
 pub take_prepared : (run : Run) (c : Checks) (o : Offer) → run.phase ≡ Checking c
-    → run.number < 2 ^ 32 → IsRun run → next_from 0 c.tiles ≡ Some o
+    → run.number < 2 ^ 32 → TakenAtMost (2 ^ 63) run.phase → IsRun run
+    → next_from 0 c.tiles ≡ Some o
     → IsPrepared (let p : Prepared = record {
       reply = reply.Taken
           (job.Tile (job_of_tile run.number c o.number));
       change = change.Take o.number;
     } in p) run
     (handed run c (Some o))
-take_prepared run c o e few h next =
+take_prepared run c o e few most h next =
     record {
       reply = refl;
       leaves = leaves;
-      fits = record { left = subst IsRun (sym leaves) now; number = few };
+      fits = record { left = subst IsRun (sym leaves) now; number = few; taken = countable };
     }
   where
+    countable : MayTake o.number run.phase
+    countable = subst (MayTake o.number) (sym e)
+        (λ x at. let few = subst (TakenAtMost (2 ^ 63)) e most o.number x at in omega (arith, few))
+
     true_of : IsPlanned c.planned × IsChecks run.number c
     true_of = phase_of run (Checking c) e h
 
@@ -82,19 +87,19 @@ offered_within run c tile e h o =
 
 -- a tile is handed out, by its number
 pub take_is : (run : Run) (c : Checks) (tile : ℕ) (tile_job : TileJob) → run.phase ≡ Checking c
-    → run.number < 2 ^ 32 → IsRun run → Some tile ≡ option_map (λ (o : Offer). o.number)
+    → run.number < 2 ^ 32 → TakenAtMost (2 ^ 63) run.phase → IsRun run → Some tile ≡ option_map (λ (o : Offer). o.number)
     (next_from 0 c.tiles)
     → tile_job ≡ job_of_tile run.number c tile
     → IsPrepared (let p : Prepared = record {
       reply = reply.Taken (job.Tile tile_job);
       change = change.Take tile;
     } in p) run (handed run c (next_from 0 c.tiles))
-take_is run c tile tile_job e few h o same =
+take_is run c tile tile_job e few most h o same =
     let q = offer_of_number (next_from 0 c.tiles) tile o in
     subst (IsPrepared (made tile_job tile) run) (sym (ap (handed run c) q.1))
     (subst (λ (t : TileJob). IsPrepared (made t tile) run (handed run c (Some q.0))) (sym same)
     (subst (λ (k : ℕ). IsPrepared (made (job_of_tile run.number c k) k) run (handed run c (Some q.0)))
-    q.2 (take_prepared run c q.0 e few h q.1)))
+    q.2 (take_prepared run c q.0 e few most h q.1)))
   where
     made : TileJob → ℕ → Prepared
     made t k = record { reply = reply.Taken (job.Tile t); change = change.Take k }
@@ -112,7 +117,7 @@ cut_prepared run planned answer e few h same windows =
     record {
       reply = refl;
       leaves = leaves;
-      fits = record { left = subst IsRun (sym leaves) now; number = few };
+      fits = record { left = subst IsRun (sym leaves) now; number = few; taken = tt };
     }
   where
     leaves : applied (change.Check answer.windows (new_tiles (tiles planned.plan))) run
@@ -160,7 +165,7 @@ keep_prepared run c k x m e few h at free right less =
     (record {
       reply = refl;
       leaves = leaves;
-      fits = record { left = subst IsRun (sym leaves) now; number = few };
+      fits = record { left = subst IsRun (sym leaves) now; number = few; taken = tt };
     })
   where
     p : Prepared
@@ -216,7 +221,7 @@ finish_prepared law computes run c k x m book e few h at free right most made =
     (record {
       reply = refl;
       leaves = leaves;
-      fits = record { left = subst IsRun (sym leaves) now; number = few };
+      fits = record { left = subst IsRun (sym leaves) now; number = few; taken = tt };
     })
   where
     p : Prepared

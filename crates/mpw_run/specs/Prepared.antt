@@ -1,5 +1,5 @@
 -- What an event changes in a run, and what is true of the change.
-use Rattle.std.specs.Prelude.{◌≡◌, ◌<◌, ◌^◌, ℕ, ◌+◌, List, Option, Some, None, slice_get, slice_set}
+use Rattle.std.specs.Prelude.{◌≡◌, ◌<◌, ◌^◌, ⊤, ℕ, ◌+◌, List, Option, Some, None, slice_get, slice_set}
 use Rattle.mpw_run.specs.declared.phase.Phase.{Phase}
 use Rattle.mpw_run.specs.declared.phase.Phase.TheVariants.{Idle, Cutting, Checking, Finished}
 use Rattle.mpw_run.specs.declared.prepare.Change.{Change}
@@ -55,10 +55,30 @@ abbrev pub applied : Change → Run → Run
 applied change run =
     record { number = next_number change run.number; phase = next_phase change run.phase }
 
--- The change may be made to the run: it leaves what is true of a run, and its number can be counted.
+-- One more hand-out of a tile can be counted.
+abbrev pub MayCount : Tile → Type 0
+MayCount tile = tile.taken + 1 < 2 ^ 64
+
+abbrev pub MayTake : ℕ → Phase → Type 0
+MayTake number Idle = ⊤
+MayTake number (Cutting planned) = ⊤
+MayTake number (Checking c) = (tile : Tile) → slice_get c.tiles number ≡ Some tile → MayCount tile
+MayTake number (Finished f) = ⊤
+
+-- A tile that the change counts as handed out can be.
+abbrev pub IsCountable : Change → Phase → Type 0
+IsCountable change.Nothing phase = ⊤
+IsCountable (change.Start planned) phase = ⊤
+IsCountable (change.Check windows tiles) phase = ⊤
+IsCountable (change.Take number) phase = MayTake number phase
+IsCountable (change.Keep number markers) phase = ⊤
+IsCountable (change.Finish book) phase = ⊤
+
+-- The change may be made to the run: it leaves what is true of a run, and its number and what was handed out can be counted.
 pub record IsFitting (change : Change) (run : Run) : Type 0 where
   pub left : IsRun (applied change run)
   pub number : next_number change run.number < 2 ^ 32
+  pub taken : IsCountable change run.phase
 
 -- What was prepared for the run has that outcome.
 pub record IsPrepared (prepared : Prepared) (run : Run) (outcome : Outcome) : Type 0 where

@@ -1,6 +1,5 @@
 -- What the events of a run are answered, and the state that each leaves.
-use Rattle.std.specs.Prelude.{◌==◌, ⊤, ℕ, ◌+◌, List, [], ◌∷◌, length, Option, Some, None, slice_get, slice_set, replicate, nat_le, nat_lt, if◌then◌else◌}
-use Rattle.std.specs.Io.Iter.{u64_saturate}
+use Rattle.std.specs.Prelude.{◌≡◌, ◌≤◌, ◌==◌, ⊤, ℕ, ◌+◌, List, [], ◌∷◌, length, Option, Some, None, slice_get, slice_set, replicate, nat_le, nat_lt, if◌then◌else◌}
 use Rattle.mpw_tiles.specs.Plan.{tiles}
 use Rattle.mpw_markers.specs.declared.marker.Marker.{Marker}
 use Rattle.mpw_job.specs.declared.job.CutJob.{CutJob}
@@ -92,9 +91,9 @@ next_from number [] = None
 next_from number (tile ∷ rest) =
     offered tile.answer (record { number = number; tile = tile }) (next_from (number + 1) rest)
 
--- The tile was handed out once more; the count stops at its greatest number. The tile is answered.
+-- The tile was handed out once more. The tile is answered.
 abbrev pub raised : Tile → Tile
-raised tile = record { taken = u64_saturate (tile.taken + 1); answer = tile.answer }
+raised tile = record { taken = tile.taken + 1; answer = tile.answer }
 
 abbrev pub answered_by : List Marker → Tile → Tile
 answered_by markers tile = record { taken = tile.taken; answer = Some markers }
@@ -211,3 +210,11 @@ IsPhase number (Finished f) = IsPlanned f.planned × AreLayoutMarkers f.planned.
 
 abbrev pub IsRun : Run → Type 0
 IsRun run = IsPhase run.number run.phase
+
+-- Each tile of a phase was handed out so many times at most.
+abbrev pub TakenAtMost : ℕ → Phase → Type 0
+TakenAtMost most Idle = ⊤
+TakenAtMost most (Cutting planned) = ⊤
+TakenAtMost most (Checking c) =
+    (number : ℕ) (tile : Tile) → slice_get c.tiles number ≡ Some tile → tile.taken ≤ most
+TakenAtMost most (Finished f) = ⊤

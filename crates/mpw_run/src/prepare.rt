@@ -2,7 +2,7 @@
 
 ghost use Rattle.std.specs.Prelude.{◌≡◌, ◌<◌, ◌^◌};
 ghost use Rattle.mpw_run.specs.declared.prepare.Change.TheVariants as change;
-ghost use Rattle.mpw_run.specs.Prepared.{next_number, next_phase};
+ghost use Rattle.mpw_run.specs.Prepared.{IsCountable, MayTake, next_number, next_phase};
 ghost use Rattle.mpw_run.specs.Step.{book_size};
 
 use crate::phase::{Checked, Checks, Phase, Planned, RunReply};
@@ -56,6 +56,7 @@ fn check(phase: Phase, windows: Windows, tiles: Tiles) -> Phase
 
 /// The check of which a tile was handed out. A phase that is not checked is left.
 fn take(phase: Phase, tile: u32) -> Phase
+    requires { MayTake tile phase }
     ensures { result ≡ next_phase (change.Take tile) phase }
 {
     match phase {
@@ -132,6 +133,7 @@ pub(crate) fn next_size(change: &Change, phase: &Phase) -> usize
 
 /// The phase that a change leaves.
 pub(crate) fn next_phase(change: Change, phase: Phase) -> Phase
+    requires { IsCountable change phase }
     ensures { result ≡ next_phase change phase }
 {
     match change {

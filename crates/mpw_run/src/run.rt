@@ -3,7 +3,7 @@
 ghost use Rattle.std.specs.Prelude.{◌≡◌, ◌+◌, ◌<◌, ◌^◌, IfOk, Some, None, length, slice_get};
 ghost use Rattle.mpw_run.specs.Run.{Tile as TileValue};
 ghost use Rattle.mpw_run.specs.declared.phase.RunReply.TheVariants.{Kept};
-ghost use Rattle.mpw_run.specs.Step.{IsRun, book_size, new_run, started, cancelled, restarted, restarted_phase, taken, tile_answered, tile_checked, job_of_tile, cut_answered, begun, handed, next_from, kept, answered_by};
+ghost use Rattle.mpw_run.specs.Step.{IsRun, TakenAtMost, book_size, new_run, started, cancelled, restarted, restarted_phase, taken, tile_answered, tile_checked, job_of_tile, cut_answered, begun, handed, next_from, kept, answered_by};
 ghost use Rattle.mpw_run.specs.declared.phase.Phase.TheVariants.{Cutting, Checking};
 ghost use Rattle.mpw_run.specs.Prepared.{IsFitting, IsPrepared, applied, set_tile};
 
@@ -144,6 +144,7 @@ impl Run {
     /// # Errors
     /// Where no more copies of the job's parts can be counted, or there is no memory for them.
     pub fn prepare_take(&self, alloc: Global) -> Result<Prepared, AllocError>
+        requires { TakenAtMost (2 ^ 63) self.now.phase }
         ensures { IfOk result (λ p. IsPrepared p self.now (taken self.now)) }
     {
         self.is_run();
@@ -162,6 +163,7 @@ impl Run {
     /// What a call for a job is answered while tiles are checked.
     fn prepare_tile_job(&self, c: &Checks) -> Result<Prepared, AllocError>
         requires phase { self.now.phase ≡ Checking c.now }
+        requires taken { TakenAtMost (2 ^ 63) self.now.phase }
         ensures { IfOk result (λ p. IsPrepared p self.now (handed self.now c.now (next_from 0 c.now.tiles))) }
     {
         self.is_run();

@@ -1,10 +1,10 @@
 //! The tiles of a run: how often each was handed out, and what was kept for it.
 
-ghost use Rattle.std.specs.Prelude.{◌≡◌, ◌<◌, ◌^◌, ◌++◌, length, IfOk, OnOk, slice_get, Option, option_map};
+ghost use Rattle.std.specs.Prelude.{◌≡◌, ◌<◌, ◌^◌, ◌++◌, length, IfOk, OnOk, slice_get, Option, Some, option_map};
 ghost use Rattle.std.specs.Option.{option_to_list};
-ghost use Rattle.mpw_run.specs.Run.{answered, answers_of};
+ghost use Rattle.mpw_run.specs.Run.{Tile as TileValue, answered, answers_of};
 ghost use Rattle.mpw_run.specs.Step.{Offer, new_tiles, next_from, offered, raised, answered_by, handed_out};
-ghost use Rattle.mpw_run.specs.Prepared.{set_tile};
+ghost use Rattle.mpw_run.specs.Prepared.{MayCount, set_tile};
 ghost use Rattle.mpw_run.specs.Internal.Prepared.{answers_with};
 ghost use Rattle.mpw_run.specs.Stitching.{stitched, AreFilled};
 
@@ -15,7 +15,7 @@ use std::marker::Model;
 
 /// A tile of a run: how often it was handed out, and the markers that were kept for it.
 pub(crate) struct Tile {
-    /// How often it was handed out, up to 2^64 - 1.
+    /// How often it was handed out.
     pub taken: u64,
     /// The markers that were kept; none before it is answered.
     pub answer: Option<TileMarkers>,
@@ -37,11 +37,12 @@ impl Model for Tile {
 }
 
 impl Tile {
-    /// Counts that the tile was handed out; the count stops at its greatest number.
+    /// Counts that the tile was handed out.
     fn raise(&mut self)
+        requires { MayCount self.old }
         ensures { self.new ≡ raised self.old }
     {
-        self.taken = self.taken.saturating_add(1);
+        self.taken += 1;
     }
 
     /// How many lists are kept for it: 1 where it is answered.
@@ -177,7 +178,8 @@ impl Tiles {
 
     /// Counts that the tile was handed out.
     pub(crate) fn raise(&mut self, tile: u32)
-        requires { tile < length self.old }
+        requires tile { tile < length self.old }
+        requires counted { (x : TileValue) → slice_get self.old tile ≡ Some x → MayCount x }
         ensures { self.new ≡ set_tile raised tile self.old (slice_get self.old tile) }
     {
         self.items[tile as usize].raise();

@@ -1,11 +1,11 @@
--- How many runs a request leaves counted.
+-- How many runs a request leaves counted, and that it hands nothing out.
 use Rattle.std.proofs.Common.{◌≤◌, ℕ, ◌+◌, List, Result, Ok, Err, arith}
 use Rattle.mpw_requests.specs.declared.run.RunRequest.TheVariants as ask
 use Rattle.mpw_replies.specs.Listing.{Listed}
 use Rattle.mpw_replies.specs.declared.row.Ending.{Ending}
 use Rattle.mpw_run.specs.Run.{Planned}
-use Rattle.mpw_run.specs.Step.{Run}
-use Rattle.mpw_wafer.specs.Run.Laws.{NumbersAreCounted}
+use Rattle.mpw_run.specs.Step.{Run, TakenAtMost}
+use Rattle.mpw_wafer.specs.Run.Laws.{NothingIsHandedOut, NumbersAreCounted}
 use Rattle.mpw_wafer.specs.Run.Checking.{run_row, cancel_row, status, markers, begun_outcome, left_off_outcome, listing_outcome}
 
 -- ---- numbers
@@ -37,3 +37,30 @@ numbers_counted policy shelf wafer run connection ask.Status =
     listing_counted run (status policy run connection)
 numbers_counted policy shelf wafer run connection ask.Markers =
     listing_counted run (markers policy run connection)
+
+-- ---- hand-outs
+
+begun_taken : (run : Run) (row : Result Planned Ending) (most : ℕ) → TakenAtMost most run.phase
+    → TakenAtMost most (begun_outcome run row).run.phase
+begun_taken run (Ok planned) most few = tt
+begun_taken run (Err why) most few = few
+
+cancel_taken : (run : Run) (row : Result (Unit {0}) Ending) (most : ℕ) → TakenAtMost most run.phase
+    → TakenAtMost most (left_off_outcome run row).run.phase
+cancel_taken run (Ok x) most few = tt
+cancel_taken run (Err why) most few = few
+
+listing_taken : (run : Run) (row : Result (List Listed) Ending) (most : ℕ)
+    → TakenAtMost most run.phase → TakenAtMost most (listing_outcome run row).run.phase
+listing_taken run (Ok lines) most few = few
+listing_taken run (Err why) most few = few
+
+pub nothing_handed_out : NothingIsHandedOut
+nothing_handed_out policy shelf wafer run connection ask.Run =
+    begun_taken run (run_row policy shelf wafer run connection)
+nothing_handed_out policy shelf wafer run connection ask.Cancel =
+    cancel_taken run (cancel_row policy run connection)
+nothing_handed_out policy shelf wafer run connection ask.Status =
+    listing_taken run (status policy run connection)
+nothing_handed_out policy shelf wafer run connection ask.Markers =
+    listing_taken run (markers policy run connection)

@@ -9,4 +9,4 @@ mod laws;
 mod rows;
 
 pub use answer::{NextRun, RunAnswer, answer_request};
-pub use laws::a_request_counts_one_run_at_most;
+pub use laws::{a_request_counts_one_run_at_most, a_request_hands_nothing_out};

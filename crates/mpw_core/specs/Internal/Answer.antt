@@ -8,7 +8,7 @@ use Rattle.mpw_placings.specs.Placements.{ArePlacings}
 use Rattle.mpw_placings.specs.declared.placement.Placement.{Placement}
 use Rattle.mpw_run.specs.declared.prepare.Prepared.{Prepared}
 use Rattle.mpw_run.specs.Prepared.{applied, IsFitting}
-use Rattle.mpw_run.specs.Step.{Run, book_size, cancelled, restarted}
+use Rattle.mpw_run.specs.Step.{Run, TakenAtMost, book_size, cancelled, restarted}
 use Rattle.mpw_waiver.specs.Waivers.{none_asked, with_asker, with_signer}
 use Rattle.mpw_waiver.specs.declared.waiver.Waiver.{Waiver}
 use Rattle.mpw_core.specs.declared.answer.Next.{Next}
@@ -88,14 +88,16 @@ open_state tables = state_of_tables tables false
 unfoldable pub most_calls : ℕ
 most_calls = 2147483648
 
--- what a request over the run may rest on: what is placed is on the shelf, and one more run can be counted
-pub record IsRunReady (shelf : List Submission) (placed : List Placement) (number : ℕ) :
+-- what an event of the run and a request over it may rest on: what is placed is on the shelf, and one more run and one more hand-out
+-- of each tile can be counted
+pub record IsRunReady (shelf : List Submission) (placed : List Placement) (run : Run) :
     Type 0 where
   pub placings : ArePlacings shelf placed
-  pub counted : number + 1 < 2 ^ 32
+  pub counted : run.number + 1 < 2 ^ 32
+  pub taken : TakenAtMost (2 ^ 63) run.phase
 
 abbrev pub IsReady : Tables → Type 0
-IsReady tables = IsRunReady tables.shelf tables.wafer.placings tables.run.number
+IsReady tables = IsRunReady tables.shelf tables.wafer.placings tables.run
 
 -- the places for waivers of a run that the prepared change finishes
 abbrev pub places_for : Run → Prepared → Option (List (Option Waiver))

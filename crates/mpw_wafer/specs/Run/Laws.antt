@@ -1,9 +1,9 @@
--- A law of the requests over the checking run.
+-- Laws of the requests over the checking run.
 use Rattle.std.specs.Prelude.{◌≤◌, ℕ, ◌+◌, List}
 use Rattle.mpw_hier.specs.declared.submission.Submission.{Submission}
 use Rattle.mpw_rbac.specs.Policy.{Policy}
 use Rattle.mpw_requests.specs.declared.run.RunRequest.{RunRequest}
-use Rattle.mpw_run.specs.Step.{Run}
+use Rattle.mpw_run.specs.Step.{Run, TakenAtMost}
 use Rattle.mpw_placings.specs.declared.wafer.Wafer.{Wafer}
 use Rattle.mpw_wafer.specs.Run.Checking.{Outcome, outcome_of}
 
@@ -18,3 +18,8 @@ EachOutcome holds =
 abbrev pub NumbersAreCounted : Type 0
 NumbersAreCounted = EachOutcome (λ policy run connection outcome.
     outcome.run.number ≤ run.number + 1)
+
+-- A request hands nothing out: what bounds the hand-outs of each tile before bounds them after.
+abbrev pub NothingIsHandedOut : Type 0
+NothingIsHandedOut = EachOutcome (λ policy run connection outcome.
+    (most : ℕ) → TakenAtMost most run.phase → TakenAtMost most outcome.run.phase)

@@ -1,7 +1,12 @@
 //! Laws of the definitions alone. Each function calls at most the laws that its own rests on: its contract is the law.
-ghost use Rattle.mpw_wafer.specs.Run.Laws.{NumbersAreCounted};
+ghost use Rattle.mpw_wafer.specs.Run.Laws.{NothingIsHandedOut, NumbersAreCounted};
 
 /// A request raises the number of runs by one at most.
 pub fn a_request_counts_one_run_at_most()
     ensures { NumbersAreCounted }
+{}
+
+/// A request hands no tile out.
+pub fn a_request_hands_nothing_out()
+    ensures { NothingIsHandedOut }
 {}

@@ -11,5 +11,5 @@ tile_job-requires-clause-tile c =
 pub returns : goal.returns
 returns c =
     take_is c.args.self.now c.args.c.now c.in-Some.tile c.in_ok-job.job c.requires.phase
-    c.is_counted.ensures c.is_run.ensures (sym c.in-Some.is ∙ c.next.ensures)
+    c.is_counted.ensures c.requires.taken c.is_run.ensures (sym c.in-Some.is ∙ c.next.ensures)
     (c.in_ok-job.ensures ∙ ap (λ n. job_of_tile n c.args.c.now c.in-Some.tile) c.number.ensures)
