@@ -18,6 +18,7 @@ mod pass;
 mod room;
 mod shared;
 mod step;
+mod turns;
 mod worker;
 
 pub use laws::passes_receive_the_calls_of_their_lines;

@@ -9,26 +9,33 @@ use crate::hints::{Asked, Waking};
 use crate::locked::{Locked, ask_in, event_in};
 use crate::pass::Pass;
 use crate::room::{Blank, Room};
+use crate::turns::Turns;
 use mpw_events::{Event, Handler, Keeper, Response};
 use mpw_requests::SharedRequest;
 use std::alloc::AllocError;
-use std::sync::{Condvar, Mutex, Wait};
+use std::sync::{Condvar, Mutex, MutexGuard, Wait};
 
 /// The passes made another number of calls than the desk has.
 #[derive(Clone, Copy, PartialEq, Eq, Debug)]
 pub struct Mismatch;
 
-/// A desk that threads share: each call takes its lock once.
+/// A desk that threads share: each call takes its lock once. A connection waits for it behind one worker at most.
 pub struct Shared<H: Handler + Drop, K: Keeper + Drop, N: Room> {
     pub(crate) locked: Mutex<Locked<H, K, N>>,
     pub(crate) moved: Condvar,
+    pub(crate) turns: Turns,
 }
 
 impl<H: Handler + Drop, K: Keeper + Drop, N: Room> Drop for Shared<H, K, N> {
     fn drop(self) {
-        let Shared { locked, moved } = self;
+        let Shared {
+            locked,
+            moved,
+            turns,
+        } = self;
         drop(locked);
         drop(moved);
+        drop(turns);
     }
 }
 
@@ -44,6 +51,7 @@ impl<H: Handler + Drop, K: Keeper + Drop, N: Room> Shared<H, K, N> {
         Shared {
             locked: Mutex::new(Locked::new(core, keeper, blank, first)),
             moved: Condvar::new(),
+            turns: Turns::new(),
         }
     }
 
@@ -51,12 +59,12 @@ impl<H: Handler + Drop, K: Keeper + Drop, N: Room> Shared<H, K, N> {
     pub fn pass<R: Wait>(&self, rt: &R) -> Option<Pass<N>>
         ensures { IfSome result (λ p. (p.receipts ≡ []) × (p.count ≡ 0)) }
     {
-        self.locked.lock(rt).admit()
+        self.lock(rt).admit()
     }
 
     /// The number of calls of the desk's history, as it stood while the lock was held.
     pub fn calls<R: Wait>(&self, rt: &R) -> usize {
-        self.locked.lock(rt).calls()
+        self.lock(rt).calls()
     }
 
     /// Puts a request of the pass's connection to the desk. The lock is held for the desk's step alone.
@@ -73,7 +81,7 @@ impl<H: Handler + Drop, K: Keeper + Drop, N: Room> Shared<H, K, N> {
         ensures err { OnErr result (pass.new ≡ pass.old) }
     {
         let asked = Asked::of(request.get());
-        let response = ask_in(&mut *self.locked.lock(rt), pass, request)?;
+        let response = ask_in(&mut *self.lock(rt), pass, request)?;
         self.wake(Waking::after_request(asked, &response));
         Ok(response)
     }
@@ -87,13 +95,18 @@ impl<H: Handler + Drop, K: Keeper + Drop, N: Room> Shared<H, K, N> {
         ensures err { OnErr result (pass.new ≡ pass.old) }
     {
         let connection = pass.connection();
-        event_in(&mut *self.locked.lock(rt), pass, Event::Gone { connection })
+        event_in(&mut *self.lock(rt), pass, Event::Gone { connection })
     }
 
     /// No worker waits any more: each takes once more, and returns where there is no job.
     pub fn stop<R: Wait>(&self, rt: &R) {
-        self.locked.lock(rt).hints.is_stopped = true;
+        self.lock(rt).hints.is_stopped = true;
         self.moved.notify_all();
+    }
+
+    /// The lock, in turn.
+    pub(crate) fn lock<R: Wait>(&self, rt: &R) -> MutexGuard<'_, Locked<H, K, N>> {
+        self.turns.lock(rt, &self.locked)
     }
 
     /// Wakes workers that wait.
@@ -113,8 +126,13 @@ impl<H: Handler + Drop, K: Keeper + Drop, N: Room> Shared<H, K, N> {
     pub fn finish(self, passes: Vec<Pass<N>>) -> Result<(Box<H>, K), Mismatch>
         ensures { IfOk result (λ left. IsFinished N.begun (kept_desk (H.desk left.0.value) (K.kept left.1) (K.failures left.1)) passes.items) }
     {
-        let Shared { locked, moved } = self;
+        let Shared {
+            locked,
+            moved,
+            turns,
+        } = self;
         drop(moved);
+        drop(turns);
         locked.into_inner().finish(passes)
     }
 }

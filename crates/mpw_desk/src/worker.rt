@@ -145,7 +145,8 @@ impl<H: Handler + Drop, K: Keeper + Drop, N: Room> Shared<H, K, N> {
         ensures last { EndsRightly result pass.old pass.new }
     {
         let mut is_eager = is_eager;
-        let mut guard = self.locked.lock(rt);
+        let mut place = Some(self.turns.first_in_line(rt));
+        let mut guard = self.lock(rt);
         for _ in rt.forever() {
             let hints = guard.hints;
             if is_eager || hints.is_stopped || hints.may_take() {
@@ -155,6 +156,7 @@ impl<H: Handler + Drop, K: Keeper + Drop, N: Room> Shared<H, K, N> {
                     next => return next,
                 }
             }
+            drop(place.take());
             guard = self.moved.wait(rt, guard);
         }
         unreachable!()
@@ -165,12 +167,14 @@ impl<H: Handler + Drop, K: Keeper + Drop, N: Room> Shared<H, K, N> {
         requires { AnyMayHandIn event }
         ensures { Works pass.old pass.new }
     {
-        let mut guard = self.locked.lock(rt);
+        let place = self.turns.first_in_line(rt);
+        let mut guard = self.lock(rt);
         let answered = event_in(&mut *guard, pass, event);
         if let Some(run) = cut {
             guard.hints.note_cut(run);
         }
         drop(guard);
+        drop(place);
         match answered {
             Ok(response) => {
                 self.wake(Waking::after_job(cut.is_some(), &response));
@@ -202,7 +206,7 @@ impl<H: Handler + Drop, K: Keeper + Drop, N: Room> Shared<H, K, N> {
             Ok(event) => self.hand_in(rt, pass, cut, event),
             Err(_) => {
                 if let Some(run) = cut {
-                    self.locked.lock(rt).hints.note_cut(run);
+                    self.lock(rt).hints.note_cut(run);
                 }
                 false
             }
