@@ -38,7 +38,7 @@ def proved_in(source):
     """The crates that a gate's log beside a clone says were proved."""
     try:
         with open(f"{source}.log", encoding="utf-8", errors="replace") as log:
-            return set(re.findall(r"^rt: (\w+) proved$", log.read(), re.M))
+            return set(re.findall(r"^rt: (\w+) (?:proved|is kept: .*)$", log.read(), re.M))
     except OSError:
         return set()
 
