@@ -1,13 +1,15 @@
 -- What stands in a text, one step further.
-use Rattle.std.proofs.Common.{◌≡◌, ◌∙◌, ◌≤◌, ◌+◌, ◌-◌, ◌%◌, ◌||◌, ℕ, suc, List, [], ◌∷◌, drop, length, Bool, true, false, cond, ltb, eqb, refl, sym, ap, Option, Some, None, Ok, Err}
-use Rattle.std.proofs.lemmas.Bool.{ltb-false}
+use Rattle.std.proofs.Common.{◌≡◌, ◌∙◌, ◌<◌, ◌≤◌, ◌+◌, ◌-◌, ◌%◌, ◌||◌, ℕ, suc, List, [], ◌∷◌, drop, length, Bool, true, false, cond, ltb, eqb, refl, sym, ap, Option, Some, None, Ok, Err}
+use Rattle.std.proofs.lemmas.Bool.{le-ltb, lt-ltb, ltb-false}
 use Rattle.mpw_records.specs.declared.fault.Code.{Code}
 use Rattle.mpw_records.specs.declared.fault.Code.TheVariants.{Short, BadLength}
 use Rattle.mpw_records.specs.Format.{data_fault}
 use Rattle.mpw_records.specs.Records.{RawRecord, RecordOutcome, first_fault, front, outcomes, outcomes_of, record_of, told_length, unless_fault}
 use Rattle.std.specs.Prelude.{slice_index}
+use Rattle.mpw_skipping.specs.Before.{kind_of, kind_until, offset_of, opened_after, opened_until}
 use Rattle.mpw_skipping.specs.Elements.{elements_in}
 use Rattle.mpw_skipping.specs.Found.{found_from, goes_on}
+use Rattle.mpw_skipping.specs.Names.{names_in}
 use Rattle.mpw_skipping.specs.Structures.{links_in, structures_in}
 use Rattle.mpw_skipping.specs.declared.span.Opened.{Opened}
 use Rattle.mpw_skipping.specs.declared.standing.Standing.{Standing}
@@ -16,7 +18,8 @@ use Rattle.mpw_skipping.specs.declared.standing.Standing.{Standing}
 
 -- An outcome at another place.
 abbrev pub placed : ℕ → RecordOutcome → RecordOutcome
-placed at (Ok r) = Ok (record { offset = at; kind = r.kind; data_type = r.data_type; bytes = r.bytes })
+placed at (Ok r) =
+    Ok (record { offset = at; kind = r.kind; data_type = r.data_type; bytes = r.bytes })
 placed at (Err f) = Err (record { code = f.code; offset = at })
 
 moved : (o : Option Code) (at : ℕ) (text : List ℕ)
@@ -97,3 +100,45 @@ pub links_none : (text : List ℕ) (s : Standing) (rs : List RecordOutcome) → 
     → links_in text s rs ≡ []
 unfolding links_in
 links_none text s rs e = rw e refl
+
+-- ---- names
+
+pub names_none : (kind : ℕ) (o : Opened) (rs : List RecordOutcome) → rs ≡ []
+    → names_in kind o rs ≡ []
+unfolding names_in
+names_none kind o rs e = rw e refl
+
+-- ---- up to a byte
+
+pub opened_end : (offset : ℕ) (o : Opened) (rs : List RecordOutcome) → rs ≡ []
+    → opened_until offset o rs ≡ o
+unfolding opened_until
+opened_end offset o rs e = rw e refl
+
+pub opened_there : (offset : ℕ) (o : Opened) (rs rest : List RecordOutcome) (found : RecordOutcome)
+    → rs ≡ found ∷ rest → offset ≤ offset_of found → opened_until offset o rs ≡ o
+unfolding opened_until
+opened_there offset o rs rest found e h = rw (e, le-ltb (offset_of found) offset h) refl
+
+pub opened_more : (offset : ℕ) (o : Opened) (rs rest : List RecordOutcome) (found : RecordOutcome)
+    → rs ≡ found ∷ rest → offset_of found < offset
+    → opened_until offset o rs ≡ opened_until offset (opened_after found o) rest
+unfolding opened_until
+opened_more offset o rs rest found e h = rw (e, lt-ltb (offset_of found) offset h) refl
+
+pub kind_end : (offset : ℕ) (last : Option ℕ) (rs : List RecordOutcome) → rs ≡ []
+    → kind_until offset last rs ≡ last
+unfolding kind_until
+kind_end offset last rs e = rw e refl
+
+pub kind_there : (offset : ℕ) (last : Option ℕ) (rs rest : List RecordOutcome)
+    (found : RecordOutcome) → rs ≡ found ∷ rest → offset ≤ offset_of found
+    → kind_until offset last rs ≡ last
+unfolding kind_until
+kind_there offset last rs rest found e h = rw (e, le-ltb (offset_of found) offset h) refl
+
+pub kind_more : (offset : ℕ) (last : Option ℕ) (rs rest : List RecordOutcome)
+    (found : RecordOutcome) → rs ≡ found ∷ rest → offset_of found < offset
+    → kind_until offset last rs ≡ kind_until offset (kind_of found) rest
+unfolding kind_until
+kind_more offset last rs rest found e h = rw (e, lt-ltb (offset_of found) offset h) refl

@@ -1,5 +1,7 @@
+pub mod Before
 pub mod Cuts
 pub mod Elements
 pub mod Found
+pub mod Names
 pub mod Structures
 pub mod Internal

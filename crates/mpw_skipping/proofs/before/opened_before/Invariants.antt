@@ -1,0 +1,10 @@
+use Rattle.std.proofs.Common.{◌≡◌, length}
+use Rattle.mpw_skipping.specs.Before.{opened_before, opened_until}
+use Rattle.mpw_skipping.proofs.before.opened_before.Given as goal
+
+-- from what is open here what is left leads to the same
+abbrev pub invariant-loop-found : goal.invariant-loop-found
+invariant-loop-found l = opened_until l.offset l.opened l.finds ≡ opened_before l.text l.offset
+
+abbrev pub decreases-loop-found : goal.decreases-loop-found
+decreases-loop-found l = length l.finds
