@@ -1,35 +1,9 @@
--- Names by what they are seen as, and one record further.
-use Rattle.std.proofs.Common.{◌≡◌, ◌∙◌, ◌*◌, ◌^◌, ltb, length, ◌∷◌, ℕ, List, [], Bool, true, false, map, filter, not, cond, refl, sym, ap, Ok, Err, ◌||◌}
+-- Names by what they are seen as.
+use Rattle.std.proofs.Common.{◌≡◌, ◌∙◌, ◌*◌, ◌^◌, ltb, length, ◌∷◌, ℕ, List, [], Bool, true, false, map, filter, not, cond, refl, sym, ap, ◌||◌}
 use Rattle.std.specs.List.{list_any}
-use Rattle.std.proofs.lemmas.Bool.{eq-eqb, ne_eqb}
 use Rattle.std.proofs.lemmas.List.{length-map}
 use Rattle.mpw_geom.specs.Names.{name_eq}
-use Rattle.mpw_records.specs.declared.fault.ReadFault.{ReadFault}
-use Rattle.mpw_records.specs.Records.{RawRecord, RecordOutcome}
-use Rattle.mpw_choices.specs.Tops.{is_placed, names_in, only_in, only_of, unplaced, unplaced_in}
-
--- ---- in the records of a text
-
-pub names_end : (kind : ℕ) (rs : List RecordOutcome) → rs ≡ [] → names_in kind rs ≡ []
-unfolding names_in
-names_end kind rs e = rw e refl
-
-pub names_fault : (kind : ℕ) (rs rest : List RecordOutcome) (f : ReadFault) → rs ≡ Err f ∷ rest
-    → names_in kind rs ≡ []
-unfolding names_in
-names_fault kind rs rest f e = rw e refl
-
-pub names_here : (kind : ℕ) (rs rest : List RecordOutcome) (r : RawRecord) → rs ≡ Ok r ∷ rest
-    → r.kind ≡ kind → names_in kind rs ≡ r.bytes ∷ names_in kind rest
-unfolding names_in
-names_here kind rs rest r e h = rw (e, eq-eqb r.kind kind h) refl
-
-pub names_other : (kind : ℕ) (rs rest : List RecordOutcome) (r : RawRecord) → rs ≡ Ok r ∷ rest
-    → (r.kind ≡ kind → ⊥) → names_in kind rs ≡ names_in kind rest
-unfolding names_in
-names_other kind rs rest r e h = rw (e, ne_eqb r.kind kind h) refl
-
--- ---- by what they are seen as
+use Rattle.mpw_choices.specs.Tops.{is_placed, only_in, only_of, unplaced, unplaced_in}
 
 any_seen : {A : Type 0} (h : List ℕ → Bool) (f : A → List ℕ) (xs : List A)
     → list_any h (map f xs) ≡ list_any (λ x. h (f x)) xs

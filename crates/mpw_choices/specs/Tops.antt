@@ -1,21 +1,11 @@
--- The structures of a library that nothing places, by the names in its records.
-use Rattle.std.specs.Prelude.{ℕ, ◌*◌, ◌^◌, ◌==◌, Bool, not, nat_lt, List, [], ◌∷◌, length, filter, Option, None, Some, Result, Ok, Err, if◌then◌else◌}
+-- The structures of a library that nothing places, by the names in its records, but for those in texts and nodes.
+use Rattle.std.specs.Prelude.{ℕ, ◌*◌, ◌^◌, Bool, not, nat_lt, List, [], ◌∷◌, length, filter, Option, None, Some, Result, Ok, Err, if◌then◌else◌}
 use Rattle.std.specs.List.{list_any}
 use Rattle.mpw_elements.specs.Values.{name_of}
 use Rattle.mpw_geom.specs.Names.{name_eq}
-use Rattle.mpw_records.specs.Records.{RecordOutcome, outcomes_of}
 use Rattle.mpw_records.specs.declared.fault.ReadFault.{ReadFault}
 use Rattle.mpw_records.specs.declared.kind.TheConstants.{SNAME, STRNAME}
-
--- The data of the records of a type, up to the first fault.
-unfoldable pub names_in : ℕ → List RecordOutcome → List (List ℕ)
-names_in kind [] = []
-names_in kind (Err fault ∷ rest) = []
-names_in kind (Ok r ∷ rest) =
-    if r.kind == kind then r.bytes ∷ names_in kind rest else names_in kind rest
-
-abbrev pub names_of : ℕ → List ℕ → List (List ℕ)
-names_of kind text = names_in kind (outcomes_of text)
+use Rattle.mpw_skipping.specs.Names.{names_of}
 
 -- A name is one of those that are placed.
 abbrev pub is_placed : {P : Type 0} → (P → List ℕ) → List P → List ℕ → Bool

@@ -1,31 +1,16 @@
 //! The structure of a library that nothing places.
 ghost use Rattle.std.specs.Prelude.{◌≡◌, ◌*◌, ◌^◌, nat_lt, map, take, IfOk};
-ghost use Rattle.mpw_choices.specs.Tops.{is_placed, name_in, names_of, only_in, only_of, only_top, unplaced, unplaced_in, unplaced_of};
+ghost use Rattle.mpw_choices.specs.Tops.{is_placed, name_in, only_in, only_of, only_top, unplaced, unplaced_in, unplaced_of};
 
 use mpw_elements::{ReadError, read_name};
 use mpw_geom::Name;
+use mpw_records::Record;
 use mpw_records::kind::{SNAME, STRNAME};
-use mpw_records::{Record, Records};
+use mpw_skipping::names_of;
 use std::alloc::{AllocError, Global};
 
 /// How many comparisons of names are made at most.
 const MAX_WORK: usize = 1 << 28;
-
-/// The data of the records of that type, up to the first fault.
-fn names_of<'a>(alloc: Global, text: &'a [u8], kind: u8) -> Result<Vec<&'a [u8]>, AllocError>
-    ensures { IfOk result (λ names. map (λ name. name.now) names.items ≡ names_of kind text.entry.now) }
-{
-    let mut names = Vec::new(alloc);
-    let mut records = Records::new(text);
-    while let Some(outcome) = records.next() {
-        match outcome {
-            Ok(found) if found.kind == kind => names.push(found.bytes)?,
-            Ok(_) => {}
-            Err(_) => return Ok(names),
-        }
-    }
-    Ok(names)
-}
 
 /// Whether a name is one of these.
 fn is_placed(placed: &[&[u8]], name: &[u8]) -> bool
@@ -101,9 +86,10 @@ fn only_among(alloc: Global, names: &[&[u8]], placed: &[&[u8]]) -> Result<Option
     only_of(alloc, found.as_slice())
 }
 
-/// The structure of a library's text that nothing places, where there is just one: none where there are none or several, and where
-/// the structures and the references are so many that their product is over 2^28. Each record is looked at twice, and each
-/// structure's name compared with each reference's.
+/// The structure of a library's text that nothing places, where there is just one, by the names in its records as long as their
+/// lengths are sound, but for those in texts and nodes: none where there are none or several, and where the structures and the
+/// references are so many that their product is over 2^28. Each record is looked at twice, and each structure's name compared with
+/// each reference's.
 ///
 /// # Errors
 /// Want of memory.
@@ -129,8 +115,9 @@ fn unplaced_among<'a>(
     unplaced(alloc, names, placed)
 }
 
-/// The first so many of the structures of a library's text that nothing places, by the names in its records as they stand there; none
-/// where the structures and the references are so many that their product is over 2^28. It costs what [`only_top`] does.
+/// The first so many of the structures of a library's text that nothing places, as their names stand in the records that
+/// [`only_top`] looks at; none where the structures and the references are so many that their product is over 2^28. It costs what
+/// [`only_top`] does.
 ///
 /// # Errors
 /// Want of memory.
