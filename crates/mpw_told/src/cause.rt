@@ -1,9 +1,10 @@
 //! What led to a library's fault, where its code alone doesn't tell it.
 ghost use Rattle.std.specs.Prelude.{◌≡◌, drop};
-ghost use Rattle.mpw_told.specs.Causes.{begins_with, behind_first, first_length, cause_at, cause_of};
+ghost use Rattle.mpw_told.specs.Causes.{begins_with, behind_first, cause_at, cause_of, first_length, is_behind};
 
 use mpw_records::kind::{PROPATTR, PROPVALUE, XY};
 use mpw_records::{Code, ReadFault};
+use mpw_skipping::kind_before;
 
 /// What led to a fault.
 #[derive(Clone, Copy)]
@@ -56,22 +57,35 @@ fn behind_first(text: &[u8]) -> &[u8]
     rest(text, first_length(text))
 }
 
-/// What led to a fault of that code at the first record of a text.
-#[tactic(auto, unfolding(crate::specs::Causes::cause_at))]
-fn cause_at(code: Code, text: &[u8]) -> Cause
-    ensures { result ≡ cause_at code text.now }
+/// Whether the last record before a place is of that type.
+fn is_behind(kind: u8, text: &[u8], at: usize) -> bool
+    ensures { result ≡ is_behind kind text.now at }
 {
-    match code {
-        Code::NotManhattan | Code::PointPath if begins_with(XY, behind_first(text)) => Cause::Split,
-        Code::Unexpected if begins_with(XY, text) => Cause::Split,
-        Code::Unexpected if begins_with(PROPATTR, text) || begins_with(PROPVALUE, text) => {
+    match kind_before(text, at) {
+        Some(before) => before == kind,
+        None => false,
+    }
+}
+
+/// What led to a fault of that code at a place, which has this rest of the text.
+#[tactic(auto, unfolding(crate::specs::Causes::cause_at))]
+fn cause_at(fault: ReadFault, text: &[u8], here: &[u8]) -> Cause
+    requires { here.now ≡ drop fault.offset text.now }
+    ensures { result ≡ cause_at fault.code text.now fault.offset }
+{
+    match fault.code {
+        Code::NotManhattan | Code::PointPath if begins_with(XY, behind_first(here)) => Cause::Split,
+        Code::Unexpected if begins_with(XY, here) && is_behind(XY, text, fault.offset) => {
+            Cause::Split
+        }
+        Code::Unexpected if begins_with(PROPATTR, here) || begins_with(PROPVALUE, here) => {
             Cause::Property
         }
         _ => Cause::Code,
     }
 }
 
-/// What led to a fault of a text. Constant time.
+/// What led to a fault of a text. Constant time, but for an XY that is unexpected, for which it costs a look at each record before it.
 #[tactic(auto, unfolding(crate::specs::Causes::cause_of))]
 pub fn cause_of(fault: ReadFault, text: &[u8]) -> Cause
     ensures { result ≡ cause_of fault text.now }
@@ -79,6 +93,6 @@ pub fn cause_of(fault: ReadFault, text: &[u8]) -> Cause
     if fault.offset == 0 {
         Cause::Foreign
     } else {
-        cause_at(fault.code, rest(text, fault.offset))
+        cause_at(fault, text, rest(text, fault.offset))
     }
 }
