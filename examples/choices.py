@@ -69,6 +69,16 @@ def is_only_top():
         return differing(found, {"status": 1, "printed": LISTING, "told": []})
 
 
+def are_names_inside():
+    """Names in a text and a node are those of no structure and no reference, so TOP is the only structure."""
+    with Folder() as folder:
+        text, _ = with_elements(folder.read("two-bars.gds"), NAMES_INSIDE)
+        folder.write("two-bars.gds", text)
+        status, printed, told = folder.run("check", *UNNAMED)
+        found = {"status": status, "printed": printed, "told": summary_left_out(told)}
+        return differing(found, {"status": 1, "printed": LISTING, "told": []})
+
+
 def are_several_tops():
     """A second structure, OTHER, that nothing places."""
     with Folder() as folder:
@@ -113,6 +123,12 @@ def has_times():
 LEFT_OUT = (
     "note: two-bars.gds: elements left out, on skipped layers: 1; the desk reads them, and refuses the file as it stands where one of them has a"
     " fault"
+)
+SIZES = "a record has too much or too little data: polygons of more than 8191 points have to be split (gdspy: .fracture(max_points=8190))"
+MISPLACED = "a record stands where the format doesn't have it: export without what isn't geometry, as properties"
+SPLIT = (
+    "an element's points stand in several XY records: export polygons and paths of at most 8191 points, each in one XY record (KLayout: switch off"
+    " 'Multi-XY record mode for boundaries'; gdspy: .fracture(max_points=8190))"
 )
 SLANTED = (
     "an edge is neither horizontal nor vertical, as one at 45 degrees: only such edges are checked; draw it in steps, or export without that shape"
@@ -180,6 +196,37 @@ def is_reported(references, in_top, box):
             "description": True,
         }
         return differing(found, wanted)
+
+
+def is_unnamed():
+    """ARM is placed behind a record without its data. TOP is the only structure that nothing places all the same, so ARM's fault is told in its coordinates too."""
+    with Folder() as folder:
+        text, front = with_elements(folder.read("two-bars.gds"), WITHOUT_DATA + reference(10, 100, 200))
+        text, place = with_structure(text, b"ARM\0", ONE)
+        folder.write("two-bars.gds", text)
+        status, printed, told = folder.run("check", "--deck", "bars.deck", "--faults", "two-bars.gds")
+        lines = [
+            f"fault: two-bars.gds: badsize at byte {front + 4} in TOP, at 0,5000",
+            fault(place + 16, 5, 0, "ARM") + ", in TOP at 100,9200",
+            f"error: two-bars.gds: badsize at byte {front + 4} in TOP: {SIZES}",
+        ]
+        return differing({"status": status, "printed": printed, "told": told}, {"status": 4, "printed": b"", "told": lines})
+
+
+def is_behind_left_out():
+    """A square of TOP whose WIDTH has no data is left out by its layer; what is told then is the fault behind it, in its own structure."""
+    with Folder() as folder:
+        head = record(14, 2, bytes(2))
+        text, _ = with_elements(folder.read("two-bars.gds"), boundary(5, SQUARE).replace(head, head + record(15, 3)))
+        text, place = with_structure(text, b"LOGO", triangle(6, 0))
+        folder.write("two-bars.gds", text)
+        status, printed, told = folder.run(*CHECK, "--skip-layers", "5/0", "two-bars.gds")
+        found = {"status": status, "printed": printed, "told": told}
+        return differing(found, {"status": 4, "printed": b"", "told": [LEFT_OUT, slanted(place + 16, "LOGO")]})
+
+
+def unexpected(at, sentence):
+    return f"error: two-bars.gds: unexpected at byte {at} in TOP: {sentence}"
 
 
 def is_described(rules, elements, description):
@@ -261,8 +308,14 @@ ONE = triangle(5, 0)
 TWO = triangle(5, 0) + boundary(1, [(0, 5000), (90, 5000), (90, 5090), (0, 5090), (0, 5000)]) + triangle(6, 300)
 # The square between them has five points: 64 bytes.
 BEHIND = 56 + 64 + 16
-# A square whose LAYER has no data, before a triangle: its BOUNDARY takes 4 bytes, LAYER as many, DATATYPE 6, XY 4 and 40 of five points, ENDEL 4.
-DAMAGED = boundary(1, [(0, 5000), (90, 5000), (90, 5090), (0, 5090), (0, 5000)]).replace(record(13, 2, struct.pack(">H", 1)), record(13, 2)) + ONE
+# A square whose LAYER has no data: its BOUNDARY takes 4 bytes, LAYER as many, DATATYPE 6, XY 4 and 40 of five points, ENDEL 4.
+SQUARE = [(0, 5000), (90, 5000), (90, 5090), (0, 5090), (0, 5000)]
+WITHOUT_DATA = boundary(1, SQUARE).replace(record(13, 2, struct.pack(">H", 1)), record(13, 2))
+DAMAGED = WITHOUT_DATA + ONE
+# Its points in an XY of 44 bytes.
+POINTS = record(16, 3, b"".join(struct.pack(">ii", *point) for point in SQUARE))
+# A text with the name of a structure in it, and a node with that of a reference: reading passes over both.
+NAMES_INSIDE = record(12, 0) + record(6, 6, b"OTHER\0") + record(17, 0) + record(21, 0) + record(18, 6, b"TOP\0") + record(17, 0)
 
 CASES = {
     "tiles of other sides": by_sides,
@@ -273,6 +326,7 @@ CASES = {
         ["--skip-layers", "5/0"], "error: a part is of the whole library: --skip-layers is for a check of all tiles"
     ),
     "a structure that isn't named": is_only_top,
+    "a structure that isn't named, with names in a text and a node": are_names_inside,
     "structures of which none is named": are_several_tops,
     "the times of a check's parts": has_times,
     "an element with a fault": lambda: of_elements(ONE, [], 4, b"", lambda at: [slanted(at + 16)]),
@@ -294,9 +348,19 @@ CASES = {
         DAMAGED, ["--faults"], 4, b"", lambda at: [
             f"fault: two-bars.gds: badsize at byte {at + 4} in TOP, at 0,5000",
             fault(at + 62 + 16, 5, 0),
-            f"error: two-bars.gds: badsize at byte {at + 4} in TOP: a record has too much or too little data: polygons of more than 8191 points have to be split"
-            " (gdspy: .fracture(max_points=8190))",
+            f"error: two-bars.gds: badsize at byte {at + 4} in TOP: {SIZES}",
         ]
+    ),
+    "all faults where no structure is named, behind a record without its data": is_unnamed,
+    "a fault behind one that is left out": is_behind_left_out,
+    "a fault behind a name in a text": lambda: of_elements(
+        NAMES_INSIDE + ONE, [], 4, b"", lambda at: [slanted(at + len(NAMES_INSIDE) + 16)]
+    ),
+    "points before the layer": lambda: of_elements(
+        record(8, 0) + POINTS + record(17, 0), [], 4, b"", lambda at: [unexpected(at + 4, MISPLACED)]
+    ),
+    "points in two records": lambda: of_elements(
+        boundary(1, SQUARE).replace(POINTS, POINTS + POINTS), [], 4, b"", lambda at: [unexpected(at + 60, SPLIT)]
     ),
     "a structure that isn't reached": lambda: of_structure(ONE, [], 4, b"", lambda at: [slanted(at + 16, "LOGO")]),
     "a structure that isn't reached, left out": lambda: of_structure(
