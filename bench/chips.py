@@ -6,9 +6,9 @@
 PROGRAM is crates/mpw_firm/out/mpw_firm where none is given. The kinds are:
 
   wires N      N boxes on layer 1 and half as many on layer 2, anywhere
-  nested2 N    N cells of four shapes in arrays of arrays, two levels of them; N is a power of four
+  nested2 N    N cells of four shapes in arrays of arrays, two levels of them, each level with a box that is too narrow; N is a power of four
   nested4 N    the same in four levels
-  chip N       N standard cells of twelve kinds in abutting rows, every second row mirrored, an array as a macro, wires over them
+  chip N       N standard cells of twelve kinds in abutting rows, every second row mirrored, arrays as macros, wires over them; one kind has a wire that is too narrow
   mixed N      N cells in all eight orientations, one at a time, with polygons and paths
 
 Each layout is checked with four rules by ours on one thread and on all, and by KLayout flat, tiled and deep, each until ten minutes. Ours
@@ -72,7 +72,9 @@ def wires(out, n):
     end(out)
 
 
-CELL = [(1, 0, 0, 100, 250), (1, 0, 100, 250, 150), (1, 200, 0, 250, 90), (2, 20, 20, 60, 60)]
+# A cell without a violation, at a pitch of 300, and a box that is too narrow.
+CELL = [(1, 0, 0, 100, 240), (1, 160, 0, 240, 90), (1, 160, 150, 240, 240), (2, 20, 20, 60, 60)]
+NARROW = (1, -120, 0, -66, 240)
 
 
 def nested(out, n, levels):
@@ -88,7 +90,7 @@ def nested(out, n, levels):
     for level, count in enumerate(each):
         side = 1 << count
         begin(out, b'TOP' if level == levels - 1 else b'L%d' % level)
-        out.write(layouts.array(name, side, side, pitch))
+        out.write(layouts.array(name, side, side, pitch) + layouts.boundary(*NARROW))
         end(out)
         name = b'L%d' % level
         pitch = pitch * side + 300
@@ -107,7 +109,7 @@ def standard_cell(out, kind, width):
     for column in range(width):
         x = column * GRID + 70
         low, high = random.randrange(200, 700, 10), random.randrange(1500, 2200, 10)
-        out.write(layouts.boundary(1, x, low, x + random.choice((60, 60, 60, 54)), high))
+        out.write(layouts.boundary(1, x, low, x + (54 if kind + column == 0 else 60), high))
         for _ in range(3):
             y = random.randrange(low, high - 60, 10)
             out.write(layouts.boundary(2, x + 10, y, x + 50, y + 40))
