@@ -1,5 +1,6 @@
 -- What a column finds depends on the squares of its window alone, which is no higher and no deeper than the column.
 use Rattle.std.proofs.Common.{◌≡◌, ℕ, ◌+◌, ◌≤◌, ℤ, pos, ◌-ℤ◌, ◌≤ℤ◌, ◌<ℤ◌, List, ◌⊎◌, inl, inr, refl, sym, ◌∙◌, arith}
+use Rattle.std.specs.Prelude.{All}
 use Rattle.std.proofs.lemmas.Int.{ints}
 use Rattle.std.proofs.lemmas.List.Elements.{All-contains}
 use Rattle.mpw_geom.specs.declared.plane.Box2.{Box2}
@@ -19,7 +20,8 @@ use Rattle.mpw_job.specs.Layers.{Coverage, first_squares, second_squares}
 use Rattle.mpw_job.proofs.Tests.{get_contains}
 use Rattle.mpw_columns.specs.Columns.{across, widened_along}
 use Rattle.mpw_columns.specs.Laws.{WindowDecidesAlong}
-use Rattle.mpw_columns.specs.Internal.Found.{IsRun, HasStepAt, IsFound, HasLayers, IsLook, AgreeIn}
+use Rattle.mpw_columns.specs.Found.{IsRun, HasStepAt, IsFound, HasLayers}
+use Rattle.mpw_columns.specs.Internal.Found.{IsLook, AgreeIn}
 
 -- ---- one row
 
@@ -159,16 +161,17 @@ agree_back layers window on other h layer c =
     back window (on layer) (other layer) (h layer c)
 
 -- what is found where two coverages agree in the window
-pub found_agree : (rules : List Rule) (layers : List Layer) (distance : ℕ) (axis : Axis)
-    (on other : Coverage) (core : Box2) (k : Key) → IsLook rules layers distance
+pub found_same : (rules : List Rule) (layers : List Layer) (distance : ℕ) (axis : Axis)
+    (on other : Coverage) (core : Box2) (k : Key) → All (λ (r : Rule). r.distance ≤ distance) rules
+    → All (λ (r : Rule). HasLayers layers r.check) rules
     → AgreeIn layers (across core (distance + 1)) on other
     → IsFound rules axis on core k → IsFound rules axis other core k
-found_agree rules layers distance axis on other core k look agree f =
+found_same rules layers distance axis on other core k short layered agree f =
     let in_deck = get_contains rules k.rule f.rule f.at in
     let near : f.rule.distance ≤ distance =
-    All-contains (λ (r : Rule). r.distance ≤ distance) rules f.rule look.near in_deck in
+    All-contains (λ (r : Rule). r.distance ≤ distance) rules f.rule short in_deck in
     let has : HasLayers layers f.rule.check =
-    All-contains (λ (r : Rule). HasLayers layers r.check) rules f.rule look.layered in_deck in
+    All-contains (λ (r : Rule). HasLayers layers r.check) rules f.rule layered in_deck in
     let window = across core (distance + 1) in
     let first = first_agree f.rule.check layers window on other has agree in
     let second = second_agree f.rule.check layers window on other has agree in
@@ -186,3 +189,10 @@ found_agree rules layers distance axis on other core k look agree f =
           (λ j s. vertical_same f.rule distance a' b' a b core near (back window a a' first)
           (back window b b' second) k.side k.x1 k.x2 j s) f.run;
     }
+
+pub found_agree : (rules : List Rule) (layers : List Layer) (distance : ℕ) (axis : Axis)
+    (on other : Coverage) (core : Box2) (k : Key) → IsLook rules layers distance
+    → AgreeIn layers (across core (distance + 1)) on other
+    → IsFound rules axis on core k → IsFound rules axis other core k
+found_agree rules layers distance axis on other core k look =
+    found_same rules layers distance axis on other core k look.near look.layered

@@ -16,7 +16,8 @@ use Rattle.mpw_edges.specs.declared.run.Axis.{Axis}
 use Rattle.mpw_edges.specs.Pieces.{HasVerticalStep}
 use Rattle.mpw_markers.specs.declared.marker.Key.{Key}
 use Rattle.mpw_job.specs.Layers.{Coverage, first_squares, second_squares}
-use Rattle.mpw_columns.specs.Internal.Found.{IsRun, HasStepAt, IsFound, AddsRule, AddsFirst, key_of_run}
+use Rattle.mpw_columns.specs.Found.{IsRun, HasStepAt, IsFound}
+use Rattle.mpw_columns.specs.Internal.Found.{AddsRule, AddsFirst, key_of_run}
 
 -- ---- runs that stand apart
 

@@ -7,7 +7,7 @@ use Rattle.mpw_geom.specs.declared.plane.Layer.{Layer}
 use Rattle.mpw_deck.specs.declared.rule.Check.{Check}
 use Rattle.mpw_deck.specs.declared.rule.Check.TheVariants.{Width, Space, Separation, Enclosing}
 use Rattle.mpw_deck.specs.declared.rule.Rule.{Rule}
-use Rattle.mpw_columns.specs.Internal.Found.{HasLayers}
+use Rattle.mpw_columns.specs.Found.{HasLayers}
 
 abbrev pub Keeps : (old new : List Layer) → Type 0
 Keeps old new = (other : Layer) → Contains old other → Contains new other

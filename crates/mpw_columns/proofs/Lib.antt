@@ -1,6 +1,7 @@
 pub mod Areas
 pub mod Keyed
 pub mod Agreeing
+pub mod Displacing
 pub mod Dividing
 pub mod Parted
 pub mod BandsLaid
@@ -12,6 +13,7 @@ pub mod Covering
 pub mod Zipped
 pub mod Making
 pub mod Telling
+pub mod DisplacedLists
 pub mod BookMade
 pub mod Looking
 pub mod Added

@@ -26,7 +26,8 @@ use Rattle.mpw_job.specs.Computed.{shown_on}
 use Rattle.mpw_columns.specs.declared.column.Column.{Column}
 use Rattle.mpw_columns.specs.Seen.{seen_box, seen_on}
 use Rattle.mpw_columns.specs.Columns.{across, upright, AreColumnsOf}
-use Rattle.mpw_columns.specs.Internal.Found.{IsFound, AddsFound, IsLook, AgreeIn, AgreeAll, HasLayers, IsUpright, IsStretch, IsTall, IsWide}
+use Rattle.mpw_columns.specs.Found.{IsFound, HasLayers}
+use Rattle.mpw_columns.specs.Internal.Found.{AddsFound, IsLook, AgreeIn, AgreeAll, IsUpright, IsStretch, IsTall, IsWide}
 use Rattle.mpw_columns.specs.Internal.Listed.{ShowSeen}
 use Rattle.mpw_columns.specs.Internal.Checked.{AreColumnsOfBoth}
 use Rattle.mpw_columns.proofs.Covering.{each_between}

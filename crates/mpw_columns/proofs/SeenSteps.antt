@@ -25,7 +25,7 @@ use Rattle.mpw_columns.specs.declared.column.Column.{Column}
 use Rattle.mpw_columns.specs.Seen.{seen, seen_box, seen_on}
 use Rattle.mpw_columns.specs.Columns.{upright}
 use Rattle.mpw_columns.specs.Within.{is_in_column}
-use Rattle.mpw_columns.specs.Internal.Found.{HasStepAt, IsFound}
+use Rattle.mpw_columns.specs.Found.{HasStepAt, IsFound}
 
 -- ---- axes
 

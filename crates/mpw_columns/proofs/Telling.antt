@@ -25,7 +25,7 @@ use Rattle.mpw_columns.specs.Columns.{upright}
 use Rattle.mpw_columns.specs.Laws.{ColumnsHaveWholeRuns}
 use Rattle.mpw_columns.specs.Runs.{IsRunOf, IsRunWithin}
 use Rattle.mpw_columns.specs.Together.{key_cmp, MeetsShown}
-use Rattle.mpw_columns.specs.Internal.Found.{IsFound}
+use Rattle.mpw_columns.specs.Found.{IsFound}
 use Rattle.mpw_columns.specs.Internal.Marked.{of_first}
 use Rattle.mpw_columns.proofs.OneLine.{same_end, ruled, same_line, same_key, is_tied}
 use Rattle.mpw_columns.proofs.SeenSteps.{found_maximal, maximal_found}

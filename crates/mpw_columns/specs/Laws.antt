@@ -2,6 +2,7 @@
 use Rattle.std.specs.Prelude.{◌≡◌, ◌≤◌, ◌+◌, ℕ, ℤ, List, length, map, All, Some, ◌↔◌}
 use Rattle.std.specs.List.{AllZip}
 use Rattle.mpw_geom.specs.declared.plane.Box2.{Box2}
+use Rattle.mpw_geom.specs.declared.plane.Layer.{Layer}
 use Rattle.mpw_deck.specs.declared.rule.Rule.{Rule}
 use Rattle.mpw_edges.specs.declared.run.Axis.{Axis}
 use Rattle.mpw_edges.specs.declared.run.Axis.TheVariants.{V, H}
@@ -15,9 +16,12 @@ use Rattle.mpw_markers.specs.Laws.{steps_in}
 use Rattle.mpw_markers.specs.Markers.{key_of}
 use Rattle.mpw_markers.specs.Whole.{IsMaximal}
 use Rattle.mpw_job.specs.Computed.{steps_of, shown_on}
+use Rattle.mpw_job.specs.Layers.{Coverage}
 use Rattle.mpw_job.specs.Layout.{AreLayoutMarkers}
 use Rattle.mpw_columns.specs.declared.column.Column.{Column}
-use Rattle.mpw_columns.specs.Columns.{widened_along, AreColumnsOf}
+use Rattle.mpw_columns.specs.Columns.{across, widened_along, AreColumnsOf}
+use Rattle.mpw_columns.specs.Displaced.{displaced, displaced_key, IsDisplaced, AreDisplacedOn, ShowsDisplaced}
+use Rattle.mpw_columns.specs.Found.{IsFound, HasLayers}
 use Rattle.mpw_columns.specs.Runs.{IsRunWithin}
 use Rattle.mpw_columns.specs.Together.{IsColumnList, MeetsShown, together}
 use Rattle.mpw_columns.specs.Within.{is_in_column}
@@ -50,3 +54,26 @@ ColumnsMakeTheLayout =
     → AreColumnsOf H extent across → AllZip (IsColumnList s) upright vs
     → AllZip (IsColumnList s) across hs → map key_of book ≡ together (length s.deck.rules) vs hs
     → All (MeetsShown s) book → AreLayoutMarkers s book
+
+-- Two coverages, seen along an axis, of which the second has on the layers that the rules look at, in the window of a core, displaced
+-- across the edges, just what the first has in the window of the core: what is found of the second in the displaced core is what is found of
+-- the first in the core, displaced. The window is wider by a distance that is no less than any rule's, and 1.
+abbrev pub DisplacedColumnsFindDisplacedRuns : Type 0
+DisplacedColumnsFindDisplacedRuns =
+    (rules : List Rule) (layers : List Layer) (greatest : ℕ) (axis : Axis) (on other : Coverage)
+    (core : Box2) (by : ℤ) → All (λ rule. rule.distance ≤ greatest) rules
+    → All (λ rule. HasLayers layers rule.check) rules
+    → AreDisplacedOn layers (across core (greatest + 1)) by on other
+    → (k : Key) → IsFound rules axis on core k
+    ↔ IsFound rules axis other (displaced by core) (displaced_key by k)
+
+-- Where a column's window shows on the layers that the rules look at just what the displaced column's shows, displaced, the list of that
+-- one is the column's, displaced.
+abbrev pub DisplacedColumnsHaveDisplacedLists : Type 0
+DisplacedColumnsHaveDisplacedLists =
+    (s : Snapshot) (extent : Box2) (layers : List Layer) (greatest : ℕ) (by : ℤ) (c e : Column)
+    (keys : List Key) → shown_extent s ≡ Some extent
+    → All (λ rule. rule.distance ≤ greatest) s.deck.rules
+    → All (λ rule. HasLayers layers rule.check) s.deck.rules → IsDisplaced by c e
+    → ShowsDisplaced s extent layers greatest by c → IsColumnList s c keys
+    → IsColumnList s e (map (displaced_key by) keys)

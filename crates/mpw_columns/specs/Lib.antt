@@ -2,6 +2,8 @@ pub mod Seen
 pub mod Columns
 pub mod Within
 pub mod Runs
+pub mod Found
+pub mod Displaced
 pub mod FollowingOn
 pub mod Together
 pub mod Laws

@@ -12,7 +12,8 @@ ghost use Rattle.mpw_job.specs.Layout.{AreLayoutMarkers};
 ghost use Rattle.mpw_columns.specs.Seen.{seen_box, seen_on};
 ghost use Rattle.mpw_columns.specs.Columns.{upright, across, AreColumnsOf};
 ghost use Rattle.mpw_columns.specs.Together.{IsColumnList};
-ghost use Rattle.mpw_columns.specs.Internal.Found.{IsFound, IsUpright, AgreeIn};
+ghost use Rattle.mpw_columns.specs.Found.{IsFound};
+ghost use Rattle.mpw_columns.specs.Internal.Found.{IsUpright, AgreeIn};
 ghost use Rattle.mpw_columns.specs.Internal.Checked.{IsLayout, AreColumnsOfBoth, HaveLists};
 
 use crate::column::Column;

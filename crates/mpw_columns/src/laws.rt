@@ -1,6 +1,6 @@
 //! Laws of the definitions alone. Each function calls at most the laws on which its own rests: its contract is the law.
 
-ghost use Rattle.mpw_columns.specs.Laws.{WindowDecidesAlong, ColumnsHaveWholeRuns, ColumnsMakeTheLayout};
+ghost use Rattle.mpw_columns.specs.Laws.{WindowDecidesAlong, ColumnsHaveWholeRuns, ColumnsMakeTheLayout, DisplacedColumnsFindDisplacedRuns, DisplacedColumnsHaveDisplacedLists};
 
 use mpw_edges::test_decides_pair_steps;
 use mpw_tiles::squares_lie_in_boxes;
@@ -26,4 +26,20 @@ pub fn columns_make_the_layout()
 {
     test_decides_pair_steps();
     squares_lie_in_boxes();
+}
+
+/// Where two windows have the same squares on the layers that the rules look at, up to a displacement across the edges, what a core finds,
+/// displaced, is what the displaced core finds.
+pub fn displaced_columns_find_displaced_runs()
+    ensures { DisplacedColumnsFindDisplacedRuns }
+{}
+
+/// Where the window of a column shows what that of another column of its axis shows, up to their displacement, the one's list, displaced, is
+/// that of the other.
+pub fn displaced_columns_have_displaced_lists()
+    ensures { DisplacedColumnsHaveDisplacedLists }
+{
+    test_decides_pair_steps();
+    columns_have_whole_runs();
+    displaced_columns_find_displaced_runs();
 }

@@ -30,5 +30,8 @@ mod together;
 pub use check::{MAX_SHOWN, check_columns};
 pub use column::Column;
 pub use follow::columns_follow_on;
-pub use laws::{columns_have_whole_runs, columns_make_the_layout, window_decides_along};
+pub use laws::{
+    columns_have_whole_runs, columns_make_the_layout, displaced_columns_find_displaced_runs,
+    displaced_columns_have_displaced_lists, window_decides_along,
+};
 pub use progress::{Progress, Silent};

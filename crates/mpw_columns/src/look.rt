@@ -2,7 +2,7 @@
 
 ghost use Rattle.std.specs.Prelude.{◌≡◌, ◌↔◌, All, Contains, IfOk, IsTrue, MatchBool, OnOk};
 ghost use Rattle.mpw_geom.specs.declared.plane.Layer.{Layer as LayerValue};
-ghost use Rattle.mpw_columns.specs.Internal.Found.{HasLayers};
+ghost use Rattle.mpw_columns.specs.Found.{HasLayers};
 
 use mpw_deck::{Check, Rule};
 use mpw_edges::Axis;

@@ -1,6 +1,6 @@
 use Rattle.std.proofs.Common.{take}
 use Rattle.std.specs.Prelude.{All}
-use Rattle.mpw_columns.specs.Internal.Found.{HasLayers}
+use Rattle.mpw_columns.specs.Found.{HasLayers}
 use Rattle.mpw_columns.proofs.look.layers_of.Given as goal
 
 abbrev pub invariant-loop-rule : goal.invariant-loop-rule

@@ -1,0 +1,51 @@
+-- What is displaced across the edges, as they are seen along an axis: the rows stay.
+use Rattle.std.specs.Prelude.{◌≡◌, ◌+◌, ℕ, ℤ, ◌+ℤ◌, ◌≤ℤ◌, ◌<ℤ◌, List, Contains}
+use Rattle.mpw_geom.specs.declared.plane.Box2.{Box2}
+use Rattle.mpw_geom.specs.declared.plane.Layer.{Layer}
+use Rattle.mpw_edges.specs.Edges.{Squares}
+use Rattle.mpw_tiles.specs.Snapshots.{Snapshot, shown}
+use Rattle.mpw_markers.specs.declared.marker.Key.{Key}
+use Rattle.mpw_job.specs.Computed.{shown_on}
+use Rattle.mpw_job.specs.Layers.{Coverage}
+use Rattle.mpw_columns.specs.declared.column.Column.{Column}
+use Rattle.mpw_columns.specs.Seen.{seen_box, seen_on}
+use Rattle.mpw_columns.specs.Columns.{upright, across}
+
+-- The box, displaced.
+abbrev pub displaced : ℤ → Box2 → Box2
+displaced by b = record { x0 = b.x0 +ℤ by; y0 = b.y0; x1 = b.x1 +ℤ by; y1 = b.y1 }
+
+-- The key, displaced.
+abbrev pub displaced_key : ℤ → Key → Key
+displaced_key by k = record {
+  rule = k.rule;
+  axis = k.axis;
+  side = k.side;
+  x1 = k.x1 +ℤ by;
+  x2 = k.x2 +ℤ by;
+  y0 = k.y0;
+  y1 = k.y1;
+}
+
+-- The second column is the first, displaced.
+pub record IsDisplaced (by : ℤ) (c e : Column) : Type 0 where
+  pub axis : e.axis ≡ c.axis
+  pub from : e.from ≡ (c.from +ℤ by)
+  pub to : e.to ≡ (c.to +ℤ by)
+
+-- What the first has in the window, the second has displaced, and nothing else there.
+abbrev pub AreDisplacedIn : Box2 → ℤ → Squares → Squares → Type 0
+AreDisplacedIn window by a b = (i j : ℤ) → window.x0 ≤ℤ i → i <ℤ window.x1 → window.y0 ≤ℤ j
+    → j <ℤ window.y1 → b (i +ℤ by) j ≡ a i j
+
+-- The same on each of these layers.
+abbrev pub AreDisplacedOn : List Layer → Box2 → ℤ → Coverage → Coverage → Type 0
+AreDisplacedOn layers window by on other =
+    (layer : Layer) → Contains layers layer → AreDisplacedIn window by (on layer) (other layer)
+
+-- On these layers the layout of that extent shows in the column's window, which is wider by so much and 1, just what it shows in the
+-- window of the column displaced.
+abbrev pub ShowsDisplaced : Snapshot → Box2 → List Layer → ℕ → ℤ → Column → Type 0
+ShowsDisplaced s extent layers greatest by c =
+    AreDisplacedOn layers (across (upright (seen_box c.axis extent) c) (greatest + 1)) by
+    (seen_on c.axis (shown_on (shown s))) (seen_on c.axis (shown_on (shown s)))
