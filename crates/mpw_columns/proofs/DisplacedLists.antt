@@ -1,45 +1,35 @@
 -- The list of a column that shows what another shows, displaced, is that one's, displaced.
-use Rattle.std.proofs.Common.{◌≡◌, ◌∙◌, suc, ℤ, neg_ℤ, ◌+ℤ◌, List, [], ◌∷◌, map, get_or, int_cmp, Less, refl, sym, subst, ap, arith}
-use Rattle.std.specs.Prelude.{◌↔◌, Contains, Some}
+use Rattle.std.proofs.Common.{◌≡◌, ◌∙◌, ℕ, ◌<◌, ◌≤◌, ◌^◌, ℤ, pos, neg_ℤ, ◌+ℤ◌, ◌-ℤ◌, ◌≤ℤ◌, ◌<ℤ◌, List, map, get_or, sym, subst, ap, arith}
+use Rattle.std.specs.Prelude.{◌↔◌, All, Contains, Some}
 use Rattle.std.proofs.lemmas.Int.{ints}
-use Rattle.std.proofs.lemmas.List.Elements.{All-map}
-use Rattle.std.proofs.lemmas.List.Kept.{AllPairs-cons}
+use Rattle.std.proofs.lemmas.List.Elements.{All-contains, Contains-get_or}
 use Rattle.mpw_geom.specs.declared.plane.Box2.{Box2}
+use Rattle.mpw_geom.specs.declared.plane.Layer.{Layer}
+use Rattle.mpw_deck.specs.declared.rule.Check.{Check}
+use Rattle.mpw_deck.specs.declared.rule.Check.TheVariants.{Width, Space, Separation, Enclosing}
+use Rattle.mpw_deck.specs.declared.rule.Rule.{Rule}
 use Rattle.mpw_edges.specs.declared.run.Axis.{Axis}
 use Rattle.mpw_edges.specs.Computed.{TestDecidesPairSteps}
+use Rattle.mpw_edges.specs.Edges.{Squares}
+use Rattle.mpw_edges.specs.Steps.{IsPair}
 use Rattle.mpw_tiles.specs.Snapshots.{Snapshot, shown, shown_extent}
 use Rattle.mpw_markers.specs.declared.marker.Key.{Key}
+use Rattle.mpw_markers.specs.Markers.{line_of_key}
 use Rattle.mpw_job.specs.Computed.{shown_on}
 use Rattle.mpw_job.specs.Layers.{Coverage}
+use Rattle.mpw_job.proofs.Tests.{get_contains, rule_of}
 use Rattle.mpw_columns.specs.declared.column.Column.{Column}
 use Rattle.mpw_columns.specs.Seen.{seen_box, seen_on}
 use Rattle.mpw_columns.specs.Columns.{upright}
 use Rattle.mpw_columns.specs.Displaced.{displaced, displaced_key, IsDisplaced}
 use Rattle.mpw_columns.specs.Found.{IsFound}
 use Rattle.mpw_columns.specs.Laws.{ColumnsHaveWholeRuns, DisplacedColumnsFindDisplacedRuns, DisplacedColumnsHaveDisplacedLists}
-use Rattle.mpw_columns.specs.Runs.{IsRunWithin}
-use Rattle.mpw_columns.specs.Together.{key_cmp, AreInOrder}
-use Rattle.mpw_columns.proofs.SeenSteps.{found_maximal, maximal_found}
+use Rattle.mpw_columns.specs.Runs.{IsRunOf, IsRunWithin}
+use Rattle.mpw_columns.specs.Together.{IsColumnList}
+use Rattle.mpw_columns.specs.Internal.Found.{IsLook, IsUpright, HasNearEdges}
+use Rattle.mpw_columns.proofs.SeenSteps.{found_maximal, maximal_found, step_on_seen}
+use Rattle.mpw_columns.proofs.KeyOrder.{order_kept}
 use Rattle.mpw_columns.proofs.Telling.{of_map, to_map}
-
--- ---- the order of keys
-
-cmp_on : (by x y : ℤ) → int_cmp (x +ℤ by) (y +ℤ by) ≡ int_cmp x y
-cmp_on by x y = grind (arith, ints)
-
-key_cmp_on : (by : ℤ) (k l : Key) → key_cmp (displaced_key by k) (displaced_key by l) ≡ key_cmp k l
-key_cmp_on by k l =
-    let first = cmp_on by k.x1 l.x1 in
-    let second = cmp_on by k.x2 l.x2 in
-    rw first (rw second refl)
-
-pub order_kept : (by : ℤ) (keys : List Key) → AreInOrder keys → AreInOrder (map (displaced_key by) keys)
-order_kept by [] h = λ i j d lt within. absurd (omega arith)
-order_kept by (k ∷ ks) h =
-    AllPairs-cons (λ x y. key_cmp x y ≡ Less) (displaced_key by k) (map (displaced_key by) ks)
-    (All-map (λ y. key_cmp (displaced_key by k) y ≡ Less) (displaced_key by) ks
-    (λ n d lt. key_cmp_on by k (get_or ks n d) ∙ h 0 (suc n) d (omega arith) (omega arith)))
-    (order_kept by ks (λ i j d lt within. h (suc i) (suc j) d (omega arith) (omega arith)))
 
 -- ---- the core of a displaced column
 
@@ -142,3 +132,63 @@ displaced_lists law whole finds s extent layers greatest by c e keys found short
           λ r. other.0 (same.1 (step.0 (here.1 r))),
           λ r. here.0 (step.1 (same.0 (other.1 r))),
         )
+
+-- ---- keys of a column that is not far off
+
+ordered : (check : Check) (a b : Squares) (side : ℕ) (x1 x2 j : ℤ) → IsPair check a b side x1 x2 j
+    → x1 ≤ℤ x2
+ordered (Width l) a b side x1 x2 j w = let h = w.3 in omega (arith, ints, h)
+ordered (Space l) a b side x1 x2 j w = let h = w.3 in omega (arith, ints, h)
+ordered (Separation l m) a b side x1 x2 j w = w.0
+ordered (Enclosing l m) a b side x1 x2 j w = w.0
+
+-- the second edge of a run is no further from the first than the greatest distance
+pub record IsNarrow (k : Key) (distance : ℕ) : Type 0 where
+  pub ordered : k.x1 ≤ℤ k.x2
+  pub near : (k.x2 -ℤ k.x1) <ℤ pos distance
+
+narrow : TestDecidesPairSteps → (s : Snapshot) (layers : List Layer) (distance : ℕ) (k : Key)
+    → IsLook s.deck.rules layers distance → IsRunOf s k → IsNarrow k distance
+narrow law s layers distance k look m =
+    let on = shown_on (shown s) in
+    let r = rule_of s.deck.rules on (line_of_key k) k.y0
+    (m.rows k.y0 (omega (arith, ints)) m.filled) in
+    let step = (step_on_seen law r.rule on k.axis k.side k.x1 k.x2 k.y0).0 r.step in
+    let short : r.rule.distance ≤ distance =
+    All-contains (λ (rule : Rule). rule.distance ≤ distance) s.deck.rules r.rule look.near
+    (get_contains s.deck.rules k.rule r.rule r.at) in
+    let less = step.1 in
+    record {
+      ordered = ordered r.rule.check _ _ k.side k.x1 k.x2 k.y0 step.0;
+      near = omega (arith, ints, less, short);
+    }
+
+near_edges : (k : Key) (distance : ℕ) (extent : Box2) (c : Column) (s : Snapshot)
+    → IsUpright (core_in extent c) → distance < 2 ^ 32 → IsNarrow k distance → IsRunWithin s c k
+    → HasNearEdges k
+near_edges k distance extent c s u short n r =
+    let low = u.left in
+    let high = u.right in
+    let from = r.left in
+    let to = r.right in
+    let le = n.ordered in
+    let near = n.near in
+    record {
+      first = record {
+        low = omega (arith, ints, low, from);
+        high = omega (arith, ints, high, to);
+      };
+      second = record {
+        low = omega (arith, ints, low, from, le);
+        high = omega (arith, ints, high, to, near, short);
+      };
+    }
+
+pub list_near : TestDecidesPairSteps → (s : Snapshot) (extent : Box2) (layers : List Layer)
+    (distance : ℕ) (c : Column) (keys : List Key) → IsLook s.deck.rules layers distance
+    → distance < 2 ^ 32 → IsUpright (core_in extent c) → IsColumnList s c keys
+    → All HasNearEdges keys
+list_near law s extent layers distance c keys look short u list i d lt =
+    let k = get_or keys i d in
+    let run = (list.exact k).0 (Contains-get_or keys i d lt) in
+    near_edges k distance extent c s u short (narrow law s layers distance k look run.run) run

@@ -1,5 +1,5 @@
 -- Keys of a column in order, and those of one list.
-use Rattle.std.proofs.Common.{◌≡◌, ◌∙◌, ℕ, suc, ◌+◌, ◌<◌, ◌≤◌, ◌==◌, Bool, true, false, List, [], ◌∷◌, ◌++◌, length, get_or, take, drop, leb, ltb, nat_cmp, is_lt, Ordering, Less, Bor, refl, sym, subst, ap, ◌⊎◌, inl, inr, take-append-drop, append-nil, length-take-le, length-drop, get_or-take, get_or-drop, arith}
+use Rattle.std.proofs.Common.{◌≡◌, ◌∙◌, ℕ, suc, ◌+◌, ◌<◌, ◌≤◌, ◌==◌, ℤ, ◌+ℤ◌, int_cmp, Bool, true, false, List, [], ◌∷◌, ◌++◌, map, length, get_or, take, drop, leb, ltb, nat_cmp, is_lt, Ordering, Less, Bor, refl, sym, subst, ap, ◌⊎◌, inl, inr, take-append-drop, append-nil, length-take-le, length-drop, get_or-take, get_or-drop, arith}
 use Rattle.std.specs.Prelude.{Contains, All, filter}
 use Rattle.std.specs.Cmp.{IsTotalOrder, IsStrictWeakOrder}
 use Rattle.std.specs.Fn.{Called, ComparesAs}
@@ -9,11 +9,13 @@ use Rattle.std.specs.Ordering.{eq_by_cmp, ordering_then}
 use Rattle.std.proofs.lemmas.Bool.{cases_lt}
 use Rattle.std.proofs.lemmas.Cmp.{then_total, on_total, nat_cmp_total, int_cmp_total, eq_by_cmp_equiv}
 use Rattle.std.proofs.lemmas.Fn.{always_returns_same}
-use Rattle.std.proofs.lemmas.List.Elements.{All-from_recursion, filter-append}
+use Rattle.std.proofs.lemmas.Int.{ints}
+use Rattle.std.proofs.lemmas.List.Elements.{All-from_recursion, All-map, filter-append}
 use Rattle.std.proofs.lemmas.List.Kept.{AllPairs-cons, IsStrictlySortedBy-dedup, Contains-from_dedup, Any-dedup}
 use Rattle.std.proofs.lemmas.List.Sorted.{ranks_by}
 use denote.Param.Members.{Mut}
 use Rattle.mpw_markers.specs.declared.marker.Key.{Key}
+use Rattle.mpw_columns.specs.Displaced.{displaced_key}
 use Rattle.mpw_columns.specs.Together.{list_number, key_cmp, AreInOrder}
 
 -- ---- the order of keys
@@ -154,3 +156,22 @@ numbers_rise keys h i j d le lt = at (cases_lt i j)
     at (inr more) =
         let same : i ≡ j = omega (arith, le, more) in
         subst (λ (m : ℕ). list_number (get_or keys i d) ≤ list_number (get_or keys m d)) same (omega arith)
+
+-- ---- keys that are displaced
+
+cmp_on : (by x y : ℤ) → int_cmp (x +ℤ by) (y +ℤ by) ≡ int_cmp x y
+cmp_on by x y = grind (arith, ints)
+
+key_cmp_on : (by : ℤ) (k l : Key) → key_cmp (displaced_key by k) (displaced_key by l) ≡ key_cmp k l
+key_cmp_on by k l =
+    let first = cmp_on by k.x1 l.x1 in
+    let second = cmp_on by k.x2 l.x2 in
+    rw first (rw second refl)
+
+pub order_kept : (by : ℤ) (keys : List Key) → AreInOrder keys → AreInOrder (map (displaced_key by) keys)
+order_kept by [] h = λ i j d lt within. absurd (omega arith)
+order_kept by (k ∷ ks) h =
+    AllPairs-cons (λ x y. key_cmp x y ≡ Less) (displaced_key by k) (map (displaced_key by) ks)
+    (All-map (λ y. key_cmp (displaced_key by k) y ≡ Less) (displaced_key by) ks
+    (λ n d lt. key_cmp_on by k (get_or ks n d) ∙ h 0 (suc n) d (omega arith) (omega arith)))
+    (order_kept by ks (λ i j d lt within. h (suc i) (suc j) d (omega arith) (omega arith)))

@@ -2,13 +2,16 @@
 //!
 //! So the keys of a rule and a side stand together, and are found by two binary searches.
 
-ghost use Rattle.std.specs.Prelude.{◌≡◌, ◌↔◌, true, length, filter, Contains};
+ghost use Rattle.std.specs.Prelude.{◌≡◌, ◌↔◌, true, length, filter, map, All, Contains, IfOk};
 ghost use Rattle.std.specs.Ordering.{eq_by_cmp};
 ghost use Rattle.std.specs.List.Sorted.{IsPermutation, IsSorted, IsNonDecreasingBy};
 ghost use Rattle.mpw_markers.specs.declared.marker.Key.{Key as KeyValue};
+ghost use Rattle.mpw_columns.specs.Displaced.{displaced_key};
 ghost use Rattle.mpw_columns.specs.Together.{list_number, key_cmp, is_of_list, AreInOrder};
+ghost use Rattle.mpw_columns.specs.Internal.Found.{IsNear, HasNearEdges};
 
 use mpw_markers::Key;
+use std::alloc::{AllocError, Global};
 use std::cmp::Ordering;
 use std::marker::Model;
 
@@ -57,6 +60,36 @@ fn each_once(keys: Vec<Key>) -> Vec<Key>
     keys.dedup_by(|a, b| is_same_place(a, b));
     keys.shrink_to_fit();
     keys
+}
+
+/// The key, displaced across its edges.
+fn displaced_key(key: &Key, by: i64) -> Key
+    requires edges { HasNearEdges key.now }
+    requires by { IsNear by }
+    ensures { result ≡ displaced_key by key.now }
+{
+    Key {
+        rule: key.rule,
+        axis: key.axis,
+        side: key.side,
+        x1: key.x1 + by,
+        x2: key.x2 + by,
+        y0: key.y0,
+        y1: key.y1,
+    }
+}
+
+/// The keys, each displaced. An error is want of memory.
+fn displaced_keys(alloc: Global, keys: &[Key], by: i64) -> Result<Vec<Key>, AllocError>
+    requires edges { All HasNearEdges keys.now }
+    requires by { IsNear by }
+    ensures { IfOk result (λ v. v.items ≡ map (displaced_key by) keys.now) }
+{
+    let mut displaced = Vec::with_capacity(alloc, keys.len())?;
+    for key in keys {
+        displaced.push(displaced_key(key, by))?;
+    }
+    Ok(displaced)
 }
 
 /// The keys of a column, which contracts see as a list in order.
@@ -112,5 +145,15 @@ impl ColumnKeys {
         let count = behind.partition_point(|key| list_number(key) <= number);
         let (list, _) = behind.split_at(count);
         list
+    }
+
+    /// These keys, each displaced across its edges, which keeps their order. Linear; an error is want of memory.
+    pub(crate) fn displaced(&self, alloc: Global, by: i64) -> Result<ColumnKeys, AllocError>
+        requires edges { All HasNearEdges self.now }
+        requires by { IsNear by }
+        ensures { IfOk result (λ keys. keys ≡ map (displaced_key by) self.now) }
+    {
+        let keys = displaced_keys(alloc, self.keys.as_slice(), by)?;
+        Ok(ColumnKeys { keys })
     }
 }

@@ -15,6 +15,7 @@ mod check;
 mod column;
 mod columns;
 mod counts;
+mod displaced;
 mod divide;
 mod follow;
 mod keys;

@@ -92,3 +92,13 @@ pub record AreHalvesOf (c left right : Column) : Type 0 where
   pub to_is : right.to ≡ c.to
   pub some_left : left.from <ℤ left.to
   pub some_right : right.from <ℤ right.to
+
+-- The number is not far off: an edge that a column finds, or how far apart two columns are.
+pub record IsNear (x : ℤ) : Type 0 where
+  pub low : neg_ℤ (pos (2 ^ 41)) ≤ℤ x
+  pub high : x ≤ℤ pos (2 ^ 41)
+
+-- Neither of the key's edges is far off.
+pub record HasNearEdges (k : Key) : Type 0 where
+  pub first : IsNear k.x1
+  pub second : IsNear k.x2
