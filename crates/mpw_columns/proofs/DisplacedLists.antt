@@ -125,7 +125,9 @@ displaced_lists law whole finds s extent layers greatest by c e keys found short
 
     move : (k : Key) → IsRunWithin s c k ↔ IsRunWithin s e (displaced_key by k)
     move k =
-        let step = finds s.deck.rules layers greatest c.axis on on (core_in extent c) by short layered shows k in
+        let step =
+        finds s.deck.rules layers greatest c.axis on on (core_in extent c) by short layered
+        shows k in
         let here = run_of_found law whole s extent c k found in
         let other = run_of_found law whole s extent e (displaced_key by k) found in
         let same = in_displaced s extent by c e (displaced_key by k) d in (

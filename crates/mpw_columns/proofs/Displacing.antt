@@ -87,11 +87,13 @@ pair_on (Space l) by a b side x1 x2 j =
     )
 pair_on (Separation l m) by a b side x1 x2 j =
     let o = most_on by x1 x2 in
-    let e = either_on (fall_on by a x1 j) (rise_on by b x2 j) (fall_on by b x1 j) (rise_on by a x2 j) in
+    let e =
+    either_on (fall_on by a x1 j) (rise_on by b x2 j) (fall_on by b x1 j) (rise_on by a x2 j) in
     (λ w. (o.0 w.0, e.0 w.1), λ w. (o.1 w.0, e.1 w.1))
 pair_on (Enclosing l m) by a b side x1 x2 j =
     let o = most_on by x1 x2 in
-    let e = either_on (rise_on by a x1 j) (rise_on by b x2 j) (fall_on by b x1 j) (fall_on by a x2 j) in
+    let e =
+    either_on (rise_on by a x1 j) (rise_on by b x2 j) (fall_on by b x1 j) (fall_on by a x2 j) in
     (λ w. (o.0 w.0, e.0 w.1), λ w. (o.1 w.0, e.1 w.1))
 
 near_on : (by x1 x2 : ℤ) (distance : ℕ) → ((x2 -ℤ x1) <ℤ pos distance)

@@ -6,5 +6,6 @@ use Rattle.mpw_columns.proofs.keys.ColumnKeys.displaced.Goals as goal
 
 pub invariant_of-result : goal.invariant_of-result
 invariant_of-result c =
-    subst AreInOrder (sym (c.in_ok-keys.ensures ∙ ap (map (displaced_key _)) c.as_slice.ensures.value))
+    subst AreInOrder (sym (c.in_ok-keys.ensures
+    ∙ ap (map (displaced_key _)) c.as_slice.ensures.value))
     (order_kept _ _ c.self.invariant)
