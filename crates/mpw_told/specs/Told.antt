@@ -53,7 +53,7 @@ unwritten_text file reason = file ++ (codes ": can't be written: " ++ reason)
 -- A library that is too great to be read.
 unfoldable pub great_text : List ℕ → List ℕ
 great_text file =
-    file ++ codes ": more than 268435456 bytes, or without an end: split the library"
+    file ++ codes ": more than 4294967295 bytes, or without an end: split the library"
 
 abbrev pub CannotBeRead : List ℕ → FirmFault → Type 0
 CannotBeRead file fault = (reason : List ℕ) × Fails (unread_text file reason) fault
