@@ -1,5 +1,5 @@
 -- What the values of a command line are taken as.
-use Rattle.std.specs.Prelude.{◌≡◌, ◌^◌, ◌-◌, ℕ, List, [], codes, true, map, Option, None, Some, option_map}
+use Rattle.std.specs.Prelude.{◌≡◌, ◌≢◌, ◌^◌, ◌-◌, ℕ, Bool, List, [], codes, true, false, map, Option, None, Some, option_map}
 use Rattle.std.specs.String.{string_bytes}
 use Rattle.clap.specs.declared.parser.matches.Found.{Found}
 use Rattle.clap.specs.Matches.{first_value, matched_of, one_text, raw_values}
@@ -22,13 +22,22 @@ picture_key (Some wanted) = option_map string_bytes wanted.key
 
 -- ---- what is checked of a layout
 
--- A part has neither a report nor a picture, and it is of the whole library in the deck's tiles.
+-- A flag is set where the words give it, and else not.
+pub record IsFlag (found : Found) (name : List ℕ) (flag : Bool) : Type 0 where
+  pub given : one_text found name ≡ Some (codes "true") → flag ≡ true
+  pub other : one_text found name ≡ Some (codes "false") → flag ≡ false
+  pub none : one_text found name ≡ None → flag ≡ false
+
+-- A part has neither a report nor a picture, it is of the whole library in the deck's tiles, and it has all of their markers.
 pub record IsAlone (found : Found) : Type 0 where
   pub report : first_value found (codes "report") ≡ None
   pub picture : first_value found (codes "picture") ≡ None
   pub tile : first_value found (codes "tile") ≡ None
   pub skip : first_value found (codes "skip-layers") ≡ None
   pub limit : first_value found (codes "limit") ≡ None
+  pub unreached : one_text found (codes "skip-unreached") ≢ Some (codes "true")
+  pub faults : one_text found (codes "faults") ≢ Some (codes "true")
+  pub summary : one_text found (codes "summary") ≢ Some (codes "true")
 
 -- The layers that a word names are set aside; without one, none.
 abbrev pub IsSkipped : Option (List ℕ) → List Layer → Type 0
@@ -44,8 +53,9 @@ IsPortion found (Whole choices) =
     × IsSkipped (first_value found (codes "skip-layers")) choices.skip.items
     × (option_map (number_of 1 (2 ^ 32 - 1)) (first_value found (codes "limit"))
     ≡ option_map Some choices.limit)
-    × (one_text found (codes "faults") ≡ Some (codes "true") → choices.faults ≡ true)
-    × (one_text found (codes "skip-unreached") ≡ Some (codes "true") → choices.unreached ≡ true)
+    × IsFlag found (codes "faults") choices.faults
+    × IsFlag found (codes "skip-unreached") choices.unreached
+    × IsFlag found (codes "summary") choices.summary
 IsPortion found (Tiles range) =
     (option_map range_of (first_value found (codes "tiles")) ≡ Some (Some range)) × IsAlone found
 
@@ -60,7 +70,7 @@ pub record IsGiven (found : Found) (options : Options) : Type 0 where
   pub picture : first_value found (codes "picture") ≡ picture_file options.picture
   pub key : first_value found (codes "marker") ≡ picture_key options.picture
   pub portion : IsPortion found options.portion
-  pub strict : one_text found (codes "strict") ≡ Some (codes "true") → options.strict ≡ true
+  pub strict : IsFlag found (codes "strict") options.strict
 
 -- Those of parts that are stitched.
 pub record IsGivenParts (found : Found) (options : StitchOptions) : Type 0 where

@@ -1,5 +1,5 @@
 //! What a command line chooses of a check beside its files: a part of the tiles, or the whole with what is chosen of it.
-ghost use Rattle.std.specs.Prelude.{◌≡◌, ◌^◌, ◌-◌, None, Some, option_map, IfOk, IfErr};
+ghost use Rattle.std.specs.Prelude.{◌≡◌, ◌^◌, ◌-◌, None, Some, false, option_map, IfOk, IfErr};
 ghost use Rattle.clap.specs.Words.{found_of};
 ghost use Rattle.mpw_spread.specs.Ranges.{range_of};
 ghost use Rattle.mpw_text.specs.Text.{number_of};
@@ -29,6 +29,8 @@ pub struct Choices {
     pub limit: Option<u32>,
     /// Whether all faults of the library's elements are told, where it has one.
     pub faults: bool,
+    /// Whether the numbers of markers by rule are printed in the place of the listing.
+    pub summary: bool,
 }
 
 /// What is checked of a layout.
@@ -38,6 +40,34 @@ pub enum Portion {
     Whole(Choices),
     /// Some tiles, whose part is wanted in place of the markers of the whole.
     Tiles(TileRange),
+}
+
+/// An option without a value.
+fn flag<'a>(alloc: Global, name: &'a str, help: &'a str) -> Arg<'a> {
+    Arg::new(alloc, name)
+        .long(name)
+        .action(ArgAction::SetTrue)
+        .help(help)
+}
+
+/// The command line's form, with those of these options that have no value.
+fn with_flags<'a>(alloc: Global, command: Command<'a>) -> Result<Command<'a>, AllocError> {
+    let unreached = flag(
+        alloc,
+        "skip-unreached",
+        "With --top, leaves out the structures that it doesn't reach, and tells their faults",
+    );
+    let faults = flag(
+        alloc,
+        "faults",
+        "Tells the fault of each element, where the library has one, and not only the first",
+    );
+    let summary = flag(
+        alloc,
+        "summary",
+        "Prints the number of markers of each rule and of all, in the place of their listing",
+    );
+    command.arg(unreached)?.arg(faults)?.arg(summary)
 }
 
 /// The command line's form, with these options.
@@ -62,29 +92,14 @@ pub fn with_choices<'a>(alloc: Global, command: Command<'a>) -> Result<Command<'
         "L/D,..",
         "Leaves out the elements on these layers, with their faults",
     );
-    let faults = Arg::new(alloc, "faults")
-        .long("faults")
-        .action(ArgAction::SetTrue)
-        .help("Tells the fault of each element, where the library has one, and not only the first");
     let limit = free_option(
         alloc,
         "limit",
         "N",
         "Lists, writes and draws the first N markers of each rule at most",
     );
-    let unreached = Arg::new(alloc, "skip-unreached")
-        .long("skip-unreached")
-        .action(ArgAction::SetTrue)
-        .help(
-            "With --top, leaves out the structures that it doesn't reach, and tells their faults",
-        );
-    command
-        .arg(tiles)?
-        .arg(tile)?
-        .arg(skip)?
-        .arg(unreached)?
-        .arg(limit)?
-        .arg(faults)
+    let command = command.arg(tiles)?.arg(tile)?.arg(skip)?.arg(limit)?;
+    with_flags(alloc, command)
 }
 
 /// The tiles that a word names.
@@ -165,6 +180,18 @@ fn alone(alloc: Global, other: Option<&str>, text: &str) -> Result<(), FirmFault
     }
 }
 
+/// Refuses a flag beside `--tiles`.
+fn unflagged(alloc: Global, flag: bool, text: &str) -> Result<(), FirmFault>
+    ensures none { IfOk result (λ _. flag ≡ false) }
+    ensures refused { IfErr result IsMisuse }
+{
+    if flag {
+        Err(usage(alloc, text))
+    } else {
+        Ok(())
+    }
+}
+
 /// Refuses what a part can't have.
 fn tiles_alone(alloc: Global, matches: &ArgMatches<'_>) -> Result<(), FirmFault>
     ensures alone { IfOk result (λ _. IsAlone (found_of matches.now)) }
@@ -180,19 +207,14 @@ fn tiles_alone(alloc: Global, matches: &ArgMatches<'_>) -> Result<(), FirmFault>
     alone(alloc, matches.get_str("skip-layers"), skip)?;
     let limit = "error: a part has all markers of its tiles: give --limit to 'mpw stitch'";
     alone(alloc, matches.get_str("limit"), limit)?;
-    if matches.get_flag("skip-unreached") {
-        return Err(usage(
-            alloc,
-            "error: a part is of the whole library: --skip-unreached is for a check of all tiles",
-        ));
-    }
-    if matches.get_flag("faults") {
-        return Err(usage(
-            alloc,
-            "error: a part is of a library without faults: give --faults to a check of all tiles",
-        ));
-    }
-    Ok(())
+    let unreached =
+        "error: a part is of the whole library: --skip-unreached is for a check of all tiles";
+    unflagged(alloc, matches.get_flag("skip-unreached"), unreached)?;
+    let faults =
+        "error: a part is of a library without faults: give --faults to a check of all tiles";
+    unflagged(alloc, matches.get_flag("faults"), faults)?;
+    let summary = "error: a part has all markers of its tiles: --summary is for a check of all";
+    unflagged(alloc, matches.get_flag("summary"), summary)
 }
 
 /// What the command line's words choose.
@@ -214,6 +236,7 @@ pub fn read_portion(alloc: Global, matches: &ArgMatches<'_>) -> Result<Portion, 
             unreached: matches.get_flag("skip-unreached"),
             limit: read_limit(alloc, matches.get_str("limit"))?,
             faults: matches.get_flag("faults"),
+            summary: matches.get_flag("summary"),
         })),
     }
 }
