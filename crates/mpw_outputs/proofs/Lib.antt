@@ -1,3 +1,4 @@
 -- The lemmas of this crate.
+mod Counted
 pub mod Growth
 mod Separate

@@ -1,4 +1,6 @@
 pub mod Apart
+pub mod Counted
+pub mod Internal
 pub mod Listed
 pub mod Outputs
 pub mod Texts

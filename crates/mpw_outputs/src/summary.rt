@@ -1,0 +1,82 @@
+//! The numbers of markers by rule, and the text that tells them. `specs/Counted.antt` has what contracts say of it.
+ghost use Rattle.std.specs.Prelude.{◌≡◌, ◌==◌, ◌<◌, ◌+◌, ◌^◌, ◌++◌, ℕ, if◌then◌else◌, length, replicate, slice_index, IfOk};
+ghost use Rattle.std.specs.String.{string_bytes};
+ghost use Rattle.mpw_outputs.specs.Counted.{count_line, rule_counts, rule_lines, summary_text};
+
+use itoa::Buffer;
+use mpw_deck::Rule;
+use mpw_markers::Marker;
+use std::alloc::{AllocError, Global};
+
+/// So many zeros.
+fn zeros(alloc: Global, count: usize) -> Result<Vec<usize>, AllocError>
+    ensures { IfOk result (λ zeros. zeros.items ≡ replicate count 0) }
+{
+    vec![in alloc; 0usize; count]
+}
+
+/// Counts one more at a place, if it is there.
+fn count_one(counts: &mut Vec<usize>, place: usize)
+    requires { (k : ℕ) → k < length counts.old.items → slice_index counts.old.items k + 1 < 2 ^ 64 }
+    ensures many { length counts.new.items ≡ length counts.old.items }
+    ensures more { (k : ℕ) → k < length counts.old.items → slice_index counts.new.items k ≡ slice_index counts.old.items k + (if place == k then 1 else 0) }
+{
+    if place < counts.len() {
+        counts[place] += 1;
+    }
+}
+
+/// How many markers each of so many rules has, by the rule's place in the deck. One pass over the markers.
+///
+/// # Errors
+/// Want of memory.
+pub fn rule_counts(
+    alloc: Global,
+    rules: usize,
+    markers: &[Marker],
+) -> Result<Vec<usize>, AllocError>
+    ensures { IfOk result (λ counts. counts.items ≡ rule_counts rules markers.now) }
+{
+    let mut counts = zeros(alloc, rules)?;
+    for marker in markers {
+        count_one(&mut counts, marker.rule as usize);
+    }
+    Ok(counts)
+}
+
+/// Puts the line of a name and a number behind a text.
+#[tactic(auto, unfolding(crate::specs::Counted::count_line))]
+fn add_line(text: &mut String, name: &str, count: usize) -> Result<(), AllocError>
+    ensures { IfOk result (λ _. string_bytes text.new ≡ string_bytes text.old ++ count_line name.now count) }
+{
+    text.push_str(name)?;
+    text.push_str(" ")?;
+    text.push_str(Buffer::new().format(count))?;
+    text.push_str("\n")
+}
+
+/// The lines of the rules that have so many markers.
+fn rule_lines(alloc: Global, rules: &[Rule], markers: &[Marker]) -> Result<String, AllocError>
+    ensures { IfOk result (λ text. string_bytes text ≡ rule_lines rules.now markers.now) }
+{
+    let counts = rule_counts(alloc, rules.len(), markers)?;
+    let mut text = String::new(alloc);
+    for (place, rule) in rules.iter().enumerate() {
+        let count = counts[place];
+        add_line(&mut text, rule.name.as_str(), count)?;
+    }
+    Ok(text)
+}
+
+/// A line for each rule of a deck, with its name and how many of the markers are of it, and one for all. One pass over the markers; it takes
+/// the text's size, and a number for each rule.
+///
+/// # Errors
+/// Want of memory.
+pub fn summary_text(alloc: Global, rules: &[Rule], markers: &[Marker]) -> Result<String, AllocError>
+    ensures { IfOk result (λ text. string_bytes text ≡ summary_text rules.now markers.now) }
+{
+    let mut text = rule_lines(alloc, rules, markers)?;
+    add_line(&mut text, "all", markers.len())?;
+    Ok(text)
+}
