@@ -1,5 +1,5 @@
 //! Files, read to their ends or as far as is needed to refuse them.
-ghost use Rattle.std.specs.Prelude.{◌≡◌, ◌≤◌, ◌^◌, ◌⊎◌, Ok, vec_len, IfOk, IfErr};
+ghost use Rattle.std.specs.Prelude.{◌≡◌, ◌≤◌, ◌-◌, ◌^◌, ◌⊎◌, Ok, vec_len, IfOk, IfErr};
 ghost use Rattle.mpw_deck.specs.Reading.{deck_of};
 ghost use Rattle.mpw_told.specs.ToldFaults.{IsOfDeck};
 ghost use Rattle.mpw_told.specs.Told.{CannotBeRead, Refuses, great_text};
@@ -17,13 +17,25 @@ const FIRST_BYTES: u64 = 1 << 17;
 /// The bytes that are read at once behind them, and how often.
 const MORE_BYTES: u64 = 1 << 20;
 
-const MOST_READS: usize = 1 << 8;
+const MOST_READS: usize = 1 << 12;
+
+/// How often they are where no record is looked at, as behind ENDLIB.
+const MOST_BEHIND: usize = 1 << 8;
 
 /// The greatest library that a desk takes, in bytes.
 const DESK_BYTES: usize = 1 << 24;
 
 /// A file of more bytes isn't read to its end.
-const MOST_BYTES: usize = 1 << 28;
+const MOST_BYTES: usize = (1 << 32) - 1;
+
+/// What was read of a file.
+#[derive(Drop)]
+struct Front {
+    /// The bytes, as many as are needed of it.
+    bytes: Vec<u8>,
+    /// Whether it goes on behind them all the same, for longer than a file that is read may.
+    is_endless: bool,
+}
 
 /// What a file is read as.
 #[derive(Clone, Copy, Drop)]
@@ -72,43 +84,57 @@ fn reached(bytes: &[u8], from: usize) -> Option<usize> {
     Some(at)
 }
 
-/// What a reader gives behind its first bytes: to its end; up to a record with an unsound length, behind which nothing is read; or somewhat more than the
-/// most that is.
-fn read_on<R: Read>(reader: &mut R, bytes: &mut Vec<u8>, from: usize) -> io::Result<()> {
-    let mut at = Some(from);
+/// Reads what a reader gives behind its first bytes: to its end; up to a record with an unsound length, behind which nothing is read; or
+/// somewhat more than the most that is, or than the most behind ENDLIB. Whether the reader goes on there.
+fn read_on<R: Read>(reader: &mut R, bytes: &mut Vec<u8>, from: usize) -> io::Result<bool> {
+    let (mut place, mut left) = (from, MOST_BEHIND);
     for _ in 0..MOST_READS {
         let before = bytes.len();
-        at = match at {
-            Some(place) => reached(bytes, place),
-            None => None,
+        let Some(next) = reached(bytes, place) else {
+            return Ok(false);
         };
-        if at.is_none() {
-            return Ok(());
-        }
         reader.take(MORE_BYTES).read_to_end(bytes)?;
         if bytes.len() == before {
-            return Ok(());
+            return Ok(false);
         }
+        if next == usize::MAX {
+            if left == 0 {
+                return Ok(true);
+            }
+            left -= 1;
+        }
+        place = next;
     }
-    Ok(())
+    Ok(true)
 }
 
 /// What a reader gives, to its end or as far as is needed to refuse it.
-fn read_from<R: Read>(alloc: Global, reader: &mut R, content: Content) -> io::Result<Vec<u8>> {
+fn read_from<R: Read>(alloc: Global, reader: &mut R, content: Content) -> io::Result<Front> {
     let mut bytes = Vec::new(alloc);
     reader.take(FIRST_BYTES).read_to_end(&mut bytes)?;
-    if let Some(from) = content.goes_on(&bytes) {
-        read_on(reader, &mut bytes, from)?;
-    }
-    Ok(bytes)
+    let is_endless = match content.goes_on(&bytes) {
+        Some(from) => read_on(reader, &mut bytes, from)?,
+        None => false,
+    };
+    Ok(Front { bytes, is_endless })
 }
 
-/// The bytes of a file, or of the standard input where it is `-`.
-fn read_bytes(rt: &HostRuntime, file: &str, content: Content) -> io::Result<Vec<u8>> {
+/// The same of a file, or of the standard input where it is `-`.
+fn read_named(rt: &HostRuntime, file: &str, content: Content) -> io::Result<Front> {
     if file == "-" {
         read_from(rt.alloc(), &mut rt.stdin(), content)
     } else {
         read_from(rt.alloc(), &mut File::open(rt, file)?, content)
+    }
+}
+
+/// The same, where a file that can't be read is told.
+fn read_front(rt: &HostRuntime, file: &str, content: Content) -> Result<Front, FirmFault>
+    ensures { IfErr result (CannotBeRead file.now) }
+{
+    match read_named(rt, file, content) {
+        Ok(front) => Ok(front),
+        Err(error) => Err(unread_by(rt.alloc(), file, error)),
     }
 }
 
@@ -119,10 +145,11 @@ fn read_bytes(rt: &HostRuntime, file: &str, content: Content) -> io::Result<Vec<
 pub fn read_file(rt: &HostRuntime, file: &str, content: Content) -> Result<Vec<u8>, FirmFault>
     ensures { IfErr result (CannotBeRead file.now) }
 {
-    match read_bytes(rt, file, content) {
-        Ok(bytes) => Ok(bytes),
-        Err(error) => Err(unread_by(rt.alloc(), file, error)),
-    }
+    let Front {
+        bytes,
+        is_endless: _,
+    } = read_front(rt, file, content)?;
+    Ok(bytes)
 }
 
 /// Tells of a library that is too great for a desk.
@@ -141,20 +168,21 @@ fn too_great(alloc: Global, file: &str) -> FirmFault
     ensures { Refuses (great_text file.now) result }
 {
     refusal(format!(in alloc;
-        "{file}: more than 268435456 bytes, or without an end: split the library"
+        "{file}: more than 4294967295 bytes, or without an end: split the library"
     ))
 }
 
 /// The bytes of a library's file. One that is too great for a desk is told on the standard error.
 ///
 /// # Errors
-/// As [`read_file`]; and `Refused` where it has more than 2^28 bytes, or no end.
+/// As [`read_file`]; and `Refused` where it has more than 2^32 - 1 bytes, or goes on for more than 2^28 behind those that were read when its ENDLIB
+/// was found.
 pub fn read_library(rt: &HostRuntime, file: &str) -> Result<Vec<u8>, FirmFault>
-    ensures bytes { IfOk result (λ bytes. vec_len bytes ≤ 2 ^ 28) }
+    ensures bytes { IfOk result (λ bytes. vec_len bytes ≤ 2 ^ 32 - 1) }
     ensures refused { IfErr result (λ fault. CannotBeRead file.now fault ⊎ Refuses (great_text file.now) fault) }
 {
-    let bytes = read_file(rt, file, Content::Library)?;
-    if bytes.len() > MOST_BYTES {
+    let Front { bytes, is_endless } = read_front(rt, file, Content::Library)?;
+    if is_endless || bytes.len() > MOST_BYTES {
         return Err(too_great(rt.alloc(), file));
     }
     let _ = tell_size(rt, file, bytes.len());
