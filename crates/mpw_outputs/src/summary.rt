@@ -2,10 +2,13 @@
 ghost use Rattle.std.specs.Prelude.{◌≡◌, ◌==◌, ◌<◌, ◌+◌, ◌^◌, ◌++◌, ℕ, if◌then◌else◌, length, replicate, slice_index, IfOk};
 ghost use Rattle.std.specs.String.{string_bytes};
 ghost use Rattle.mpw_outputs.specs.Counted.{count_line, rule_counts, rule_lines, summary_text};
+ghost use Rattle.mpw_outputs.specs.Listed.{Lists};
 
 use itoa::Buffer;
 use mpw_deck::Rule;
 use mpw_markers::Marker;
+use mpw_reply_text::write_bytes;
+use mpw_wire::{Sink, WireFault};
 use std::alloc::{AllocError, Global};
 
 /// So many zeros.
@@ -68,15 +71,28 @@ fn rule_lines(alloc: Global, rules: &[Rule], markers: &[Marker]) -> Result<Strin
     Ok(text)
 }
 
-/// A line for each rule of a deck, with its name and how many of the markers are of it, and one for all. One pass over the markers; it takes
-/// the text's size, and a number for each rule.
-///
-/// # Errors
-/// Want of memory.
-pub fn summary_text(alloc: Global, rules: &[Rule], markers: &[Marker]) -> Result<String, AllocError>
+/// A line for each rule of a deck, with its name and how many of the markers are of it, and one for all.
+fn summary_text(alloc: Global, rules: &[Rule], markers: &[Marker]) -> Result<String, AllocError>
     ensures { IfOk result (λ text. string_bytes text ≡ summary_text rules.now markers.now) }
 {
     let mut text = rule_lines(alloc, rules, markers)?;
     add_line(&mut text, "all", markers.len())?;
     Ok(text)
+}
+
+/// Writes a line for each rule of a deck, with its name and how many of the markers are of it, and one for all. One pass over the markers; it
+/// takes the text's size, and a number for each rule.
+///
+/// # Errors
+/// `Write` where the sink failed, and `Memory`.
+pub fn write_summary<W: Sink>(
+    alloc: Global,
+    rules: &[Rule],
+    markers: &[Marker],
+    writer: &mut W,
+) -> Result<(), WireFault>
+    ensures { Lists W.contents W.failures writer.old writer.new result (summary_text rules.now markers.now) }
+{
+    let text = summary_text(alloc, rules, markers)?;
+    write_bytes(writer, text.as_bytes())
 }

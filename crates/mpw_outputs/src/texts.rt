@@ -4,9 +4,11 @@ ghost use Rattle.std.specs.Io.KnownBytes.{Appends};
 ghost use Rattle.mpw_outputs.specs.Texts.{text_of};
 
 use crate::listing::write_markers;
+use crate::summary::write_summary;
+use mpw_deck::Rule;
 use mpw_geom::Name;
 use mpw_limits::{Limited, write_limited};
-use mpw_markers::Book;
+use mpw_markers::{Book, Marker};
 use mpw_parts::{Part, write_part};
 use mpw_picture::{Picture, write_picture};
 use mpw_report::{Report, write_full_report};
@@ -23,6 +25,8 @@ pub enum Text<'a> {
     Listing(&'a Snapshot, &'a Book),
     /// The listing of the first markers of each rule.
     Limited(&'a Limited<'a>),
+    /// The numbers of markers by rule.
+    Summary(&'a [Rule], &'a [Marker]),
     /// A report.
     Report(&'a Report<'a>),
     /// Its picture.
@@ -80,6 +84,7 @@ fn write_bytes<S: Sink>(
     match *text {
         Text::Listing(layout, book) => write_markers(alloc, layout, book.copy()?, &mut writer.sink),
         Text::Limited(listing) => outcome(write_limited(writer, listing)),
+        Text::Summary(rules, markers) => write_summary(alloc, rules, markers, &mut writer.sink),
         Text::Report(report) => outcome(write_full_report(writer, report)),
         Text::Picture(layout, top, picture) => {
             let rules = layout.deck().rules().as_slice();
