@@ -1,5 +1,5 @@
 -- What came of a command: the texts that stand in their places, and how many markers were found.
-use Rattle.std.specs.Prelude.{◌≡◌, ℕ, List, [], ◌∷◌, ◌++◌, length, slice_get, Option, None, Some, option_map, Result, IfOk}
+use Rattle.std.specs.Prelude.{◌≡◌, ℕ, List, [], ◌∷◌, ◌++◌, false, length, slice_get, Option, None, Some, option_map, Result, IfOk}
 use Rattle.std.specs.String.{string_bytes}
 use Rattle.mpw_job.specs.Layout.{AreLayoutMarkers}
 use Rattle.mpw_markers.specs.declared.marker.Marker.{Marker}
@@ -46,7 +46,7 @@ abbrev pub report_texts : Option (List ℕ) → Shown → List Kept
 report_texts None s = []
 report_texts (Some file) s = in_file file (full_text (content_of s)) ∷ []
 
--- The listing, and the report that is wanted.
+-- What is printed, and the report that is wanted.
 abbrev pub listing_texts : Option (List ℕ) → Shown → List Kept
 listing_texts report s = on_output (listing_text s) ∷ report_texts report s
 
@@ -64,13 +64,13 @@ PutsPicture (Some wanted) s old new texts =
     (texts ++ (in_file (string_bytes wanted.file) (picture_text s.layout.deck.rules s.top picture)
     ∷ []))
 
--- The listing, and the report and the picture that are wanted.
+-- What is printed, and the report and the picture that are wanted.
 abbrev pub PutsAll : Options → Shown → Option (List Kept) → Option (List Kept) → Type 0
 PutsAll options s old new =
     PutsPicture options.picture s old new
     (listing_texts (option_map string_bytes options.report) s)
 
--- What is shown of a check: the library's file, the limit that is chosen, and what is told of what is looked at.
+-- What is shown of a check: the library's file, the limit that is chosen, what is told of what is looked at, and whether the numbers are chosen.
 abbrev pub shown_by : Options → Choices → Drawn → List Marker → Shown
 shown_by options choices drawn book = record {
   original = Some (string_bytes options.file);
@@ -79,9 +79,10 @@ shown_by options choices drawn book = record {
   book = book;
   limit = choices.limit;
   notes = notes_of drawn.layout;
+  summary = choices.summary;
 }
 
--- What is shown of parts with these notes: they name no file.
+-- What is shown of parts with these notes: they name no file, and their markers are listed.
 abbrev pub shown_with : List Noted → Option ℕ → Whole → Shown
 shown_with notes limit whole = record {
   original = None;
@@ -90,6 +91,7 @@ shown_with notes limit whole = record {
   book = whole.book;
   limit = limit;
   notes = notes;
+  summary = false;
 }
 
 -- They don't tell which layers have shapes.

@@ -1,5 +1,6 @@
--- What is told of a layout's markers: their listing and their report, of the first of each rule where there is a limit.
-use Rattle.std.specs.Prelude.{ℕ, ◌-◌, ◌^◌, List, [], map, Option, None, Some, option_map}
+-- What is told of a layout's markers: their listing and their report, of the first of each rule where there is a limit; or their numbers by rule.
+use Rattle.std.specs.Prelude.{ℕ, ◌-◌, ◌^◌, Bool, true, false, List, [], map, Option, None, Some, option_map}
+use Rattle.mpw_outputs.specs.Counted.{summary_text}
 use Rattle.mpw_outputs.specs.Listed.{listed_text}
 use Rattle.mpw_firm.specs.declared.checked.Checked.{Checked}
 use Rattle.mpw_limits.specs.Limits.{Limited, limited_text}
@@ -12,8 +13,8 @@ abbrev pub most_of : Option ℕ → ℕ
 most_of None = 2 ^ 64 - 1
 most_of (Some limit) = limit
 
--- What is shown of markers: the name of the layout's file, the structure's, the layout, the markers, the limit, and what is told of what was
--- looked at.
+-- What is shown of markers: the name of the layout's file, the structure's, the layout, the markers, the limit, what is told of what was
+-- looked at, and whether their numbers stand in the place of their listing.
 pub record Shown : Type 0 where
   pub original : Option (List ℕ)
   pub top : List ℕ
@@ -21,6 +22,7 @@ pub record Shown : Type 0 where
   pub book : List Marker
   pub limit : Option ℕ
   pub notes : List Noted
+  pub summary : Bool
 
 abbrev pub shown_of : Checked → Shown
 shown_of c = record {
@@ -30,6 +32,7 @@ shown_of c = record {
   book = c.book.now;
   limit = c.limit;
   notes = map note_of c.notes.now;
+  summary = c.summary;
 }
 
 abbrev pub limited_of : Shown → ℕ → Limited
@@ -40,9 +43,14 @@ abbrev pub listing_by : Shown → Option ℕ → List ℕ
 listing_by s None = listed_text s.layout s.book
 listing_by s (Some limit) = limited_text (limited_of s limit)
 
--- The listing: a desk's, or that of the first of each rule.
+-- The numbers by rule, or the listing.
+abbrev pub printed_text : Shown → (summary : Bool) → List ℕ
+printed_text s true = summary_text s.layout.deck.rules s.book
+printed_text s false = listing_by s s.limit
+
+-- What is printed: a desk's listing, or that of the first of each rule, or the numbers.
 abbrev pub listing_text : Shown → List ℕ
-listing_text s = listing_by s s.limit
+listing_text s = printed_text s s.summary
 
 -- What the report tells: all markers, of which the first of each rule have an item.
 abbrev pub content_of : Shown → Content

@@ -14,7 +14,7 @@ use crate::drawing::drawn_by;
 use crate::laws::markers_are_flat;
 use crate::line::Line;
 use crate::picture::{picture, view_of};
-use crate::progress::tell_summary;
+use crate::progress::{by_tiles, tell_summary};
 use crate::report::{list, report};
 use mpw_asked::{Choices, Options};
 use mpw_check::check_layout;
@@ -33,7 +33,7 @@ pub fn tiles_of(rt: &HostRuntime, target: &Target<'_>, snapshot: &Snapshot) -> F
     many_tiles(rt.alloc(), target.file, target.top.as_str(), snapshot)
 }
 
-/// Prints the markers, and writes the report.
+/// Prints the markers or their numbers, and writes the report.
 fn write_listed<O: Outputs>(
     outputs: &mut O,
     alloc: Global,
@@ -47,7 +47,7 @@ fn write_listed<O: Outputs>(
     report(outputs, alloc, &options.report, checked)
 }
 
-/// Prints the markers, and writes the report and the picture.
+/// Prints the markers or their numbers, and writes the report and the picture.
 fn write_all<O: Outputs>(
     outputs: &mut O,
     alloc: Global,
@@ -78,7 +78,7 @@ fn found_in(
     requires alone { length snapshot.now.shelf ≡ 1 }
     ensures { IfOk result (AreLayoutMarkers snapshot.now) }
 {
-    line.tell_read(snapshot);
+    line.tell_read(snapshot, by_tiles(snapshot).is_none());
     let book = check_layout(threads, rt.alloc(), snapshot, line);
     line.end();
     match book {
@@ -87,7 +87,7 @@ fn found_in(
     }
 }
 
-/// Checks what the command line asks for, prints its markers, writes its report and its picture and tells how many markers there
+/// Checks what the command line asks for, prints its markers or their numbers, writes its report and its picture and tells how many markers there
 /// are. A key that no marker has is refused before anything is printed.
 ///
 /// # Errors
@@ -120,6 +120,7 @@ pub fn check<O: Outputs>(
         original: Some(file),
         limit: choices.limit,
         notes: told,
+        summary: choices.summary,
     };
     let _ = tell_summary(rt, &checked, &line);
     markers_are_flat();

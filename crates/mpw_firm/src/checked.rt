@@ -23,6 +23,8 @@ pub struct Checked<'a> {
     pub limit: Option<u32>,
     /// What the report tells of what was looked at.
     pub notes: &'a [Note<'a>],
+    /// Whether the numbers of markers by rule are printed in the place of the listing.
+    pub summary: bool,
 }
 
 impl Checked<'_> {

@@ -8,11 +8,11 @@ use std::time::Instant;
 pub enum Lap {
     /// Reading the files, and placing the structure.
     Read,
-    /// Cutting the layout into the windows of its tiles.
+    /// Cutting the layout into the windows of its tiles, or halving it to columns.
     Cut,
-    /// Checking the tiles.
+    /// Checking the tiles or the columns.
     Check,
-    /// Stitching the tiles' markers.
+    /// Stitching the tiles' markers, or joining the columns'.
     Stitch,
     /// Writing what is wanted.
     Write,
@@ -88,15 +88,21 @@ impl<'a> Laps<'a> {
         since(self.rt, self.start)
     }
 
-    /// Tells on the standard error how long each part took, as `times: read 3 ms, cut 1 ms`; nothing where none is known.
+    /// Tells on the standard error how long each part took, as `times: read 3 ms, cut 1 ms`, or `halve` where columns were checked; nothing where
+    /// none is known.
     ///
     /// # Errors
     /// That of the standard error.
-    pub fn tell(&self) -> io::Result<()> {
+    pub fn tell(&self, by_columns: bool) -> io::Result<()> {
+        let (apart, together) = if by_columns {
+            ("halve", "join")
+        } else {
+            ("cut", "stitch")
+        };
         let read = tell_lap(self.rt, false, "read", self.read)?;
-        let cut = tell_lap(self.rt, read, "cut", self.cut)?;
+        let cut = tell_lap(self.rt, read, apart, self.cut)?;
         let check = tell_lap(self.rt, cut, "check", self.check)?;
-        let stitch = tell_lap(self.rt, check, "stitch", self.stitch)?;
+        let stitch = tell_lap(self.rt, check, together, self.stitch)?;
         if tell_lap(self.rt, stitch, "write", self.write)? {
             eprintln!(self.rt; "")?;
         }

@@ -15,12 +15,14 @@ pub struct Line<'a> {
     is_shown: bool,
     /// Whether it has to be ended.
     is_open: bool,
-    /// When the layout was cut.
-    cut: Option<Instant>,
+    /// Whether columns are checked one by one, and not tiles.
+    by_columns: bool,
+    /// When the first of them was begun.
+    begun: Option<Instant>,
     laps: Laps<'a>,
 }
 
-/// The seconds that the other tiles take, rounded up, where so many of all took so many ms.
+/// The seconds that the others take, rounded up, where so many of all took so many ms.
 fn seconds_left(taken: u64, done: usize, total: usize) -> u128
     requires some { 0 < done }
     requires within { done ≤ total }
@@ -37,42 +39,53 @@ impl<'a> Line<'a> {
             rt,
             is_shown: rt.stderr().is_terminal(),
             is_open: false,
-            cut: None,
+            by_columns: false,
+            begun: None,
             laps: Laps::new(rt),
         }
     }
 
-    /// Tells what was read, and that this part has ended.
-    pub fn tell_read(&mut self, snapshot: &Snapshot) {
+    /// Tells what was read, which is checked by columns or by tiles, and that this part has ended.
+    pub fn tell_read(&mut self, snapshot: &Snapshot, by_columns: bool) {
         self.laps.end(Lap::Read);
+        self.by_columns = by_columns;
         if self.is_shown {
             let shapes = snapshot.shelf().count(0);
             let _ = eprintln!(self.rt; "mpw: read {shapes} shapes");
         }
     }
 
-    /// Tells that the layout is cut.
-    fn write_cut(&mut self, total: usize) -> io::Result<()> {
-        self.cut = Some(Instant::now(self.rt)?);
-        eprint!(self.rt; "\rmpw: cut, {total} tiles to check")
+    /// What is checked one by one.
+    fn parts(&self) -> &'static str {
+        if self.by_columns { "columns" } else { "tiles" }
     }
 
-    /// Tells how many tiles are checked, and about how long the others take, by what these took since the cut.
-    fn write_checked(&self, done: usize, total: usize, cut: &Instant) -> io::Result<()>
+    /// Tells how many tiles there are, into which the layout is cut, or how many columns.
+    fn write_begun(&mut self, total: usize) -> io::Result<()> {
+        self.begun = Some(Instant::now(self.rt)?);
+        let cut = if self.by_columns { "" } else { "cut, " };
+        eprint!(self.rt; "\rmpw: {cut}{total} {} to check", self.parts())
+    }
+
+    /// Tells how many are checked, and about how long the others take, by what these took since the first was begun.
+    fn write_checked(&self, done: usize, total: usize, begun: &Instant) -> io::Result<()>
         requires some { 0 < done }
         requires within { done ≤ total }
     {
-        let taken = u64::try_from(cut.elapsed(self.rt)?.as_millis()).unwrap_or(u64::MAX);
-        let left = seconds_left(taken, done, total);
-        eprint!(self.rt; "\rmpw: {done} of {total} tiles checked, about {left} s left   ")
+        let taken = u64::try_from(begun.elapsed(self.rt)?.as_millis()).unwrap_or(u64::MAX);
+        let (left, parts) = (seconds_left(taken, done, total), self.parts());
+        eprint!(self.rt; "\rmpw: {done} of {total} {parts} checked, about {left} s left   ")
     }
 
     /// Writes the line anew.
     fn write(&mut self, done: usize, total: usize) -> io::Result<()> {
-        match self.cut {
-            Some(cut) if 0 < done && done < total => self.write_checked(done, total, &cut),
-            None if done == 0 && total > 0 => self.write_cut(total),
-            _ => eprint!(self.rt; "\rmpw: {done} of {total} tiles checked                    "),
+        match self.begun {
+            Some(begun) if 0 < done && done < total => self.write_checked(done, total, &begun),
+            None if done == 0 && total > 0 => self.write_begun(total),
+            _ => {
+                let parts = self.parts();
+                eprint!(self.rt; "\rmpw: {done} of {total} {parts} checked                    ")
+            }
         }
     }
 
@@ -93,7 +106,7 @@ impl<'a> Line<'a> {
     /// Ends the part that writes, and tells on the standard error how long each part took.
     pub fn tell_times(&mut self) {
         self.laps.end(Lap::Write);
-        let _ = self.laps.tell();
+        let _ = self.laps.tell(self.by_columns);
     }
 }
 

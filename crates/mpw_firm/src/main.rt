@@ -1,6 +1,7 @@
 //! The program of a firm: `mpw check --deck DECK --top STRUCTURE FILE` checks a structure of a GDSII library under a deck, and
 //! prints its markers as a desk lists them; with `--report OUT` it writes them to a file too, as a report database of KLayout's.
 //! With `--tiles` it checks some tiles of the plan, and prints their part; `mpw stitch PART..` prints the markers of the whole.
+//! With `--summary` it prints how many markers each rule has in the place of the markers.
 //! With `--picture OUT` it draws what was checked, or with `--marker KEY` what lies round a marker, as SVG.
 #![tactic(auto)]
 
@@ -20,6 +21,7 @@ mod key;
 mod laps;
 mod laws;
 mod line;
+mod memory;
 mod part;
 mod picture;
 mod progress;

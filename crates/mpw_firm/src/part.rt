@@ -66,7 +66,7 @@ fn part_of(
     };
     let (deck, top) = (copy_of(alloc, asked.deck)?, asked.target.top.copy()?);
     let subject = subject_of(asked.library, deck, top, tiles);
-    line.tell_read(layout);
+    line.tell_read(layout, false);
     let part = check_part(threads, alloc, subject, layout, span, line);
     line.end();
     Ok(part?)

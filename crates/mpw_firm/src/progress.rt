@@ -1,14 +1,16 @@
 //! What is told on the standard error of a check that has ended.
-ghost use Rattle.std.specs.Prelude.{◌≡◌, nat_lt};
+ghost use Rattle.std.specs.Prelude.{◌≡◌, Some, nat_lt, IfSome};
 ghost use Rattle.std.specs.List.{list_any};
+ghost use Rattle.mpw_check.specs.Lists.{tile_count};
 ghost use Rattle.mpw_firm.specs.Counts.{count_of, has_some};
 
 use crate::checked::Checked;
 use crate::line::Line;
+use crate::memory::peak;
 use mpw_check::{MAX_IN_TILES, tile_count};
 use mpw_deck::Rules;
-use mpw_limits::count_of_rule;
 use mpw_markers::{Marker, TileMarkers};
+use mpw_outputs::rule_counts;
 use mpw_parts::Part;
 use mpw_tiles::Snapshot;
 use std::io;
@@ -24,47 +26,54 @@ fn tiles_of(snapshot: &Snapshot) -> u32 {
     }
 }
 
-/// How many of the markers are of the rule with that place in its deck.
-fn of_rule(markers: &[Marker], rule: usize) -> usize {
-    markers
-        .iter()
-        .filter(|marker| marker.rule as usize == rule)
-        .count()
-}
-
 /// Tells how many markers there are, and how many of each rule.
 pub fn tell_markers(rt: &HostRuntime, rules: &Rules, markers: &[Marker]) -> io::Result<()> {
+    let rules = rules.as_slice();
+    let counts = rule_counts(rt.alloc(), rules.len(), markers)?;
     eprint!(rt; "{} markers", markers.len())?;
-    for (place, rule) in rules.as_slice().iter().enumerate() {
-        eprint!(rt; ", {} {}", rule.name.as_str(), of_rule(markers, place))?;
+    for (rule, count) in rules.iter().zip(counts.iter()) {
+        eprint!(rt; ", {} {count}", rule.name.as_str())?;
     }
     Ok(())
 }
 
-/// Ends a line with the time that was taken, if the clock can be read.
-fn tell_time(rt: &HostRuntime, taken: Option<u64>) -> io::Result<()> {
-    match taken {
-        Some(taken) => eprintln!(rt; ", {taken} ms"),
-        None => eprintln!(rt; ""),
+/// Ends a line with the time that was taken, if the clock can be read, and the greatest memory, where the system tells it.
+fn tell_taken(rt: &HostRuntime, taken: Option<u64>) -> io::Result<()> {
+    if let Some(taken) = taken {
+        eprint!(rt; ", {taken} ms")?;
+    }
+    if let Some(peak) = peak(rt) {
+        eprint!(rt; ", {peak} MB")?;
+    }
+    eprintln!(rt; "")
+}
+
+/// How many tiles a layout is checked by; none where it goes by columns.
+pub fn by_tiles(snapshot: &Snapshot) -> Option<u32>
+    ensures { IfSome result (λ tiles. tile_count snapshot.now ≡ Some tiles) }
+{
+    if snapshot.shelf().count(0) > MAX_IN_TILES {
+        return None;
+    }
+    tile_count(snapshot)
+}
+
+/// Tells in how many tiles a layout was checked, or that columns were.
+fn tell_way(rt: &HostRuntime, snapshot: &Snapshot) -> io::Result<()> {
+    match by_tiles(snapshot) {
+        Some(tiles) => eprint!(rt; "{tiles} tiles, "),
+        None => eprint!(rt; "by columns, "),
     }
 }
 
-/// Tells in how many tiles a layout of so many shapes was checked, or that columns were.
-fn tell_way(rt: &HostRuntime, snapshot: &Snapshot, shapes: u64) -> io::Result<()> {
-    match tile_count(snapshot) {
-        Some(tiles) if shapes <= MAX_IN_TILES => eprint!(rt; "{tiles} tiles, "),
-        _ => eprint!(rt; "by columns, "),
-    }
-}
-
-/// Tells what was checked and found, and the time that it took; and of a layout that shows more shapes than a desk takes, that.
+/// Tells what was checked and found, the time and the memory that it took; and of a layout that shows more shapes than a desk takes, that.
 pub fn tell_summary(rt: &HostRuntime, checked: &Checked<'_>, line: &Line<'_>) -> io::Result<()> {
     let layout = checked.layout;
     let shapes = layout.shelf().count(0);
     eprint!(rt; "{shapes} shapes, ")?;
-    tell_way(rt, layout, shapes)?;
+    tell_way(rt, layout)?;
     tell_markers(rt, layout.deck().rules(), checked.book.as_slice())?;
-    tell_time(rt, line.taken())?;
+    tell_taken(rt, line.taken())?;
     if shapes > MAX_ON_DESK {
         eprintln!(rt; "note: more than 1048576 shapes: the desk takes no more")?;
     }
@@ -76,11 +85,14 @@ pub fn tell_summary(rt: &HostRuntime, checked: &Checked<'_>, line: &Line<'_>) ->
 /// # Errors
 /// That of the standard error.
 pub fn tell_limit(rt: &HostRuntime, checked: &Checked<'_>) -> io::Result<()> {
-    let (markers, most) = (checked.book.as_slice(), checked.most());
-    for (place, rule) in checked.layout.deck().rules().as_slice().iter().enumerate() {
-        let count = count_of_rule(markers, place);
-        if count > most {
-            let left = count - most;
+    let Some(limit) = checked.limit else {
+        return Ok(());
+    };
+    let (rules, most) = (checked.layout.deck().rules().as_slice(), limit as usize);
+    let counts = rule_counts(rt.alloc(), rules.len(), checked.book.as_slice())?;
+    for (rule, count) in rules.iter().zip(counts.iter()) {
+        if *count > most {
+            let left = *count - most;
             eprintln!(rt;
                 "note: rule {}: {left} of {count} markers left out",
                 rule.name.as_str()
@@ -102,7 +114,7 @@ pub fn count_of(lists: &[TileMarkers]) -> usize
     count
 }
 
-/// Tells which of the tiles were checked, how many markers these have, and the time that it took.
+/// Tells which of the tiles were checked, how many markers these have, and the time and the memory that it took.
 pub fn tell_part(
     rt: &HostRuntime,
     snapshot: &Snapshot,
@@ -116,5 +128,5 @@ pub fn tell_part(
         part.first(),
         count_of(part.lists())
     )?;
-    tell_time(rt, line.taken())
+    tell_taken(rt, line.taken())
 }

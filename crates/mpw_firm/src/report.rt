@@ -5,7 +5,8 @@ ghost use Rattle.mpw_outputs.specs.Outputs.{on_output, Grows, IsUnwritten};
 ghost use Rattle.mpw_firm.specs.Came.{report_texts};
 ghost use Rattle.mpw_limits.specs.Limits as listing;
 ghost use Rattle.mpw_report.specs.Content as told;
-ghost use Rattle.mpw_firm.specs.Shown.{content_of, limited_of, listing_text, shown_of};
+ghost use Rattle.mpw_firm.specs.Shown.{content_of, limited_of, listing_by, listing_text, shown_of};
+ghost use Rattle.mpw_outputs.specs.Counted.{summary_text};
 ghost use Rattle.mpw_told.specs.Told.{Fails, output_text};
 
 use crate::checked::Checked;
@@ -43,16 +44,13 @@ fn report_of<'a>(checked: &Checked<'a>) -> Report<'a>
     }
 }
 
-/// Prints the markers of a layout on the standard output: all, or the first of each rule where there is a limit.
-///
-/// # Errors
-/// `Device` where that failed, and `Memory`.
-pub fn list<O: Outputs>(
+/// Prints the markers of a layout: all, or the first of each rule where there is a limit.
+fn list_markers<O: Outputs>(
     outputs: &mut O,
     alloc: Global,
     checked: &Checked<'_>,
 ) -> Result<(), FirmFault>
-    ensures kept { IfOk result (λ _. Grows (O.kept outputs.old) (O.kept outputs.new) (on_output (listing_text (shown_of checked.now)) ∷ [])) }
+    ensures kept { IfOk result (λ _. Grows (O.kept outputs.old) (O.kept outputs.new) (on_output (listing_by (shown_of checked.now) checked.now.limit) ∷ [])) }
     ensures refused { IfErr result (Fails output_text) }
 {
     match checked.limit {
@@ -64,6 +62,40 @@ pub fn list<O: Outputs>(
             let listing = limited(checked, limit);
             put(outputs, alloc, Place::Standard, &Text::Limited(&listing))
         }
+    }
+}
+
+/// Prints how many markers each rule has, and how many there are.
+fn list_counts<O: Outputs>(
+    outputs: &mut O,
+    alloc: Global,
+    checked: &Checked<'_>,
+) -> Result<(), FirmFault>
+    ensures kept { IfOk result (λ _. Grows (O.kept outputs.old) (O.kept outputs.new) (on_output (summary_text checked.now.layout.now.deck.rules checked.now.book.now) ∷ [])) }
+    ensures refused { IfErr result (Fails output_text) }
+{
+    let rules = checked.layout.deck().rules().as_slice();
+    let text = Text::Summary(rules, checked.book.as_slice());
+    put(outputs, alloc, Place::Standard, &text)
+}
+
+/// Prints the markers of a layout on the standard output: all, or the first of each rule where there is a limit; or how many each rule has,
+/// where that is asked for.
+///
+/// # Errors
+/// `Device` where that failed, and `Memory`.
+pub fn list<O: Outputs>(
+    outputs: &mut O,
+    alloc: Global,
+    checked: &Checked<'_>,
+) -> Result<(), FirmFault>
+    ensures kept { IfOk result (λ _. Grows (O.kept outputs.old) (O.kept outputs.new) (on_output (listing_text (shown_of checked.now)) ∷ [])) }
+    ensures refused { IfErr result (Fails output_text) }
+{
+    if checked.summary {
+        list_counts(outputs, alloc, checked)
+    } else {
+        list_markers(outputs, alloc, checked)
     }
 }
 

@@ -80,6 +80,7 @@ fn write_whole<'a, O: Outputs>(
         original: None,
         limit: options.limit,
         notes,
+        summary: false,
     };
     let _ = tell_limit(rt, &checked);
     list(outputs, alloc, &checked)?;

@@ -29,6 +29,7 @@ returns g c =
       book = book;
       limit = choices.limit;
       notes = told;
+      summary = choices.summary;
     }) begun new) c.as_str-file.ensures.value c.in_ok-write_all.ensures in
     let noted = subst (λ (notes : List Noted). PutsAll options
     (record {
@@ -38,6 +39,7 @@ returns g c =
       book = book;
       limit = choices.limit;
       notes = notes;
+      summary = choices.summary;
     }) begun new)
     (ap (map note_of) c.as_slice-told.ensures.value ∙ c.in_ok-notes.ensures) written in
     record {
