@@ -280,6 +280,42 @@ def is_limited(limit, lines, left):
         return differing(found, wanted)
 
 
+def is_summed(words, told, items):
+    """The numbers of the same markers in the place of their listing: four of the width, one of the space and none of the separation, in the deck's order,
+    and five in all. The report has as many items as without."""
+    with Folder() as folder:
+        folder.write("bars.deck", b"tile 256\nspace s 1/0 51\nwidth w 1/0 700\nseparation p 1/0 2/0 9\n")
+        status, printed, lines = folder.run(*CHECK, "--summary", "--report", "report", *words, "two-bars.gds")
+        found = {"status": status, "printed": printed, "told": summary_left_out(lines), "items": folder.read("report").count(b"<item>")}
+        idle = "note: rule p looks at nothing: layer 2/0 has no shapes"
+        return differing(found, {"status": 1, "printed": b"s 1\nw 4\np 0\nall 5\n", "told": [idle, *told], "items": items})
+
+
+def is_summed_clean(rules, printed):
+    """Nothing is found: the bars are 40 apart, and each is at least 50 wide."""
+    with Folder() as folder:
+        folder.write("bars.deck", b"tile 256\n" + rules)
+        status, text, _ = folder.run(*CHECK, "--summary", "two-bars.gds")
+        return differing({"status": status, "printed": text}, {"status": 0, "printed": printed})
+
+
+def is_summed_with_picture():
+    """Beside a picture, by another side, and without the elements on a layer that has none: the two markers of the deck as it is."""
+    with Folder() as folder:
+        words = ["--summary", "--picture", "picture", "--tile", "300", "--skip-layers", "9/0", "--skip-unreached", "--faults"]
+        status, printed, _ = folder.run(*CHECK, *words, "two-bars.gds")
+        found = {"status": status, "printed": printed, "drawn": b"<svg " in folder.read("picture")}
+        return differing(found, {"status": 1, "printed": b"w 1\ns 1\nall 2\n", "drawn": True})
+
+
+def is_unsummed():
+    """A full device is told."""
+    with Folder() as folder:
+        with open("/dev/full", "wb") as output:
+            status, _, told = folder.run(*CHECK, "--summary", "two-bars.gds", output=output)
+        return differing({"status": status, "told": told[1:]}, {"status": 3, "told": ["error: the standard output failed"]})
+
+
 def is_no_limit(word):
     with Folder() as folder:
         status, printed, told = folder.run(*CHECK, "--limit", word, "two-bars.gds")
@@ -381,6 +417,14 @@ CASES = {
     "a limit that leaves none out": lambda: is_limited("4", [*WIDE, GAP], 0),
     "a limit that is none": lambda: is_no_limit("0"),
     "a part with a limit": lambda: is_part_alone(["--limit", "1"], "error: a part has all markers of its tiles: give --limit to 'mpw stitch'"),
+    "numbers by rule": lambda: is_summed([], [], 5),
+    "numbers by rule, and a report of one marker of each": lambda: is_summed(["--limit", "1"], ["note: rule w: 3 of 4 markers left out"], 2),
+    "numbers of rules without markers": lambda: is_summed_clean(b"space s 1/0 40\nwidth all 1/0 50\n", b"s 0\nall 0\nall 0\n"),
+    "numbers under a deck without rules": lambda: is_summed_clean(b"", b"all 0\n"),
+    "numbers beside the other choices": is_summed_with_picture,
+    "numbers on a full device": is_unsummed,
+    "numbers of a library with a fault": lambda: of_elements(ONE, ["--summary"], 4, b"", lambda at: [slanted(at + 16)]),
+    "a part with numbers": lambda: is_part_alone(["--summary"], "error: a part has all markers of its tiles: --summary is for a check of all"),
     "one marker of each rule of parts": lambda: are_stitched("1", [*WIDE[:1], GAP], 3),
     "all markers of parts": lambda: are_stitched("4", [*WIDE, GAP], 0),
     "a fault in a structure that is placed once": lambda: is_reported(reference(10, 100, 200), "100,9200", "(0.1,9.2;0.19,9.29)"),

@@ -344,7 +344,7 @@ CASES = {
     "a deck that never ends": lambda: is_endless(["check", "--deck", "/dev/zero", "--top", "TOP", "two-bars.gds"], 4, "error: /dev/zero: line 1: "),
     "a part that never ends": lambda: is_endless(["stitch", "/dev/zero"], 4, "error: /dev/zero: no part"),
     "zeros without end behind a library's head": lambda: goes_on(6, "error: -: badlength at byte 6: a record's length is odd or below 4: the file is damaged, or is no GDSII"),
-    "zeros without end behind a library": lambda: goes_on(None, "error: -: more than 268435456 bytes, or without an end: split the library"),
+    "zeros without end behind a library": lambda: goes_on(None, "error: -: more than 4294967295 bytes, or without an end: split the library"),
     "a library that is too great for the desk": is_great,
     "a make whose checks fail": leaves_nothing,
 }
