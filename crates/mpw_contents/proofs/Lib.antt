@@ -1,0 +1,9 @@
+pub mod Members
+pub mod Adding
+pub mod Lists
+pub mod Steps
+pub mod Opened
+pub mod Missing
+pub mod Read
+pub mod Layouts
+pub mod Tops

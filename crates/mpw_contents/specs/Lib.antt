@@ -1,0 +1,4 @@
+pub mod Things
+pub mod Contents
+pub mod Displaced
+pub mod Internal

@@ -1,0 +1,39 @@
+//! Contents: a list of things.
+
+ghost use Rattle.std.specs.Prelude.{◌≡◌};
+
+use crate::thing::Thing;
+use std::marker::Model;
+
+/// Things in order, which contracts see as their list. Each is displaced by 2^48 nm at most.
+pub struct Contents {
+    pub(crate) things: Vec<Thing>,
+}
+
+impl Drop for Contents {
+    fn drop(self) {
+        let Contents { things } = self;
+        drop(things);
+    }
+}
+
+impl Model for Contents {
+    ghost use Rattle.std.specs.Prelude.{List, All};
+    ghost use Rattle.mpw_contents.specs.declared.thing.Thing.{Thing};
+    ghost use Rattle.mpw_contents.specs.Contents.{IsNear};
+
+    ghost Value = { List Thing };
+
+    ghost view = { λ c. c.things.items };
+
+    ghost invariant = { λ c. All IsNear c.things.items };
+}
+
+impl Contents {
+    /// The things in order. Takes no memory.
+    pub fn things(&self) -> &[Thing]
+        ensures { result.now ≡ self.now }
+    {
+        &self.things
+    }
+}

@@ -1,0 +1,29 @@
+//! Laws of the definitions alone. The function does nothing: its contract is the law.
+
+ghost use Rattle.mpw_contents.specs.Internal.Opening.{NamesAreOpened};
+
+use mpw_hier::{extents_are_least_boxes, names_list_their_targets, names_show_their_targets};
+use std::marker::Model;
+
+/// An item of a flat list, which laws of lists of any kind are called with. There is no value of it.
+#[derive(Drop)]
+struct Shown;
+
+impl Model for Shown {
+    ghost use Rattle.mpw_hier.specs.Items.{Item};
+    ghost use Rattle.mpw_contents.specs.Internal.Opening.{some_item};
+
+    ghost Value = { Item };
+
+    ghost view = { λ _. some_item };
+}
+
+/// What a name of a library shows is what its structure does, and a submission shows what its top does. Extents hold what is
+/// shown, and are placed with it.
+pub fn names_are_opened()
+    ensures { NamesAreOpened }
+{
+    names_show_their_targets();
+    names_list_their_targets::<Shown>();
+    extents_are_least_boxes();
+}

@@ -1,0 +1,21 @@
+//! What of a layout meets a window, as a short list: shapes, and arrays of instances of structures.
+//!
+//! [`contents_in`] begins with the top and opens what is wider than wanted, level by level, so that what it answers is short
+//! where the layout is regular. Two windows of equal contents up to a displacement ([`displacement`]) show the same up to
+//! it, which costs no more to find than the lists are long.
+#![tactic(auto)]
+
+mod contents;
+mod fit;
+mod laws;
+mod layout;
+mod making;
+mod opening;
+mod placed;
+mod stop;
+mod thing;
+
+pub use contents::Contents;
+pub use layout::Wanted;
+pub use making::contents_in;
+pub use thing::{Array, Shape, Thing};

@@ -1,0 +1,249 @@
+//! An array, one level down: for each instance that may meet the window the structure's own shapes, and an array for each of its
+//! children.
+
+ghost use Rattle.std.specs.Prelude.{◌≡◌, ◌<◌, ◌++◌, ◌∷◌, [], map, slice_get, option_copied, OnOk, IfOk, IfSome, IfNone, Contains};
+ghost use Rattle.std.specs.List.{flat_map};
+ghost use Rattle.mpw_geom.specs.Plane.{IsInPlane};
+ghost use Rattle.mpw_structures.specs.Element.{IsElement, IsReference};
+ghost use Rattle.mpw_hier.specs.Items.{placed_item, placed_items, row_of};
+ghost use Rattle.mpw_contents.specs.Things.{drawn, element_at, place_shown, reference_of, thing_items};
+ghost use Rattle.mpw_contents.specs.Internal.Making.{IsLayout, IsNodeOf, IsArray, IsThing, LeadsTo, Adds, Shows};
+ghost use Rattle.mpw_contents.specs.Internal.Opening.{name_shown, as_reference, child_shown, structure_shapes, structure_children, instances_shown, IsPlacedReference};
+ghost use Rattle.mpw_contents.specs.declared.thing.Thing.TheVariants as variants;
+
+use crate::fit::may_meet;
+use crate::laws::names_are_opened;
+use crate::layout::Layout;
+use crate::placed::{instance, is_in_plane};
+use crate::stop::Stop;
+use crate::thing::{Array, Shape, Thing};
+use mpw_geom::Placing;
+use mpw_hier::{Child, Node, Target, element_box};
+use mpw_structures::{Element, Reference};
+
+/// The array of a node that a reference places, as it is placed itself.
+fn placed_array(placing: Placing, reference: &Reference, place: usize, node: &Node) -> Array
+    requires reference { IsReference reference.now }
+    requires near { IsInPlane placing.by }
+    ensures placed { IsPlacedReference placing reference.now (reference_of result) }
+    ensures node { result.node ≡ place }
+    ensures structure { result.structure ≡ node.now.structure }
+{
+    let first = Placing {
+        orient: reference.orient,
+        by: reference.origin,
+    };
+    Array {
+        structure: node.structure,
+        node: place,
+        first: first.then(placing),
+        columns: reference.columns,
+        rows: reference.rows,
+        column_step: placing.orient.apply(reference.column_step),
+        row_step: placing.orient.apply(reference.row_step),
+    }
+}
+
+impl<'a> Layout<'a> {
+    /// The element at a place of the structure at a place.
+    fn element(&self, structure: usize, place: usize) -> Option<&'a Element>
+        requires { IsLayout self.now }
+        ensures is { option_copied result ≡ element_at (slice_get self.now.structures.now structure) place }
+        ensures read { IfSome result (λ e. IsElement e.now) }
+    {
+        let structure = self.structures.get(structure)?;
+        structure.elements.as_slice().get(place)
+    }
+
+    /// The reference at a place of the structure at a place, if there is one.
+    fn reference(&self, structure: usize, place: usize) -> Option<&'a Reference>
+        requires { IsLayout self.now }
+        ensures is { option_copied result ≡ as_reference (element_at (slice_get self.now.structures.now structure) place) }
+        ensures read { IfSome result (λ r. IsReference r.now) }
+    {
+        match self.element(structure, place)? {
+            Element::Reference(reference) => Some(reference),
+            Element::Boundary(_) | Element::Path(_) => None,
+        }
+    }
+
+    /// Adds a thing.
+    ///
+    /// # Errors
+    /// Where there are as many as wanted, or want of memory.
+    pub fn push(&self, thing: Thing, things: &mut Vec<Thing>) -> Result<(), Stop>
+        ensures { OnOk result (things.new.items ≡ things.old.items ++ thing ∷ []) }
+    {
+        if things.len() >= self.wanted.most {
+            return Err(Stop::Many);
+        }
+        things.push(thing)?;
+        Ok(())
+    }
+
+    /// Adds a shape, if there is one that may meet the window.
+    fn put_shape(&self, shape: Shape, things: &mut Vec<Thing>) -> Result<(), Stop>
+        requires layout { IsLayout self.now }
+        requires near { IsInPlane shape.placing.by }
+        ensures { OnOk result (Adds self.now (drawn shape.placing (element_at (slice_get self.now.structures.now shape.structure) shape.element)) things.old.items things.new.items) }
+    {
+        let Some(element) = self.element(shape.structure, shape.element) else {
+            return Ok(());
+        };
+        if !may_meet(self.window, shape.placing, element_box(element)) {
+            return Ok(());
+        }
+        self.push(Thing::Shape(shape), things)
+    }
+
+    /// Adds an array, or as much of it as may meet the window.
+    pub fn put_array(&self, array: Array, things: &mut Vec<Thing>) -> Result<(), Stop>
+        requires layout { IsLayout self.now }
+        requires array { IsArray self.now.nodes.now array }
+        ensures { OnOk result (Adds self.now (thing_items self.now.shelf.now (variants.Array array)) things.old.items things.new.items) }
+    {
+        self.push(Thing::Array(array), things)
+    }
+
+    /// Adds what a reference places, as it is placed itself.
+    fn put_reference(
+        &self,
+        reference: &Reference,
+        target: Target,
+        placing: Placing,
+        things: &mut Vec<Thing>,
+    ) -> Result<(), Stop>
+        requires layout { IsLayout self.now }
+        requires reference { IsReference reference.now }
+        requires target { LeadsTo self.now reference.now.name target }
+        requires near { IsInPlane placing.by }
+        ensures { OnOk result (Adds self.now (map (placed_item placing) (placed_items reference.now (name_shown self.now.shelf.now reference.now.name))) things.old.items things.new.items) }
+    {
+        names_are_opened();
+        let Target::Own(place) = target else {
+            return Err(Stop::Outside);
+        };
+        let Some(node) = self.nodes.get(place) else {
+            return Err(Stop::Outside);
+        };
+        let array = placed_array(placing, reference, place, node);
+        if !is_in_plane(array.first.by) {
+            return Err(Stop::Outside);
+        }
+        self.put_array(array, things)
+    }
+
+    /// Adds what a child of a node shows, placed.
+    fn put_child(
+        &self,
+        node: &Node,
+        child: Child,
+        placing: Placing,
+        things: &mut Vec<Thing>,
+    ) -> Result<(), Stop>
+        requires layout { IsLayout self.now }
+        requires node { IsNodeOf self.now node.now }
+        requires child { Contains node.now.children.items child }
+        requires near { IsInPlane placing.by }
+        ensures { OnOk result (Adds self.now (map (placed_item placing) (child_shown (name_shown self.now.shelf.now) (element_at (slice_get self.now.structures.now node.now.structure) child.element))) things.old.items things.new.items) }
+    {
+        let Some(reference) = self.reference(node.structure, child.element) else {
+            return Ok(());
+        };
+        self.put_reference(reference, child.target, placing, things)
+    }
+
+    /// Adds a node's own shapes, placed.
+    fn put_shapes(&self, node: &Node, placing: Placing, things: &mut Vec<Thing>) -> Result<(), Stop>
+        requires layout { IsLayout self.now }
+        requires near { IsInPlane placing.by }
+        ensures { OnOk result (Adds self.now (structure_shapes placing (slice_get self.now.structures.now node.now.structure) node.now.shapes.items) things.old.items things.new.items) }
+    {
+        for place in &node.shapes {
+            let shape = Shape {
+                structure: node.structure,
+                element: *place,
+                placing,
+            };
+            self.put_shape(shape, things)?;
+        }
+        Ok(())
+    }
+
+    /// Adds what a node's children show, placed.
+    fn put_children(
+        &self,
+        node: &Node,
+        placing: Placing,
+        things: &mut Vec<Thing>,
+    ) -> Result<(), Stop>
+        requires layout { IsLayout self.now }
+        requires node { IsNodeOf self.now node.now }
+        requires near { IsInPlane placing.by }
+        ensures { OnOk result (Adds self.now (structure_children placing (name_shown self.now.shelf.now) (slice_get self.now.structures.now node.now.structure) node.now.children.items) things.old.items things.new.items) }
+    {
+        for child in &node.children {
+            self.put_child(node, *child, placing, things)?;
+        }
+        Ok(())
+    }
+
+    /// Adds what a node shows, placed, one level down.
+    fn open_instance(
+        &self,
+        node: &Node,
+        placing: Placing,
+        things: &mut Vec<Thing>,
+    ) -> Result<(), Stop>
+        requires layout { IsLayout self.now }
+        requires node { IsNodeOf self.now node.now }
+        requires near { IsInPlane placing.by }
+        ensures { OnOk result (Adds self.now (map (placed_item placing) (place_shown self.now.shelf.now node.now.structure)) things.old.items things.new.items) }
+    {
+        names_are_opened();
+        if !may_meet(self.window, placing, node.size.extent) {
+            return Ok(());
+        }
+        self.put_shapes(node, placing, things)?;
+        self.put_children(node, placing, things)
+    }
+
+    /// Adds what the instances of a row of an array show, one level down.
+    fn open_row(
+        &self,
+        array: &Array,
+        node: &Node,
+        row: u16,
+        things: &mut Vec<Thing>,
+    ) -> Result<(), Stop>
+        requires layout { IsLayout self.now }
+        requires node { IsNodeOf self.now node.now }
+        ensures { OnOk result (Adds self.now (instances_shown self.now.shelf.now node.now.structure (row_of (reference_of array.now) row)) things.old.items things.new.items) }
+    {
+        for column in 0..array.columns {
+            let Some(placing) = instance(array, row, column) else {
+                return Err(Stop::Outside);
+            };
+            self.open_instance(node, placing, things)?;
+        }
+        Ok(())
+    }
+
+    /// Adds what an array shows, one level down.
+    ///
+    /// # Errors
+    /// As those of [`Layout::push`], and where a placing lies beyond 2^48 nm.
+    pub fn open(&self, array: &Array, things: &mut Vec<Thing>) -> Result<(), Stop>
+        requires layout { IsLayout self.now }
+        requires array { IsArray self.now.nodes.now array.now }
+        ensures { OnOk result (Adds self.now (thing_items self.now.shelf.now (variants.Array array.now)) things.old.items things.new.items) }
+    {
+        let Some(node) = self.nodes.get(array.node) else {
+            return Err(Stop::Outside);
+        };
+        for row in 0..array.rows {
+            self.open_row(array, node, row, things)?;
+        }
+        Ok(())
+    }
+}

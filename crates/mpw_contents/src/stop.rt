@@ -1,0 +1,26 @@
+//! Why no contents are made.
+
+use std::alloc::{AllocError, AllocFailed};
+
+/// Why no contents are made.
+#[derive(Clone, Copy)]
+pub enum Stop {
+    /// There was no memory.
+    Memory,
+    /// There would be more things than wanted, or more levels than a shelf has.
+    Many,
+    /// A name is bound outside the library, or a displacement lies beyond 2^48 nm.
+    Outside,
+}
+
+impl From<AllocError> for Stop {
+    fn from(_error: AllocError) -> Stop {
+        Stop::Memory
+    }
+}
+
+impl<T: Drop> From<AllocFailed<T>> for Stop {
+    fn from(_error: AllocFailed<T>) -> Stop {
+        Stop::Memory
+    }
+}
