@@ -18,6 +18,7 @@ use Rattle.mpw_hier.specs.declared.node.Target.TheVariants as targets
 use Rattle.mpw_hier.specs.declared.submission.Submission.{Submission}
 use Rattle.mpw_hier.specs.Structures.{references}
 use Rattle.mpw_hier.specs.Boxes.{extent_of}
+use Rattle.mpw_hier.specs.Sizes.{IsExtentNear}
 use Rattle.mpw_hier.specs.Items.{Item, own_items, placed_item, placed_items, shown_items}
 use Rattle.mpw_hier.specs.Nodes.{IsNode, IsTarget}
 use Rattle.mpw_hier.specs.Values.{structure_items, flats, heights, from_first}
@@ -112,6 +113,9 @@ module _ (l : Layout) (w : IsLayout l) where
     -- its size is that of what it shows
     pub node_extent : node.size.extent ≡ extent_of (place_shown l.shelf.now node.structure)
     node_extent = is_node.size.extent ∙ ap extent_of (sym node_place)
+
+    pub node_near : IsExtentNear node.size.extent
+    node_near = is_node.size.near
 
     -- one level down
     module _ (law : NamesAreOpened) where

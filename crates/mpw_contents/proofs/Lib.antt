@@ -7,3 +7,7 @@ pub mod Missing
 pub mod Read
 pub mod Layouts
 pub mod Tops
+pub mod Moved
+pub mod Spans
+pub mod Instances
+pub mod Arrays

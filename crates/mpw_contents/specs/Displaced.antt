@@ -1,8 +1,11 @@
 -- Things, and what they show, at a displacement.
+use Rattle.std.specs.Prelude.{◌≡◌, List, map}
 use Rattle.mpw_geom.specs.Placing.{moved_point}
 use Rattle.mpw_geom.specs.declared.plane.Point.{Point}
 use Rattle.mpw_geom.specs.declared.placing.Placing.{Placing}
 use Rattle.mpw_hier.specs.Items.{Item}
+use Rattle.mpw_contents.specs.declared.thing.Array.{Array}
+use Rattle.mpw_contents.specs.declared.thing.Shape.{Shape}
 use Rattle.mpw_contents.specs.declared.thing.Thing.{Thing}
 use Rattle.mpw_contents.specs.declared.thing.Thing.TheVariants as things
 
@@ -13,14 +16,16 @@ abbrev pub moved : Point → Item → Item
 moved d i =
     record { origin = i.origin; placing = moved_placing d i.placing; element = i.element }
 
--- The same shape, or the same array, elsewhere.
-abbrev pub moved_thing : Point → Thing → Thing
-moved_thing d (things.Shape shape) = things.Shape (record {
+-- The same shape, and the same array, elsewhere.
+abbrev pub moved_shape : Point → Shape → Shape
+moved_shape d shape = record {
   structure = shape.structure;
   element = shape.element;
   placing = moved_placing d shape.placing;
-})
-moved_thing d (things.Array a) = things.Array (record {
+}
+
+abbrev pub moved_array : Point → Array → Array
+moved_array d a = record {
   structure = a.structure;
   node = a.node;
   first = moved_placing d a.first;
@@ -28,4 +33,12 @@ moved_thing d (things.Array a) = things.Array (record {
   rows = a.rows;
   column_step = a.column_step;
   row_step = a.row_step;
-})
+}
+
+abbrev pub moved_thing : Point → Thing → Thing
+moved_thing d (things.Shape shape) = things.Shape (moved_shape d shape)
+moved_thing d (things.Array a) = things.Array (moved_array d a)
+
+-- One list of things is another, elsewhere.
+abbrev pub AreMoved : Point → (from to : List Thing) → Type 0
+AreMoved d from to = to ≡ map (moved_thing d) from

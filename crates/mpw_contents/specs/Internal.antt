@@ -1,3 +1,5 @@
 -- What private functions and proofs alone need: no public contract speaks of it.
 pub mod Making
 pub mod Opening
+pub mod Moving
+pub mod Fitting

@@ -1,6 +1,7 @@
 //! Contents: a list of things.
 
-ghost use Rattle.std.specs.Prelude.{◌≡◌};
+ghost use Rattle.std.specs.Prelude.{◌≡◌, All};
+ghost use Rattle.mpw_contents.specs.Contents.{IsNear};
 
 use crate::thing::Thing;
 use std::marker::Model;
@@ -32,7 +33,8 @@ impl Model for Contents {
 impl Contents {
     /// The things in order. Takes no memory.
     pub fn things(&self) -> &[Thing]
-        ensures { result.now ≡ self.now }
+        ensures things { result.now ≡ self.now }
+        ensures near { All IsNear self.now }
     {
         &self.things
     }

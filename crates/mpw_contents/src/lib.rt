@@ -6,6 +6,7 @@
 #![tactic(auto)]
 
 mod contents;
+mod displaced;
 mod fit;
 mod laws;
 mod layout;
@@ -16,6 +17,7 @@ mod stop;
 mod thing;
 
 pub use contents::Contents;
+pub use displaced::displacement;
 pub use layout::Wanted;
 pub use making::contents_in;
 pub use thing::{Array, Shape, Thing};

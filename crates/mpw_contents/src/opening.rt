@@ -11,7 +11,7 @@ ghost use Rattle.mpw_contents.specs.Internal.Making.{IsLayout, IsNodeOf, IsArray
 ghost use Rattle.mpw_contents.specs.Internal.Opening.{name_shown, as_reference, child_shown, structure_shapes, structure_children, instances_shown, IsPlacedReference};
 ghost use Rattle.mpw_contents.specs.declared.thing.Thing.TheVariants as variants;
 
-use crate::fit::may_meet;
+use crate::fit::{fitted, may_meet};
 use crate::laws::names_are_opened;
 use crate::layout::Layout;
 use crate::placed::{instance, is_in_plane};
@@ -97,12 +97,25 @@ impl<'a> Layout<'a> {
     }
 
     /// Adds an array, or as much of it as may meet the window.
+    ///
+    /// # Errors
+    /// As those of [`Layout::push`].
     pub fn put_array(&self, array: Array, things: &mut Vec<Thing>) -> Result<(), Stop>
         requires layout { IsLayout self.now }
         requires array { IsArray self.now.nodes.now array }
         ensures { OnOk result (Adds self.now (thing_items self.now.shelf.now (variants.Array array)) things.old.items things.new.items) }
     {
-        self.push(Thing::Array(array), things)
+        names_are_opened();
+        let Some(node) = self.nodes.get(array.node) else {
+            return Err(Stop::Outside);
+        };
+        let Some(extent) = node.size.extent else {
+            return Ok(());
+        };
+        match fitted(&array, self.window, extent) {
+            Some(array) => self.push(Thing::Array(array), things),
+            None => Ok(()),
+        }
     }
 
     /// Adds what a reference places, as it is placed itself.

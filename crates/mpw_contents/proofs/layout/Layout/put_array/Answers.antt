@@ -1,15 +1,35 @@
-use Rattle.std.proofs.Common.{refl}
 use Rattle.std.proofs.lemmas.Result.{on_ok_weaker}
-use Rattle.mpw_contents.specs.Things.{thing_items}
-use Rattle.mpw_contents.specs.declared.thing.Thing.TheVariants as things
-use Rattle.mpw_contents.proofs.Adding.{adds_one, shows_same}
+use Rattle.mpw_walk.proofs.Fronts.{found}
+use Rattle.mpw_contents.proofs.Arrays.{near, nothing_shown, none_left, some_left}
 use Rattle.mpw_contents.proofs.layout.Layout.put_array.Goals as goal
 
-pub returns : goal.returns
-returns c =
+pub returns-in_default-extent : goal.returns-in_default-extent
+returns-in_default-extent c =
     let l = c.args.self.now in
-    let thing = things.Array c.args.array in
-    let shown = thing_items l.shelf.now thing in
+    let a = c.args.array in
+    let at = found l.nodes.now a.node c.get.result c.in-Some.node c.in-Some.is c.get.ensures.lookup.0 c.get.ensures.lookup.1 in
+    nothing_shown c.names_are_opened.ensures l c.requires.layout a c.requires.array c.in-Some.node.now at c.in_default-extent.is c.args.things.now.items
+
+pub fitted-requires-clause-near : goal.fitted-requires-clause-near
+fitted-requires-clause-near c =
+    let l = c.args.self.now in
+    let a = c.args.array in
+    let at = found l.nodes.now a.node c.get.result c.in-Some.node c.in-Some.is c.get.ensures.lookup.0 c.get.ensures.lookup.1 in
+    near c.names_are_opened.ensures l c.requires.layout a c.requires.array c.in-Some.node.now at c.in-Some-extent.extent c.in-Some-extent.is
+
+pub returns-in-Some-fitted : goal.returns-in-Some-fitted
+returns-in-Some-fitted c =
+    let l = c.args.self.now in
+    let a = c.args.array in
+    let at = found l.nodes.now a.node c.get.result c.in-Some.node c.in-Some.is c.get.ensures.lookup.0 c.get.ensures.lookup.1 in
     on_ok_weaker c.push.result
-    (λ e. adds_one l shown c.args.things.now.items c.push.new.things.items thing e c.requires.array
-    (shows_same l.window shown shown refl)) c.push.ensures
+    (λ e. some_left c.names_are_opened.ensures l c.requires.layout a c.requires.array c.in-Some.node.now at c.in-Some-extent.extent c.in-Some-extent.is
+    c.in-Some-fitted.array c.in-Some-fitted.ensures.some c.args.things.now.items c.push.new.things.items e) c.push.ensures
+
+pub returns-in-None : goal.returns-in-None
+returns-in-None c =
+    let l = c.args.self.now in
+    let a = c.args.array in
+    let at = found l.nodes.now a.node c.get.result c.in-Some.node c.in-Some.is c.get.ensures.lookup.0 c.get.ensures.lookup.1 in
+    none_left c.names_are_opened.ensures l c.requires.layout a c.requires.array c.in-Some.node.now at c.in-Some-extent.extent c.in-Some-extent.is
+    c.in-None.ensures.none c.args.things.now.items

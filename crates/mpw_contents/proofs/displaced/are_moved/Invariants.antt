@@ -1,0 +1,6 @@
+use Rattle.std.proofs.Common.{◌≡◌, map, take}
+use Rattle.mpw_contents.specs.Displaced.{moved_thing}
+use Rattle.mpw_contents.proofs.displaced.are_moved.Given as goal
+
+abbrev pub invariant-loop-place : goal.invariant-loop-place
+invariant-loop-place l = take l.place l.b ≡ map (moved_thing l.d) (take l.place l.a)
