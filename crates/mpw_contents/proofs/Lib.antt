@@ -11,3 +11,4 @@ pub mod Moved
 pub mod Spans
 pub mod Instances
 pub mod Arrays
+pub mod Coded

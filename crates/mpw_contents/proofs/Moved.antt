@@ -14,9 +14,9 @@ use Rattle.mpw_hier.specs.Items.{Item, placed_again, placed_item, placed_items}
 use Rattle.mpw_contents.specs.declared.thing.Array.{Array}
 use Rattle.mpw_contents.specs.declared.thing.Thing.{Thing}
 use Rattle.mpw_contents.specs.declared.thing.Thing.TheVariants as things
-use Rattle.mpw_contents.specs.Displaced.{moved, moved_placing, moved_array, moved_thing, AreMoved}
+use Rattle.mpw_contents.specs.Displaced.{place_of_thing, moved, moved_placing, moved_array, moved_thing, AreMoved}
 use Rattle.mpw_contents.specs.Things.{drawn, place_shown, reference_of, thing_items, things_items}
-use Rattle.mpw_contents.specs.Internal.Moving.{place_of_thing, way_between}
+use Rattle.mpw_contents.specs.Internal.Moving.{way_between}
 use Rattle.mpw_contents.specs.Internal.Opening.{IsPlacedReference}
 use Rattle.mpw_contents.proofs.Lists.{map_same}
 use Rattle.mpw_contents.proofs.Steps.{items_placed}
@@ -57,7 +57,7 @@ shown_moved d from to h ss = ap (things_items ss) h ∙ all_moved ss d from
 
 -- ---- which displacement it is
 
-place_moved : (d : Point) (t : Thing) → place_of_thing (moved_thing d t) ≡ moved_point d (place_of_thing t)
+pub place_moved : (d : Point) (t : Thing) → place_of_thing (moved_thing d t) ≡ moved_point d (place_of_thing t)
 place_moved d (things.Shape shape) = refl
 place_moved d (things.Array a) = refl
 

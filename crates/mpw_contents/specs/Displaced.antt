@@ -9,6 +9,12 @@ use Rattle.mpw_contents.specs.declared.thing.Shape.{Shape}
 use Rattle.mpw_contents.specs.declared.thing.Thing.{Thing}
 use Rattle.mpw_contents.specs.declared.thing.Thing.TheVariants as things
 
+-- Where a thing stands.
+abbrev pub place_of_thing : Thing → Point
+place_of_thing (things.Shape shape) = shape.placing.by
+place_of_thing (things.Array a) = a.first.by
+
+-- The same elsewhere.
 abbrev pub moved_placing : Point → Placing → Placing
 moved_placing d t = record { orient = t.orient; by = moved_point d t.by }
 

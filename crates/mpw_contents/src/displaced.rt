@@ -6,16 +6,16 @@ ghost use Rattle.mpw_geom.specs.Placing.{moved_point};
 ghost use Rattle.mpw_geom.specs.declared.plane.Point.{Point};
 ghost use Rattle.mpw_hier.specs.declared.submission.Submission.{Submission};
 ghost use Rattle.mpw_contents.specs.Contents.{IsNear};
-ghost use Rattle.mpw_contents.specs.Displaced.{moved, moved_placing, moved_shape, moved_array, moved_thing, AreMoved};
+ghost use Rattle.mpw_contents.specs.Displaced.{place_of_thing, moved, moved_placing, moved_shape, moved_array, moved_thing, AreMoved};
 ghost use Rattle.mpw_contents.specs.Things.{things_items};
-ghost use Rattle.mpw_contents.specs.Internal.Moving.{place_of_thing, IsWay, IsWayBetween, way_between};
+ghost use Rattle.mpw_contents.specs.Internal.Moving.{IsWay, IsWayBetween, way_between};
 
 use crate::contents::Contents;
 use crate::thing::{Array, Shape, Thing};
 use mpw_geom::{Placing, Point};
 
 /// Where a thing stands.
-fn place(thing: &Thing) -> Point
+pub fn place(thing: &Thing) -> Point
     requires { IsNear thing.now }
     ensures place { result ≡ place_of_thing thing.now }
     ensures near { IsInPlane result }

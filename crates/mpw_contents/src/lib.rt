@@ -5,6 +5,7 @@
 //! it, which costs no more to find than the lists are long.
 #![tactic(auto)]
 
+mod codes;
 mod contents;
 mod displaced;
 mod fit;
@@ -16,6 +17,7 @@ mod placed;
 mod stop;
 mod thing;
 
+pub use codes::code;
 pub use contents::Contents;
 pub use displaced::displacement;
 pub use layout::Wanted;

@@ -1,12 +1,6 @@
--- What private functions and proofs need of this: where things stand, and the ways between them.
+-- What private functions and proofs need of this: the ways between things.
 use Rattle.std.specs.Prelude.{◌^◌, ◌≤ℤ◌, ℤ, pos, neg_ℤ, ◌-ℤ◌}
 use Rattle.mpw_geom.specs.declared.plane.Point.{Point}
-use Rattle.mpw_contents.specs.declared.thing.Thing.{Thing}
-use Rattle.mpw_contents.specs.declared.thing.Thing.TheVariants as things
-
-abbrev pub place_of_thing : Thing → Point
-place_of_thing (things.Shape shape) = shape.placing.by
-place_of_thing (things.Array a) = a.first.by
 
 -- At most 2^49 nm, as the way between two coordinates is.
 pub record IsWay (z : ℤ) : Type 0 where
