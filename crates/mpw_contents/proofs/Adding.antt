@@ -25,13 +25,15 @@ module _ (window : Box2) where
     sound = λ i h. subst (λ xs. Contains xs i) (sym e) h;
   }
 
-  pub shows_none : (all : List Item) → ((i : Item) → Contains all i → is_met window (item_box i) ≡ false) → Shows window all []
+  pub shows_none : (all : List Item) → ((i : Item) → Contains all i
+      → is_met window (item_box i) ≡ false) → Shows window all []
   shows_none all missed = record {
     whole = λ i h met. absurd (let f : true ≡ false = sym met ∙ missed i h in cc);
     sound = λ i h. absurd (contains_none i h);
   }
 
-  pub shows_both : (xs ys us vs : List Item) → Shows window xs us → Shows window ys vs → Shows window (xs ++ ys) (us ++ vs)
+  pub shows_both : (xs ys us vs : List Item) → Shows window xs us → Shows window ys vs
+      → Shows window (xs ++ ys) (us ++ vs)
   shows_both xs ys us vs h k = record {
     whole = λ i in' met. elim (Contains-append_cases xs ys i in') [
       | inl l ↦ Contains-append_left us vs i (h.whole i l met)
@@ -43,7 +45,8 @@ module _ (window : Box2) where
     ];
   }
 
-  pub shows_again : (xs ys zs : List Item) → Shows window xs ys → Shows window ys zs → Shows window xs zs
+  pub shows_again : (xs ys zs : List Item) → Shows window xs ys → Shows window ys zs
+      → Shows window xs zs
   shows_again xs ys zs h k = record {
     whole = λ i in' met. k.whole i (h.whole i in' met) met;
     sound = λ i in'. h.sound i (k.sound i in');
@@ -51,7 +54,8 @@ module _ (window : Box2) where
 
 module _ (l : Layout) where
   -- nothing was added, where nothing that is shown meets the window
-  pub adds_none : (items : List Item) (old : List Thing) → Shows l.window items [] → Adds l items old old
+  pub adds_none : (items : List Item) (old : List Thing) → Shows l.window items []
+      → Adds l items old old
   unfolding things_items
   adds_none items old h = record {
     made = [];
@@ -60,7 +64,9 @@ module _ (l : Layout) where
     shows = h;
   }
 
-  pub adds_one : (items : List Item) (old new : List Thing) (thing : Thing) → new ≡ old ++ thing ∷ [] → IsThing l.nodes.now thing → Shows l.window items (thing_items l.shelf.now thing) → Adds l items old new
+  pub adds_one : (items : List Item) (old new : List Thing) (thing : Thing) → new ≡ old ++ thing
+      ∷ [] → IsThing l.nodes.now thing → Shows l.window items (thing_items l.shelf.now thing)
+      → Adds l items old new
   unfolding things_items
   adds_one items old new thing is near h = record {
     made = thing ∷ [];
@@ -69,25 +75,31 @@ module _ (l : Layout) where
     shows = subst (Shows l.window items) (sym (append-nil (thing_items l.shelf.now thing))) h;
   }
 
-  pub adds_both : (xs ys : List Item) (old mid new : List Thing) → Adds l xs old mid → Adds l ys mid new → Adds l (xs ++ ys) old new
+  pub adds_both : (xs ys : List Item) (old mid new : List Thing) → Adds l xs old mid
+      → Adds l ys mid new → Adds l (xs ++ ys) old new
   unfolding things_items
   adds_both xs ys old mid new h k = record {
     made = h.made ++ k.made;
     is = k.is ∙ ap (λ ts. ts ++ k.made) h.is ∙ append_assoc old h.made k.made;
     are = All-append (IsThing l.nodes.now) h.made k.made h.are k.are;
-    shows = subst (Shows l.window (xs ++ ys)) (sym (flat_map-append (thing_items l.shelf.now) h.made k.made))
-        (shows_both l.window xs ys (things_items l.shelf.now h.made) (things_items l.shelf.now k.made) h.shows k.shows);
+    shows = subst (Shows l.window (xs ++ ys))
+        (sym (flat_map-append (thing_items l.shelf.now) h.made k.made))
+        (shows_both l.window xs ys (things_items l.shelf.now h.made)
+        (things_items l.shelf.now k.made) h.shows k.shows);
   }
 
   pub adds_start : (old : List Thing) → Adds l [] old old
   adds_start old = adds_none [] old (shows_same l.window [] [] refl)
 
-  pub adds_same : (xs ys : List Item) (old new : List Thing) → xs ≡ ys → Adds l xs old new → Adds l ys old new
+  pub adds_same : (xs ys : List Item) (old new : List Thing) → xs ≡ ys → Adds l xs old new
+      → Adds l ys old new
   adds_same xs ys old new e h = subst (λ zs. Adds l zs old new) e h
 
   -- one more of a list, each of which shows some items
-  pub adds_more : {X : Type 0} (f : X → List Item) (xs : List X) (i : ℕ) (d : X) (old mid new : List Thing) → i < length xs
-      → Adds l (flat_map f (take i xs)) old mid → Adds l (f (get_or xs i d)) mid new → Adds l (flat_map f (take (i + 1) xs)) old new
+  pub adds_more : {X : Type 0} (f : X → List Item) (xs : List X) (i : ℕ) (d : X)
+      (old mid new : List Thing) → i < length xs
+      → Adds l (flat_map f (take i xs)) old mid → Adds l (f (get_or xs i d)) mid new
+      → Adds l (flat_map f (take (i + 1) xs)) old new
   adds_more f xs i d old mid new lt h k =
       let x = get_or xs i d in
       let e = ap (flat_map f) (take_more xs i d lt) ∙ flat_map-append f (take i xs) (x ∷ [])
@@ -96,18 +108,23 @@ module _ (l : Layout) where
       (adds_both (flat_map f (take i xs)) (f x) old mid new h k)
 
   -- the same, where the list has another name
-  pub adds_next : {X : Type 0} (f : X → List Item) (ys xs : List X) (i : ℕ) (d : X) (old mid new : List Thing) → ys ≡ xs → i < length ys
-      → Adds l (flat_map f (take i xs)) old mid → Adds l (f (get_or ys i d)) mid new → Adds l (flat_map f (take (i + 1) xs)) old new
+  pub adds_next : {X : Type 0} (f : X → List Item) (ys xs : List X) (i : ℕ) (d : X)
+      (old mid new : List Thing) → ys ≡ xs → i < length ys
+      → Adds l (flat_map f (take i xs)) old mid → Adds l (f (get_or ys i d)) mid new
+      → Adds l (flat_map f (take (i + 1) xs)) old new
   adds_next {X = X} f ys xs i d old mid new e lt h k =
       adds_more f xs i d old mid new (subst (λ (zs : List X). i < length zs) e lt) h
       (subst (λ (zs : List X). Adds l (f (get_or zs i d)) mid new) e k)
 
   -- an element that may be there, and may miss the window
-  pub nothing_drawn : (t : Placing) (o : Option Element) (old : List Thing) → o ≡ None → Adds l (drawn t o) old old
-  nothing_drawn t o old e = adds_none (drawn t o) old (shows_same l.window (drawn t o) [] (ap (drawn t) e))
+  pub nothing_drawn : (t : Placing) (o : Option Element) (old : List Thing) → o ≡ None
+      → Adds l (drawn t o) old old
+  nothing_drawn t o old e = adds_none (drawn t o) old
+      (shows_same l.window (drawn t o) [] (ap (drawn t) e))
 
   pub drawn_out : (t : Placing) (o : Option Element) (e : Element) (old : List Thing) → o ≡ Some e
-      → is_met l.window (option_map (placed_box t) (element_box e)) ≡ false → Adds l (drawn t o) old old
+      → is_met l.window (option_map (placed_box t) (element_box e)) ≡ false
+      → Adds l (drawn t o) old old
   drawn_out t o e old is away =
       let item : Item = record { origin = 0; placing = t; element = e } in
       adds_none (drawn t o) old (subst (λ items. Shows l.window items []) (ap (drawn t) (sym is))
@@ -118,38 +135,50 @@ module _ (l : Layout) where
 
 module _ (l : Layout) {X : Type 0} (f : X → List Item) (old mid new : List Thing) (n : ℕ) where
   -- one more column of a row, and one more row
-  pub adds_column : (g : ℕ → X) → Adds l (flat_map f (map g (range_with_len 0 n))) old mid → Adds l (f (g n)) mid new
+  pub adds_column : (g : ℕ → X) → Adds l (flat_map f (map g (range_with_len 0 n))) old mid
+      → Adds l (f (g n)) mid new
       → Adds l (flat_map f (map g (range_with_len 0 (n + 1)))) old new
   adds_column g h k =
-      let e = ap (λ ns. flat_map f (map g ns)) (range_more 0 n) ∙ ap (flat_map f) (map-append g (range_with_len 0 n) ((0 + n) ∷ []))
+      let e = ap (λ ns. flat_map f (map g ns)) (range_more 0 n)
+      ∙ ap (flat_map f) (map-append g (range_with_len 0 n) ((0 + n) ∷ []))
       ∙ flat_map-append f (map g (range_with_len 0 n)) (g (0 + n) ∷ [])
       ∙ ap (λ m. flat_map f (map g (range_with_len 0 n)) ++ flat_map f (g m ∷ [])) (zero-add n)
       ∙ ap (λ ys. flat_map f (map g (range_with_len 0 n)) ++ ys) (append-nil (f (g n))) in
-      adds_same l _ _ old new (sym e) (adds_both l (flat_map f (map g (range_with_len 0 n))) (f (g n)) old mid new h k)
+      adds_same l _ _ old new (sym e) (adds_both l (flat_map f (map g (range_with_len 0 n)))
+      (f (g n)) old mid new h k)
 
-  pub adds_row : (g : ℕ → List X) → Adds l (flat_map f (flat_map g (range_with_len 0 n))) old mid → Adds l (flat_map f (g n)) mid new
+  pub adds_row : (g : ℕ → List X) → Adds l (flat_map f (flat_map g (range_with_len 0 n))) old mid
+      → Adds l (flat_map f (g n)) mid new
       → Adds l (flat_map f (flat_map g (range_with_len 0 (n + 1)))) old new
   adds_row g h k =
       let before = flat_map g (range_with_len 0 n) in
-      let e = ap (λ ns. flat_map f (flat_map g ns)) (range_more 0 n) ∙ ap (flat_map f) (flat_map-append g (range_with_len 0 n) ((0 + n) ∷ []))
+      let e = ap (λ ns. flat_map f (flat_map g ns)) (range_more 0 n)
+      ∙ ap (flat_map f) (flat_map-append g (range_with_len 0 n) ((0 + n) ∷ []))
       ∙ flat_map-append f before (flat_map g ((0 + n) ∷ []))
       ∙ ap (λ m. flat_map f before ++ flat_map f (flat_map g (m ∷ []))) (zero-add n)
       ∙ ap (λ ys. flat_map f before ++ flat_map f ys) (append-nil (g n)) in
-      adds_same l _ _ old new (sym e) (adds_both l (flat_map f before) (flat_map f (g n)) old mid new h k)
+      adds_same l _ _ old new (sym e) (adds_both l (flat_map f before) (flat_map f (g n)) old mid
+      new h k)
 
 module _ (l : Layout) where
   -- a pass over what was made
-  pub adds_again : (items : List Item) (mid new : List Thing) → Adds l items [] mid → Adds l (things_items l.shelf.now mid) [] new → Adds l items [] new
+  pub adds_again : (items : List Item) (mid new : List Thing) → Adds l items [] mid
+      → Adds l (things_items l.shelf.now mid) [] new → Adds l items [] new
   adds_again items mid new h k = record {
     made = k.made;
     is = k.is;
     are = k.are;
-    shows = shows_again l.window items (things_items l.shelf.now mid) (things_items l.shelf.now k.made)
-        (subst (λ ts. Shows l.window items (things_items l.shelf.now ts)) (sym h.is) h.shows) k.shows;
+    shows =
+        shows_again l.window items (things_items l.shelf.now mid) (things_items l.shelf.now k.made)
+        (subst (λ ts. Shows l.window items (things_items l.shelf.now ts)) (sym h.is) h.shows)
+        k.shows;
   }
 
-  pub adds_shows : (items : List Item) (new : List Thing) → Adds l items [] new → Shows l.window items (things_items l.shelf.now new)
-  adds_shows items new h = subst (λ ts. Shows l.window items (things_items l.shelf.now ts)) (sym h.is) h.shows
+  pub adds_shows : (items : List Item) (new : List Thing) → Adds l items [] new
+      → Shows l.window items (things_items l.shelf.now new)
+  adds_shows items new h = subst (λ ts. Shows l.window items (things_items l.shelf.now ts))
+      (sym h.is) h.shows
 
-  pub adds_things : (items : List Item) (new : List Thing) → Adds l items [] new → All (IsThing l.nodes.now) new
+  pub adds_things : (items : List Item) (new : List Thing) → Adds l items [] new
+      → All (IsThing l.nodes.now) new
   adds_things items new h = subst (All (IsThing l.nodes.now)) (sym h.is) h.are

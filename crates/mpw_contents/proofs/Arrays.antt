@@ -22,7 +22,8 @@ use Rattle.mpw_contents.proofs.Layouts.{node_extent, node_near}
 use Rattle.mpw_contents.proofs.Members.{part_of}
 use Rattle.mpw_contents.proofs.Missing.{placed_missed}
 
-module _ (law : NamesAreOpened) (l : Layout) (w : IsLayout l) (a : Array) (h : IsArray l.nodes.now a) (node : Node)
+module _ (law : NamesAreOpened) (l : Layout) (w : IsLayout l) (a : Array)
+    (h : IsArray l.nodes.now a) (node : Node)
     (at : slice_get l.nodes.now a.node ≡ Some node) where
   abbrev items : List Item
   items = place_shown l.shelf.now a.structure
@@ -31,10 +32,12 @@ module _ (law : NamesAreOpened) (l : Layout) (w : IsLayout l) (a : Array) (h : I
   n = record { place = a.node; at = at }
 
   structure_is : node.structure ≡ a.structure
-  structure_is = ap (λ (m : Node). m.structure) (one (slice_get l.nodes.now a.node) node h.node at h.at) ∙ h.structure
+  structure_is = ap (λ (m : Node). m.structure)
+      (one (slice_get l.nodes.now a.node) node h.node at h.at) ∙ h.structure
 
   extent_is : node.size.extent ≡ extent_of items
-  extent_is = node_extent l w node n ∙ ap (λ place. extent_of (place_shown l.shelf.now place)) structure_is
+  extent_is =
+      node_extent l w node n ∙ ap (λ place. extent_of (place_shown l.shelf.now place)) structure_is
 
   missed : (t : Placing) → is_met l.window (option_map (placed_box t) node.size.extent) ≡ false
       → (i : Item) → Contains (map (placed_item t) items) i → is_met l.window (item_box i) ≡ false
@@ -43,19 +46,24 @@ module _ (law : NamesAreOpened) (l : Layout) (w : IsLayout l) (a : Array) (h : I
   pub near : (e : Box2) → node.size.extent ≡ Some e → is_box_near e ≡ true
   near e is = subst (λ o. IfSome o (λ b. is_box_near b ≡ true)) is (node_near l w node n)
 
-  pub nothing_shown : node.size.extent ≡ None → (old : List Thing) → Adds l (thing_items l.shelf.now (things.Array a)) old old
+  pub nothing_shown : node.size.extent ≡ None → (old : List Thing)
+      → Adds l (thing_items l.shelf.now (things.Array a)) old old
   unfolding thing_items
-  nothing_shown none old = adds_none l (placed_items (reference_of a) items) old (shows_none l.window (placed_items (reference_of a) items)
-      (λ i has. let p = part_of (λ (t : Placing). map (placed_item t) items) (instances (reference_of a)) i has in
+  nothing_shown none old = adds_none l (placed_items (reference_of a) items) old
+      (shows_none l.window (placed_items (reference_of a) items)
+      (λ i has. let p = part_of (λ (t : Placing). map (placed_item t) items)
+      (instances (reference_of a)) i has in
       missed p.from (ap (λ o. is_met l.window (option_map (placed_box p.from) o)) none) i p.is))
 
   pub none_left : (e : Box2) → node.size.extent ≡ Some e → IsAway a l.window e → (old : List Thing)
       → Adds l (thing_items l.shelf.now (things.Array a)) old old
   unfolding thing_items
-  none_left e is away old = adds_none l (placed_items (reference_of a) items) old (shows_none l.window (placed_items (reference_of a) items)
+  none_left e is away old = adds_none l (placed_items (reference_of a) items) old
+      (shows_none l.window (placed_items (reference_of a) items)
       (away_missed l.window items node.size.extent missed a e is away))
 
-  pub some_left : (e : Box2) → node.size.extent ≡ Some e → (b : Array) → IsFitted a l.window e b → (old new : List Thing)
+  pub some_left : (e : Box2) → node.size.extent ≡ Some e → (b : Array) → IsFitted a l.window e b
+      → (old new : List Thing)
       → new ≡ old ++ things.Array b ∷ [] → Adds l (thing_items l.shelf.now (things.Array a)) old new
   unfolding thing_items
   some_left e is b fit old new made =
@@ -64,5 +72,6 @@ module _ (law : NamesAreOpened) (l : Layout) (w : IsLayout l) (a : Array) (h : I
         at = subst (λ place. slice_get l.nodes.now place ≡ Some node) (sym fit.node) at;
         structure = structure_is ∙ sym fit.structure;
         near = fit.near;
-      }) (subst (λ place. Shows l.window (placed_items (reference_of a) items) (placed_items (reference_of b) (place_shown l.shelf.now place)))
+      }) (subst (λ place. Shows l.window (placed_items (reference_of a) items)
+      (placed_items (reference_of b) (place_shown l.shelf.now place)))
       (sym fit.structure) (fitted_shows l.window items node.size.extent missed a b e is fit))

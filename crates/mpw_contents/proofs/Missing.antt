@@ -27,7 +27,8 @@ wider a b w inside h =
     (test_from_le (int_max b.y0 w.y0) (int_min b.y1 w.y1)
     (omega (arith, ints, clamps, y, inside.bottom, inside.top)))
 
-missed_within : (w : Box2) (inner outer : Option Box2) → IsHeld inner outer → is_met w outer ≡ false → is_met w inner ≡ false
+missed_within : (w : Box2) (inner outer : Option Box2) → IsHeld inner outer → is_met w outer ≡ false
+    → is_met w inner ≡ false
 missed_within w None outer h missed = refl
 missed_within w (Some a) None h missed = absurd h
 missed_within w (Some a) (Some b) h missed = go (do_meet a w) refl
@@ -37,11 +38,14 @@ missed_within w (Some a) (Some b) h missed = go (do_meet a w) refl
     go true e = sym (wider a b w h e) ∙ missed
 
 -- of a list that is placed
-pub placed_missed : (law : NamesAreOpened) (w : Box2) (t : Placing) (items : List Item) (extent : Option Box2)
+pub placed_missed : (law : NamesAreOpened) (w : Box2) (t : Placing) (items : List Item)
+    (extent : Option Box2)
     → extent ≡ extent_of items → is_met w (option_map (placed_box t) extent) ≡ false
     → (i : Item) → Contains (map (placed_item t) items) i → is_met w (item_box i) ≡ false
 placed_missed law w t items extent is missed i h =
     let there = map (placed_item t) items in
-    let whole : extent_of there ≡ option_map (placed_box t) extent = law.placed t items ∙ ap (option_map (placed_box t)) (sym is) in
-    let held = All-contains (λ (j : Item). IsHeld (item_box j) (extent_of there)) there i (law.holds there) h in
+    let whole : extent_of there ≡ option_map (placed_box t) extent = law.placed t items
+    ∙ ap (option_map (placed_box t)) (sym is) in
+    let held = All-contains (λ (j : Item). IsHeld (item_box j) (extent_of there)) there i
+    (law.holds there) h in
     missed_within w (item_box i) (extent_of there) held (ap (is_met w) whole ∙ missed)

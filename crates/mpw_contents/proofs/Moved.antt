@@ -29,22 +29,29 @@ moved_is : (d : Point) (i : Item) → placed_item (by_way d) i ≡ moved d i
 unfolding placed_again placed_point oriented_point
 moved_is d i = refl
 
-reference_moved : (d : Point) (a : Array) → IsPlacedReference (by_way d) (reference_of a) (reference_of (moved_array d a))
+reference_moved : (d : Point) (a : Array)
+    → IsPlacedReference (by_way d) (reference_of a) (reference_of (moved_array d a))
 unfolding placed_again placed_point oriented_point
-reference_moved d a = record { first = refl; columns = refl; rows = refl; column_step = refl; row_step = refl }
+reference_moved d a =
+    record { first = refl; columns = refl; rows = refl; column_step = refl; row_step = refl }
 
-drawn_moved : (d : Point) (t : Placing) (o : Option Element) → drawn (moved_placing d t) o ≡ map (moved d) (drawn t o)
+drawn_moved : (d : Point) (t : Placing) (o : Option Element)
+    → drawn (moved_placing d t) o ≡ map (moved d) (drawn t o)
 drawn_moved d t None = refl
 drawn_moved d t (Some e) = refl
 
-thing_moved : (ss : List Submission) (d : Point) (thing : Thing) → thing_items ss (moved_thing d thing) ≡ map (moved d) (thing_items ss thing)
+thing_moved : (ss : List Submission) (d : Point) (thing : Thing)
+    → thing_items ss (moved_thing d thing) ≡ map (moved d) (thing_items ss thing)
 unfolding thing_items
 thing_moved ss d (things.Shape shape) = drawn_moved d shape.placing _
 thing_moved ss d (things.Array a) =
-    sym (items_placed (by_way d) (reference_of a) (reference_of (moved_array d a)) (reference_moved d a) (place_shown ss a.structure))
-    ∙ map_same (placed_item (by_way d)) (moved d) (moved_is d) (placed_items (reference_of a) (place_shown ss a.structure))
+    sym (items_placed (by_way d) (reference_of a) (reference_of (moved_array d a))
+    (reference_moved d a) (place_shown ss a.structure))
+    ∙ map_same (placed_item (by_way d)) (moved d) (moved_is d)
+    (placed_items (reference_of a) (place_shown ss a.structure))
 
-all_moved : (ss : List Submission) (d : Point) (ts : List Thing) → things_items ss (map (moved_thing d) ts) ≡ map (moved d) (things_items ss ts)
+all_moved : (ss : List Submission) (d : Point) (ts : List Thing)
+    → things_items ss (map (moved_thing d) ts) ≡ map (moved d) (things_items ss ts)
 unfolding things_items
 all_moved ss d [] = refl
 all_moved ss d (t ∷ ts) =
@@ -52,12 +59,14 @@ all_moved ss d (t ∷ ts) =
     ∙ ap (λ items. map (moved d) (thing_items ss t) ++ items) (all_moved ss d ts)
     ∙ sym (map-append (moved d) (thing_items ss t) (flat_map (thing_items ss) ts))
 
-pub shown_moved : (d : Point) (from to : List Thing) → AreMoved d from to → (ss : List Submission) → things_items ss to ≡ map (moved d) (things_items ss from)
+pub shown_moved : (d : Point) (from to : List Thing) → AreMoved d from to → (ss : List Submission)
+    → things_items ss to ≡ map (moved d) (things_items ss from)
 shown_moved d from to h ss = ap (things_items ss) h ∙ all_moved ss d from
 
 -- ---- which displacement it is
 
-pub place_moved : (d : Point) (t : Thing) → place_of_thing (moved_thing d t) ≡ moved_point d (place_of_thing t)
+pub place_moved : (d : Point) (t : Thing)
+    → place_of_thing (moved_thing d t) ≡ moved_point d (place_of_thing t)
 place_moved d (things.Shape shape) = refl
 place_moved d (things.Array a) = refl
 
@@ -68,12 +77,15 @@ way_is d p q e =
     same_point _ _ (omega (arith, ints, x)) (omega (arith, ints, y))
 
 -- the first things tell it
-pub first_tells : (d : Point) (from to : List Thing) (x y : Thing) (p q w : Point) → AreMoved d from to → 0 < length from
-    → p ≡ place_of_thing (get_or from 0 x) → q ≡ place_of_thing (get_or to 0 y) → w ≡ way_between p q → d ≡ w
+pub first_tells : (d : Point) (from to : List Thing) (x y : Thing) (p q w : Point)
+    → AreMoved d from to → 0 < length from
+    → p ≡ place_of_thing (get_or from 0 x) → q ≡ place_of_thing (get_or to 0 y)
+    → w ≡ way_between p q → d ≡ w
 first_tells d [] to x y p q w h some first other way = absurd (omega (arith, some))
 first_tells d (t ∷ ts) to x y p q w h some first other way =
     let there : get_or to 0 y ≡ moved_thing d t = ap (λ xs. get_or xs 0 y) h in
-    way_is d p q (other ∙ ap place_of_thing there ∙ place_moved d t ∙ ap (moved_point d) (sym first)) ∙ sym way
+    way_is d p q (other ∙ ap place_of_thing there ∙ place_moved d t
+    ∙ ap (moved_point d) (sym first)) ∙ sym way
 
 pub same_many : (d : Point) (from to : List Thing) → AreMoved d from to → length from ≡ length to
 same_many d from to h = sym (ap length h ∙ length-map from (moved_thing d))
@@ -81,13 +93,19 @@ same_many d from to h = sym (ap length h ∙ length-map from (moved_thing d))
 -- ---- one more
 
 -- where one isn't moved so, not all are
-pub moved_at : (d : Point) (from to : List Thing) (i : ℕ) (x y : Thing) → AreMoved d from to → i < length from
+pub moved_at : (d : Point) (from to : List Thing) (i : ℕ) (x y : Thing) → AreMoved d from to
+    → i < length from
     → get_or to i y ≡ moved_thing d (get_or from i x)
-moved_at d from to i x y h lt = ap (λ ts. get_or ts i y) h ∙ get_or-map (moved_thing d) from i x y lt
+moved_at d from to i x y h lt =
+    ap (λ ts. get_or ts i y) h ∙ get_or-map (moved_thing d) from i x y lt
 
-pub moved_more : (d : Point) (from to : List Thing) (i : ℕ) (x y : Thing) → i < length from → i < length to
-    → take i to ≡ map (moved_thing d) (take i from) → get_or to i y ≡ moved_thing d (get_or from i x)
+pub moved_more : (d : Point) (from to : List Thing) (i : ℕ) (x y : Thing) → i < length from
+    → i < length to
+    → take i to ≡ map (moved_thing d) (take i from)
+    → get_or to i y ≡ moved_thing d (get_or from i x)
     → take (i + 1) to ≡ map (moved_thing d) (take (i + 1) from)
 moved_more d from to i x y lt less h one =
-    take_more to i y less ∙ ap (λ ts. ts ++ get_or to i y ∷ []) h ∙ ap (λ t. map (moved_thing d) (take i from) ++ t ∷ []) one
-    ∙ sym (ap (map (moved_thing d)) (take_more from i x lt) ∙ map-append (moved_thing d) (take i from) (get_or from i x ∷ []))
+    take_more to i y less ∙ ap (λ ts. ts ++ get_or to i y ∷ []) h
+    ∙ ap (λ t. map (moved_thing d) (take i from) ++ t ∷ []) one
+    ∙ sym (ap (map (moved_thing d)) (take_more from i x lt)
+    ∙ map-append (moved_thing d) (take i from) (get_or from i x ∷ []))

@@ -24,17 +24,20 @@ one_longer front x = length-append front (x ∷ [])
 
 -- ---- shapes
 
-unplaced : (t : Placing) (e : Element) → drawn t (Some e) ≡ placed_item t (record { origin = 0; placing = here; element = e }) ∷ []
+unplaced : (t : Placing) (e : Element)
+    → drawn t (Some e) ≡ placed_item t (record { origin = 0; placing = here; element = e }) ∷ []
 unplaced t e = ap (λ u. record { origin = 0; placing = u; element = e } ∷ []) (sym (placed_here t))
 
 pub shapes_all : (t : Placing) (front es : List Element)
-    → shapes_shown t (front ++ es) (shape_places (length front) es) ≡ map (placed_item t) (own_items 0 es)
+    → shapes_shown t (front ++ es) (shape_places (length front) es) ≡ map (placed_item t)
+    (own_items 0 es)
 unfolding shape_places
 shapes_all t front [] = refl
 shapes_all t front (e ∷ es) =
     let next = append_assoc front (e ∷ []) es in
     let all = front ++ e ∷ es in
-    let more = subst (λ m. shapes_shown t all (shape_places m es) ≡ map (placed_item t) (own_items 0 es))
+    let more =
+    subst (λ m. shapes_shown t all (shape_places m es) ≡ map (placed_item t) (own_items 0 es))
     (one_longer front e) (subst (λ whole. shapes_shown t whole
     (shape_places (length (front ++ e ∷ [])) es) ≡ map (placed_item t) (own_items 0 es)) next
     (shapes_all t (front ++ e ∷ []) es)) in
@@ -48,11 +51,13 @@ shapes_all t front (e ∷ es) =
     go at more (elements.Boundary b) is =
         ap (λ items. items ++ shapes_shown t (front ++ e ∷ es) (shape_places (length front + 1) es))
         (at ∙ ap (λ y. drawn t (Some y)) (sym is) ∙ unplaced t (elements.Boundary b))
-        ∙ ap (λ items. placed_item t (record { origin = 0; placing = here; element = elements.Boundary b }) ∷ items) more
+        ∙ ap (λ items. placed_item t (record
+        { origin = 0; placing = here; element = elements.Boundary b }) ∷ items) more
     go at more (elements.Path p) is =
         ap (λ items. items ++ shapes_shown t (front ++ e ∷ es) (shape_places (length front + 1) es))
         (at ∙ ap (λ y. drawn t (Some y)) (sym is) ∙ unplaced t (elements.Path p))
-        ∙ ap (λ items. placed_item t (record { origin = 0; placing = here; element = elements.Path p }) ∷ items) more
+        ∙ ap (λ items. placed_item t (record
+        { origin = 0; placing = here; element = elements.Path p }) ∷ items) more
     go at more (elements.Reference r) is = more
 
 -- ---- children
@@ -64,11 +69,13 @@ nothing_placed r = go (instances r)
     go [] = refl
     go (t ∷ ts) = go ts
 
-module _ (s : Submission) (before : List (List Item)) (earlier : List Node) (all : List Element) where
+module _ (s : Submission) (before : List (List Item)) (earlier : List Node)
+    (all : List Element) where
   abbrev below : List ℕ → List Item
   below = structure_items before s
 
-  pub children_all : {i : ℕ} {es : List Element} {cs : List Child} → AreChildren s before earlier i es cs
+  pub children_all : {i : ℕ} {es : List Element} {cs : List Child}
+      → AreChildren s before earlier i es cs
       → (front : List Element) → i ≡ length front → all ≡ front ++ es
       → flat_map (λ (c : Child). child_shown below (slice_get all c.element)) cs
       ≡ flat_map (λ (r : Reference). placed_items r (below r.name)) (references es)
@@ -89,7 +96,8 @@ module _ (s : Submission) (before : List (List Item)) (earlier : List Node) (all
       (split ∙ sym (append_assoc front (e ∷ []) es)) in
       more ∙ ap (λ items. items ++ flat_map (λ (r : Reference). placed_items r (below r.name))
       (references es)) (sym (ap (placed_items r) shows ∙ nothing_placed r))
-  children_all (child {r = r} {target = target} {es = es} {cs = cs} shows target' rest) front at split =
+  children_all (child {r = r} {target = target} {es = es} {cs = cs} shows target' rest) front at
+      split =
       let e = elements.Reference r in
       let more = children_all rest (front ++ e ∷ []) (omega (arith, at, one_longer front e))
       (split ∙ sym (append_assoc front (e ∷ []) es)) in

@@ -3,8 +3,10 @@ use Rattle.std.proofs.Common.{◌≡◌, Option, Some, None, sym, ap, ◌∙◌}
 use Rattle.std.specs.Prelude.{option_copied}
 use Rattle.std.specs.Borrow.{Bor}
 
-pub copied_none : {X : Type 0} (o : Option (Bor X)) (p : Option X) → o ≡ None → option_copied o ≡ p → p ≡ None
+pub copied_none : {X : Type 0} (o : Option (Bor X)) (p : Option X) → o ≡ None → option_copied o ≡ p
+    → p ≡ None
 copied_none o p is copied = sym copied ∙ ap option_copied is
 
-pub copied_some : {X : Type 0} (o : Option (Bor X)) (b : Bor X) (p : Option X) → o ≡ Some b → option_copied o ≡ p → p ≡ Some b.now
+pub copied_some : {X : Type 0} (o : Option (Bor X)) (b : Bor X) (p : Option X) → o ≡ Some b
+    → option_copied o ≡ p → p ≡ Some b.now
 copied_some o b p is copied = sym copied ∙ ap option_copied is

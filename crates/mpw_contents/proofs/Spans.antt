@@ -24,10 +24,12 @@ not_le x y h = go (int_le x y) refl
     go false e = e
 
 ends_before : (a b : Span) → a.high <ℤ b.low → do_share a b ≡ false
-ends_before a b h = not_le (int_max a.low b.low) (int_min a.high b.high) (omega (arith, ints, clamps, h))
+ends_before a b h =
+    not_le (int_max a.low b.low) (int_min a.high b.high) (omega (arith, ints, clamps, h))
 
 begins_behind : (a b : Span) → b.high <ℤ a.low → do_share a b ≡ false
-begins_behind a b h = not_le (int_max a.low b.low) (int_min a.high b.high) (omega (arith, ints, clamps, h))
+begins_behind a b h =
+    not_le (int_max a.low b.low) (int_min a.high b.high) (omega (arith, ints, clamps, h))
 
 module _ (there window : Span) (step most from end : ℕ) where
   abbrev places : Places
@@ -36,8 +38,10 @@ module _ (there window : Span) (step most from end : ℕ) where
   pub upwards_missed : ((k : ℕ) → k < from → (there.high +ℤ pos (k * step)) <ℤ window.low)
       → ((k : ℕ) → k < most → end ≤ k → window.high <ℤ (there.low +ℤ pos (k * step)))
       → SpansMissed there window (pos step) most places
-  upwards_missed before behind k h (inl lt) = ends_before (span_on there (pos step) k) window (before k lt)
-  upwards_missed before behind k h (inr le) = begins_behind (span_on there (pos step) k) window (behind k h le)
+  upwards_missed before behind k h (inl lt) = ends_before (span_on there (pos step) k) window
+      (before k lt)
+  upwards_missed before behind k h (inr le) = begins_behind (span_on there (pos step) k) window
+      (behind k h le)
 
   pub downwards_missed : ((k : ℕ) → k < from → (window.high +ℤ pos (k * step)) <ℤ there.low)
       → ((k : ℕ) → k < most → end ≤ k → there.high <ℤ (window.low +ℤ pos (k * step)))
@@ -53,14 +57,16 @@ module _ (there window : Span) (step most from end : ℕ) where
 
 same_span : (a b : Span) → a.low ≡ b.low → a.high ≡ b.high → a ≡ b
 same_span a b e f =
-    let h : ◌≡◌ {A = Span} (record { low = a.low; high = a.high }) (record { low = b.low; high = b.high }) = cc in h
+    let h : ◌≡◌ {A = Span} (record { low = a.low; high = a.high })
+    (record { low = b.low; high = b.high }) = cc in h
 
 pub span_still : (a : Span) (k : ℕ) (s : ℤ) → s ≡ pos 0 → span_on a s k ≡ a
 span_still a k s e =
     let z = no_steps k s e in
     same_span _ _ (omega (arith, ints, z)) (omega (arith, ints, z))
 
-pub along_from : (there window : Span) (step other : ℤ) (most : ℕ) (p : Places) → other ≡ pos 0 → SpansMissed there window step most p
+pub along_from : (there window : Span) (step other : ℤ) (most : ℕ) (p : Places) → other ≡ pos 0
+    → SpansMissed there window step most p
     → AlongMissed there window step other most p
 along_from there window step other most p still missed k n h out =
     ap (λ a. do_share a window) (span_still (span_on there step k) n other still) ∙ missed k h out
@@ -76,7 +82,8 @@ pub nowhere : (p : Places) → p.end ≤ p.from → (k : ℕ) → IsOutside p k
 nowhere p h k = elim (cases_lt k p.from) [ inl lt ↦ inl lt | inr le ↦ inr (omega (arith, h, le)) ]
 
 -- no place is outside
-pub along_all : (there window : Span) (step other : ℤ) (most : ℕ) → AlongMissed there window step other most (record { from = 0; end = most })
+pub along_all : (there window : Span) (step other : ℤ) (most : ℕ)
+    → AlongMissed there window step other most (record { from = 0; end = most })
 along_all there window step other most k n h (inl lt) = absurd (omega (arith, lt))
 along_all there window step other most k n h (inr le) = absurd (omega (arith, h, le))
 
@@ -103,7 +110,8 @@ misses_y : (b w : Box2) → do_share (y_of b) (y_of w) ≡ false → do_meet b w
 unfolding do_meet
 misses_y b w e = second_false _ _ e
 
-span_swapped : (a : Span) (s u : ℤ) (k n : ℕ) → span_on (span_on a s k) u n ≡ span_on (span_on a u n) s k
+span_swapped : (a : Span) (s u : ℤ) (k n : ℕ)
+    → span_on (span_on a s k) u n ≡ span_on (span_on a u n) s k
 span_swapped a s u k n = same_span _ _ (omega (arith, ints)) (omega (arith, ints))
 
 pub columns_missed : (there window : Box2) (a : Array) (x y p : Places)
@@ -124,6 +132,10 @@ rows_missed there window a x y p by_x by_y either row column h out = go (either 
   where
     go : IsEither x y row → do_meet (box_at there a row column) window ≡ false
     go (inl o) = misses_x (box_at there a row column) window
-        (ap (λ s. do_share s (x_of window)) (span_swapped (x_of there) a.column_step.x a.row_step.x column row) ∙ by_x row column h o)
+        (ap (λ s. do_share s (x_of window))
+        (span_swapped (x_of there) a.column_step.x a.row_step.x column row)
+        ∙ by_x row column h o)
     go (inr o) = misses_y (box_at there a row column) window
-        (ap (λ s. do_share s (y_of window)) (span_swapped (y_of there) a.column_step.y a.row_step.y column row) ∙ by_y row column h o)
+        (ap (λ s. do_share s (y_of window))
+        (span_swapped (y_of there) a.column_step.y a.row_step.y column row)
+        ∙ by_y row column h o)

@@ -21,13 +21,16 @@ module _ (n : ℕ) where
   once : (a s : ℤ) → neg_ℤ (a +ℤ (pos n *ℤ s)) ≡ neg_ℤ a +ℤ (pos n *ℤ neg_ℤ s)
   once a s = neg_ℤ-+ℤ a (pos n *ℤ s) ∙ ap (λ z. neg_ℤ a +ℤ z) (sym (back_steps n s))
 
-  twice : (a s : ℤ) → neg_ℤ (neg_ℤ (a +ℤ (pos n *ℤ s))) ≡ neg_ℤ (neg_ℤ a) +ℤ (pos n *ℤ neg_ℤ (neg_ℤ s))
+  twice : (a s : ℤ) → neg_ℤ (neg_ℤ (a +ℤ (pos n *ℤ s))) ≡ neg_ℤ (neg_ℤ a) +ℤ
+      (pos n *ℤ neg_ℤ (neg_ℤ s))
   twice a s = ap neg_ℤ (once a s) ∙ once (neg_ℤ a) (neg_ℤ s)
 
-  thrice : (a s : ℤ) → neg_ℤ (neg_ℤ (neg_ℤ (a +ℤ (pos n *ℤ s)))) ≡ neg_ℤ (neg_ℤ (neg_ℤ a)) +ℤ (pos n *ℤ neg_ℤ (neg_ℤ (neg_ℤ s)))
+  thrice : (a s : ℤ) → neg_ℤ (neg_ℤ (neg_ℤ (a +ℤ (pos n *ℤ s)))) ≡ neg_ℤ (neg_ℤ (neg_ℤ a)) +ℤ
+      (pos n *ℤ neg_ℤ (neg_ℤ (neg_ℤ s)))
   thrice a s = ap neg_ℤ (twice a s) ∙ once (neg_ℤ (neg_ℤ a)) (neg_ℤ (neg_ℤ s))
 
-  oriented_stepped : (o : Orient) (p s : Point) → oriented_point o (stepped p n s) ≡ stepped (oriented_point o p) n (oriented_point o s)
+  oriented_stepped : (o : Orient) (p s : Point)
+      → oriented_point o (stepped p n s) ≡ stepped (oriented_point o p) n (oriented_point o s)
   unfolding oriented_point
   oriented_stepped R0 p s = refl
   oriented_stepped R90 p s = same_point _ _ (once p.y s.y) refl
@@ -38,7 +41,8 @@ module _ (n : ℕ) where
   oriented_stepped M180 p s = same_point _ _ (once p.x s.x) (twice p.y s.y)
   oriented_stepped M270 p s = same_point _ _ (thrice p.y s.y) (once p.x s.x)
 
-pub placed_stepped : (t : Placing) (p : Point) (n : ℕ) (s : Point) → placed_point t (stepped p n s) ≡ stepped (placed_point t p) n (oriented_point t.orient s)
+pub placed_stepped : (t : Placing) (p : Point) (n : ℕ) (s : Point)
+    → placed_point t (stepped p n s) ≡ stepped (placed_point t p) n (oriented_point t.orient s)
 unfolding placed_point
 placed_stepped t p n s =
     let whole = oriented_stepped n t.orient p s in
@@ -47,35 +51,44 @@ placed_stepped t p n s =
     same_point _ _ (omega (arith, ints, x)) (omega (arith, ints, y))
 
 module _ (t : Placing) (r q : Reference) (h : IsPlacedReference t r q) where
-  instance_placed : (row column : ℕ) → instance q row column ≡ placed_again t (instance r row column)
+  instance_placed : (row column : ℕ) → instance q row column ≡ placed_again t
+      (instance r row column)
   unfolding placed_again
   instance_placed row column =
       let orient = ap (λ (p : Placing). p.orient) h.first in
       let by = ap (λ (p : Placing). p.by) h.first in
       let there = placed_stepped t (stepped r.origin column r.column_step) row r.row_step
-      ∙ ap (λ p. stepped p row (oriented_point t.orient r.row_step)) (placed_stepped t r.origin column r.column_step) in
+      ∙ ap (λ p. stepped p row (oriented_point t.orient r.row_step))
+      (placed_stepped t r.origin column r.column_step) in
       same_placing _ _ (sym orient)
       (ap (λ s. stepped (stepped q.origin column q.column_step) row s) h.row_step
-      ∙ ap (λ s. stepped (stepped q.origin column s) row (oriented_point t.orient r.row_step)) h.column_step
-      ∙ ap (λ p. stepped (stepped p column (oriented_point t.orient r.column_step)) row (oriented_point t.orient r.row_step)) (sym by)
+      ∙ ap (λ s. stepped (stepped q.origin column s) row (oriented_point t.orient r.row_step))
+      h.column_step
+      ∙ ap (λ p. stepped (stepped p column (oriented_point t.orient r.column_step)) row
+      (oriented_point t.orient r.row_step)) (sym by)
       ∙ sym there)
 
   row_placed : (row : ℕ) → row_of q row ≡ map (placed_again t) (row_of r row)
   row_placed row =
       ap (λ n. map (instance q row) (range_with_len 0 n)) h.columns
-      ∙ map_same (instance q row) (λ column. placed_again t (instance r row column)) (instance_placed row) (range_with_len 0 r.columns)
+      ∙ map_same (instance q row) (λ column. placed_again t (instance r row column))
+      (instance_placed row) (range_with_len 0 r.columns)
       ∙ sym (map_twice (placed_again t) (instance r row) (range_with_len 0 r.columns))
 
   pub instances_placed : instances q ≡ map (placed_again t) (instances r)
   unfolding instances
   instances_placed =
       ap (λ n. flat_map (row_of q) (range_with_len 0 n)) h.rows
-      ∙ flat_map_same (row_of q) (λ row. map (placed_again t) (row_of r row)) row_placed (range_with_len 0 r.rows)
+      ∙ flat_map_same (row_of q) (λ row. map (placed_again t) (row_of r row)) row_placed
+      (range_with_len 0 r.rows)
       ∙ sym (map_flat (placed_again t) (row_of r) (range_with_len 0 r.rows))
 
-  pub items_placed : (items : List Item) → map (placed_item t) (placed_items r items) ≡ placed_items q items
+  pub items_placed : (items : List Item)
+      → map (placed_item t) (placed_items r items) ≡ placed_items q items
   items_placed items =
       map_flat (placed_item t) (λ u. map (placed_item u) items) (instances r)
-      ∙ flat_map_same (λ u. map (placed_item t) (map (placed_item u) items)) (λ u. map (placed_item (placed_again t u)) items) (λ u. items_again t u items) (instances r)
+      ∙ flat_map_same (λ u. map (placed_item t) (map (placed_item u) items))
+      (λ u. map (placed_item (placed_again t u)) items) (λ u. items_again t u items)
+      (instances r)
       ∙ sym (flat_map-map (λ u. map (placed_item u) items) (placed_again t) (instances r))
       ∙ ap (λ ts. flat_map (λ u. map (placed_item u) items) ts) (sym instances_placed)

@@ -41,7 +41,8 @@ stays t = same_placing _ _ refl (same_point _ _ (omega (arith, ints)) (omega (ar
 items_stay : (items : List Item) → map (placed_item here) items ≡ items
 items_stay [] = refl
 items_stay (i ∷ items) =
-    ap (λ t. record { origin = i.origin; placing = t; element = i.element } ∷ map (placed_item here) items) (stays i.placing)
+    ap (λ t. record { origin = i.origin; placing = t; element = i.element }
+    ∷ map (placed_item here) items) (stays i.placing)
     ∙ ap (λ is. i ∷ is) (items_stay items)
 
 -- the array of one where the top stands
@@ -56,23 +57,30 @@ one_here structure node = record {
   row_step = here.by;
 }
 
-one_shown : (ss : List Submission) (structure node : ℕ) → thing_items ss (things.Array (one_here structure node)) ≡ place_shown ss structure
+one_shown : (ss : List Submission) (structure node : ℕ)
+    → thing_items ss (things.Array (one_here structure node)) ≡ place_shown ss structure
 unfolding thing_items instances
 one_shown ss structure node =
-    append-nil (map (placed_item here) (place_shown ss structure)) ∙ items_stay (place_shown ss structure)
+    append-nil (map (placed_item here) (place_shown ss structure))
+    ∙ items_stay (place_shown ss structure)
 
-flat_is : (law : NamesAreOpened) (ss : List Submission) (s : Submission) → slice_get ss 0 ≡ Some s → flat ss 0 ≡ flat_of (flats (take 0 ss)) s
+flat_is : (law : NamesAreOpened) (ss : List Submission) (s : Submission) → slice_get ss 0 ≡ Some s
+    → flat ss 0 ≡ flat_of (flats (take 0 ss)) s
 unfolding flats
 flat_is law ss s is = law.tops ss 0 s is
 
-pub top_shown : (law : NamesAreOpened) (l : Layout) (w : IsLayout l) (top : Node) → slice_get l.nodes.now (length l.nodes.now - 1) ≡ Some top
-    → (node : ℕ) → thing_items l.shelf.now (things.Array (one_here top.structure node)) ≡ flat l.shelf.now 0
+pub top_shown : (law : NamesAreOpened) (l : Layout) (w : IsLayout l) (top : Node)
+    → slice_get l.nodes.now (length l.nodes.now - 1) ≡ Some top
+    → (node : ℕ) → thing_items l.shelf.now (things.Array (one_here top.structure node))
+    ≡ flat l.shelf.now 0
 top_shown law l w top at node =
     let ss = l.shelf.now in
     let s = w.nodes.submission in
-    let same = one (slice_get l.nodes.now (length l.nodes.now - 1)) w.nodes.shown.top top w.nodes.shown.last at in
+    let same = one (slice_get l.nodes.now (length l.nodes.now - 1)) w.nodes.shown.top top
+    w.nodes.shown.last at in
     let named : place_of l.structures.now s.top ≡ Some top.structure =
-    ap (λ (ts : List Structure). place_of ts s.top) w.structures ∙ w.nodes.shown.top_named ∙ ap (λ (n : Node). Some n.structure) same in
+    ap (λ (ts : List Structure). place_of ts s.top) w.structures ∙ w.nodes.shown.top_named
+    ∙ ap (λ (n : Node). Some n.structure) same in
     one_shown ss top.structure node
     ∙ sym (node_named l w top (record { place = length l.nodes.now - 1; at = at }) s.top named)
     ∙ named_is l w s.top ∙ sym (flat_is law ss s w.nodes.is)
@@ -92,6 +100,8 @@ pub layout_is : (l : Layout) (o : Option (Bor (List Node))) → o ≡ Some l.nod
     → option_copied p ≡ slice_get l.shelf.now 0 → l.structures.now ≡ from.now.library → IsLayout l
 layout_is l o is shown p from from_is copied library =
     let w : AreNodes l.shelf.now 0 l.nodes.now =
-    subst (λ (q : Option (Bor (List Node))). IfSome q (λ (ns : Bor (List Node)). AreNodes l.shelf.now 0 ns.now)) is shown in
-    let same = one (slice_get l.shelf.now 0) w.submission from.now w.is (sym copied ∙ ap option_copied from_is) in
+    subst (λ (q : Option (Bor (List Node))).
+    IfSome q (λ (ns : Bor (List Node)). AreNodes l.shelf.now 0 ns.now)) is shown in
+    let same = one (slice_get l.shelf.now 0) w.submission from.now w.is
+    (sym copied ∙ ap option_copied from_is) in
     record { nodes = w; structures = library ∙ ap (λ (s : Submission). s.library) (sym same) }

@@ -8,16 +8,21 @@ use Rattle.mpw_contents.specs.Displaced.{moved_thing, AreMoved}
 use Rattle.mpw_contents.proofs.Moved.{shown_moved, first_tells}
 use Rattle.mpw_contents.proofs.displaced.displacement.Goals as goal
 
-none_moved : (d : Point) (a b from to : List Thing) → from ≡ a → to ≡ b → length from ≡ 0 → length to ≡ 0 → AreMoved d a b
+none_moved : (d : Point) (a b from to : List Thing) → from ≡ a → to ≡ b → length from ≡ 0
+    → length to ≡ 0 → AreMoved d a b
 none_moved d a b from to e f none nothing =
-    sym f ∙ nil_from_length to nothing ∙ ap (map (moved_thing d)) (sym (nil_from_length from none) ∙ e)
+    sym f ∙ nil_from_length to nothing
+    ∙ ap (map (moved_thing d)) (sym (nil_from_length from none) ∙ e)
 
 pub returns-then-is_empty-clause-shown : goal.returns-then-is_empty-clause-shown
 returns-then-is_empty-clause-shown c =
-    let none : length c.things-from.result.now ≡ 0 = (let e = c.if-is_empty.true in let f = c.is_empty.ensures in grind (arith, nat_tests)) in
-    let nothing : length c.things-to.result.now ≡ 0 = (let g = none in let e = c.if-from-to.false in omega arith) in
+    let none : length c.things-from.result.now ≡ 0 =
+    (let e = c.if-is_empty.true in let f = c.is_empty.ensures in grind (arith, nat_tests)) in
+    let nothing : length c.things-to.result.now ≡ 0 =
+    (let g = none in let e = c.if-from-to.false in omega arith) in
     shown_moved (record { x = pos 0; y = pos 0 }) c.args.a.now c.args.b.now
-    (none_moved (record { x = pos 0; y = pos 0 }) c.args.a.now c.args.b.now c.things-from.result.now c.things-to.result.now
+    (none_moved (record { x = pos 0; y = pos 0 }) c.args.a.now c.args.b.now c.things-from.result.now
+    c.things-to.result.now
     c.things-from.ensures.things c.things-to.ensures.things none nothing)
 
 pub returns-then-are_moved-clause-shown : goal.returns-then-are_moved-clause-shown
@@ -35,7 +40,9 @@ returns-else-are_moved-clause-none c = λ d h.
     let there : AreMoved d from to =
     subst (λ (ts : List Thing). AreMoved d ts to) (sym c.things-from.ensures.things)
     (subst (λ (ts : List Thing). AreMoved d c.args.a.now ts) (sym c.things-to.ensures.things) h) in
-    let some : 0 < length from = (let e = c.if-is_empty.false in let f = c.is_empty.ensures in grind (arith, nat_tests)) in
+    let some : 0 < length from = (let e = c.if-is_empty.false in let f = c.is_empty.ensures in
+    grind (arith, nat_tests)) in
     let same = first_tells d from to _ _ c.place.result c.place-2.result c.way-d.result there some
     c.place.ensures.place c.place-2.ensures.place c.way-d.ensures.way in
-    not_both c.are_moved.result c.if-are_moved.false (c.are_moved.ensures.1 (subst (λ w. AreMoved w from to) same there))
+    not_both c.are_moved.result c.if-are_moved.false
+    (c.are_moved.ensures.1 (subst (λ w. AreMoved w from to) same there))

@@ -10,6 +10,22 @@ returns c =
     let py : FitsSigned w64 p.y = search rules in
     let dx : FitsSigned w64 d.x = search rules in
     let dy : FitsSigned w64 d.y = search rules in
-    let sx : FitsSigned w64 (p.x +ℤ d.x) = omega (arith, ints, c.requires.point.x.low, c.requires.point.x.high, c.requires.way.x.low, c.requires.way.x.high) in
-    let sy : FitsSigned w64 (p.y +ℤ d.y) = omega (arith, ints, c.requires.point.y.low, c.requires.point.y.high, c.requires.way.y.low, c.requires.way.y.high) in
+    let sx : FitsSigned w64 (p.x +ℤ d.x) =
+    omega (
+      arith,
+      ints,
+      c.requires.point.x.low,
+      c.requires.point.x.high,
+      c.requires.way.x.low,
+      c.requires.way.x.high,
+    ) in
+    let sy : FitsSigned w64 (p.y +ℤ d.y) =
+    omega (
+      arith,
+      ints,
+      c.requires.point.y.low,
+      c.requires.point.y.high,
+      c.requires.way.y.low,
+      c.requires.way.y.high,
+    ) in
     simp to_z-of_z

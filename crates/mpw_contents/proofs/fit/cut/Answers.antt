@@ -12,6 +12,7 @@ returns c =
       columns_are = refl;
       rows_are = refl;
       instances = λ row column. same_placing _ _ refl
-          (cut_instance a c.args.columns c.args.rows c.in_ok-first.first c.in_ok-by.by c.in_ok-first.ensures c.in_ok-by.ensures row column);
+          (cut_instance a c.args.columns c.args.rows c.in_ok-first.first c.in_ok-by.by
+          c.in_ok-first.ensures c.in_ok-by.ensures row column);
       near = c.is_in_plane.ensures.0 c.if-not-is_in_plane.false;
     }

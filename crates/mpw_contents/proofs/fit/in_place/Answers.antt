@@ -10,6 +10,12 @@ returns-else-max-min-clause-missed c =
     let there = c.args.there in
     let window = c.args.window in
     let apart : int_min there.high window.high <ℤ int_max there.low window.low =
-    (let x = c.if-max-min.false in omega (arith, ints, clamps, c.max.ensures.value, c.min.ensures.value)) in
+    (let x = c.if-max-min.false in omega (
+      arith,
+      ints,
+      clamps,
+      c.max.ensures.value,
+      c.min.ensures.value,
+    )) in
     λ k h out. ap (λ a. do_share a window) (span_still there k (pos 0) refl)
     ∙ not_le (int_max there.low window.low) (int_min there.high window.high) apart

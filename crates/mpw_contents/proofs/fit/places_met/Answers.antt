@@ -13,7 +13,8 @@ returns-then-steps-lt0-clause-missed c =
     let step = c.args.steps.along in
     let f : SFits w64 step = search rules in
     let h : step <ℤ pos 0 = (let e = c.if-steps-lt0.true in omega (arith, ints)) in
-    let size : c.unsigned_abs-then-steps-lt0.result ≡ unsigned_abs step = simp to_z-of_z at c.unsigned_abs-then-steps-lt0.ensures.value in
+    let size : c.unsigned_abs-then-steps-lt0.result ≡ unsigned_abs step =
+    simp to_z-of_z at c.unsigned_abs-then-steps-lt0.ensures.value in
     subst (λ z. SpansMissed c.args.there c.args.window z c.args.most c.downwards.result)
     (ap (λ n. neg_ℤ (pos n)) size ∙ below step h) c.downwards.ensures.missed
 
@@ -21,5 +22,7 @@ pub returns-clause-missed : goal.returns-clause-missed
 returns-clause-missed c =
     let step = c.args.steps.along in
     let f : SFits w64 step = search rules in
-    let still : pos 0 ≡ step = (let e = c.if-steps-lt0.false in let g = c.if-steps-gt0.false in omega (arith, ints)) in
-    subst (λ z. SpansMissed c.args.there c.args.window z c.args.most c.in_place.result) still c.in_place.ensures.missed
+    let still : pos 0 ≡ step = (let e = c.if-steps-lt0.false in let g = c.if-steps-gt0.false in
+    omega (arith, ints)) in
+    subst (λ z. SpansMissed c.args.there c.args.window z c.args.most c.in_place.result) still
+    c.in_place.ensures.missed

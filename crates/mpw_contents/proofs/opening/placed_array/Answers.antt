@@ -6,7 +6,8 @@ pub returns-clause-placed : goal.returns-clause-placed
 returns-clause-placed c =
     let r = c.args.reference.now in
     record {
-      first = sym (then_is (record { orient = r.orient; by = r.origin }) c.args.placing c.then.result
+      first =
+          sym (then_is (record { orient = r.orient; by = r.origin }) c.args.placing c.then.result
           c.then.ensures.displacement c.then.ensures.points);
       columns = refl;
       rows = refl;

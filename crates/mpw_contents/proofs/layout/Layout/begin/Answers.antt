@@ -24,6 +24,8 @@ returns c =
     let place = length l.nodes.now - 1 in
     let new = c.put_array.new.things.items in
     adds_same l (thing_items ss (things.Array (one_here top.structure place))) (flat ss 0) [] new
-    (top_shown c.names_are_opened.ensures l c.requires top (copied_some c.last.result c.in-Some.top _ c.in-Some.is c.last.ensures.value) place)
-    (subst (λ ts. Adds l (thing_items ss (things.Array (one_here top.structure place))) ts new) c.new-things.ensures.items
+    (top_shown c.names_are_opened.ensures l c.requires top
+    (copied_some c.last.result c.in-Some.top _ c.in-Some.is c.last.ensures.value) place)
+    (subst (λ ts. Adds l (thing_items ss (things.Array (one_here top.structure place))) ts new)
+    c.new-things.ensures.items
     c.in_ok-put_array.ensures)

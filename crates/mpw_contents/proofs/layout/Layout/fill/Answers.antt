@@ -11,11 +11,13 @@ returns-then-not-is_open c =
     let all = flat l.shelf.now 0 in
     let new = c.in_ok-passed.passed.things.items in
     adds_shows l all new (adds_again l all c.loop.things.items new c.loop.invariant
-    (subst (λ ts. Adds l (things_items l.shelf.now ts) [] new) c.deref.ensures.value c.in_ok-passed.ensures))
+    (subst (λ ts. Adds l (things_items l.shelf.now ts) [] new) c.deref.ensures.value
+    c.in_ok-passed.ensures))
 
 pub loop-preserved : goal.loop-preserved
 loop-preserved c =
     let l = c.args.self.now in
     let new = c.in_ok-passed.passed.things.items in
     adds_again l (flat l.shelf.now 0) c.loop.things.items new c.loop.invariant
-    (subst (λ ts. Adds l (things_items l.shelf.now ts) [] new) c.deref.ensures.value c.in_ok-passed.ensures)
+    (subst (λ ts. Adds l (things_items l.shelf.now ts) [] new) c.deref.ensures.value
+    c.in_ok-passed.ensures)

@@ -8,4 +8,5 @@ use Rattle.mpw_contents.proofs.layout.Layout.open.Given as goal
 abbrev pub invariant-loop-row : goal.invariant-loop-row
 invariant-loop-row l =
     Adds l.self (instances_shown l.self.shelf.now l.array.structure
-    (flat_map (row_of (reference_of l.array)) (range_with_len 0 l.row))) l.fn.things.items l.things.items
+    (flat_map (row_of (reference_of l.array)) (range_with_len 0 l.row))) l.fn.things.items
+    l.things.items

@@ -15,8 +15,10 @@ returns-then-not-may_meet c =
     let node = c.args.node.now in
     let items = map (placed_item c.args.placing) (place_shown l.shelf.now node.structure) in
     adds_none l items c.args.things.now.items (shows_none l.window items
-    (placed_missed c.names_are_opened.ensures l.window c.args.placing (place_shown l.shelf.now node.structure) node.size.extent
-    (node_extent l c.requires.layout node c.requires.node) (c.may_meet.ensures c.if-not-may_meet.true)))
+    (placed_missed c.names_are_opened.ensures l.window c.args.placing
+    (place_shown l.shelf.now node.structure) node.size.extent
+    (node_extent l c.requires.layout node c.requires.node)
+    (c.may_meet.ensures c.if-not-may_meet.true)))
 
 pub returns : goal.returns
 returns c =
@@ -24,9 +26,11 @@ returns c =
     let node = c.args.node.now in
     let structure = slice_get l.structures.now node.structure in
     let shapes = structure_shapes c.args.placing structure node.shapes.items in
-    let children = structure_children c.args.placing (name_shown l.shelf.now) structure node.children.items in
+    let children =
+    structure_children c.args.placing (name_shown l.shelf.now) structure node.children.items in
     on_ok_weaker c.put_children.result
     (λ h. adds_same l _ _ c.args.things.now.items c.put_children.new.things.items
     (node_opens l c.requires.layout node c.requires.node c.names_are_opened.ensures c.args.placing)
-    (adds_both l shapes children c.args.things.now.items c.put_shapes.new.things.items c.put_children.new.things.items
+    (adds_both l shapes children c.args.things.now.items c.put_shapes.new.things.items
+    c.put_children.new.things.items
     c.in_ok-put_shapes.ensures h)) c.put_children.ensures

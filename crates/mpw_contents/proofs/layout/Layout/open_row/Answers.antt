@@ -12,9 +12,11 @@ loop-column-init c = adds_start c.args.self.now c.args.things.now.items
 pub loop-column-preserved : goal.loop-column-preserved
 loop-column-preserved c =
     let l = c.args.self.now in
-    let shown = λ (t : Placing). map (placed_item t) (place_shown l.shelf.now c.args.node.now.structure) in
+    let shown =
+    λ (t : Placing). map (placed_item t) (place_shown l.shelf.now c.args.node.now.structure) in
     let mid = c.loop-column.things.items in
     let new = c.open_instance.new.things.items in
     adds_column l shown c.args.things.now.items mid new c.loop-column.column
     (instance (reference_of c.args.array.now) c.args.row) c.loop-column.invariant
-    (subst (λ (t : Placing). Adds l (shown t) mid new) c.in-Some.ensures.placing c.in_ok-open_instance.ensures)
+    (subst (λ (t : Placing). Adds l (shown t) mid new) c.in-Some.ensures.placing
+    c.in_ok-open_instance.ensures)

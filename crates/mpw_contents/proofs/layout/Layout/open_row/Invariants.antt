@@ -9,4 +9,5 @@ use Rattle.mpw_contents.proofs.layout.Layout.open_row.Given as goal
 abbrev pub invariant-loop-column : goal.invariant-loop-column
 invariant-loop-column l =
     Adds l.self (instances_shown l.self.shelf.now l.node.structure
-    (map (instance (reference_of l.array) l.row) (range_with_len 0 l.column))) l.fn.things.items l.things.items
+    (map (instance (reference_of l.array) l.row) (range_with_len 0 l.column))) l.fn.things.items
+    l.things.items

@@ -7,5 +7,6 @@ pub loop-thing-preserved : goal.loop-thing-preserved
 unfolding things_items
 loop-thing-preserved c =
     let l = c.args.self.now in
-    adds_more l (thing_items l.shelf.now) c.args.old.now c.loop-thing.thing-index _ [] c.loop-thing.things.items c.pass_thing.new.things.items
+    adds_more l (thing_items l.shelf.now) c.args.old.now c.loop-thing.thing-index _ []
+    c.loop-thing.things.items c.pass_thing.new.things.items
     c.loop-thing-test.true c.loop-thing.invariant c.in_ok-pass_thing.ensures

@@ -4,4 +4,5 @@ use Rattle.mpw_contents.specs.Internal.Making.{Adds}
 use Rattle.mpw_contents.proofs.layout.Layout.pass.Given as goal
 
 abbrev pub invariant-loop-thing : goal.invariant-loop-thing
-invariant-loop-thing l = Adds l.self (things_items l.self.shelf.now (take l.thing-index l.old)) [] l.things.items
+invariant-loop-thing l =
+    Adds l.self (things_items l.self.shelf.now (take l.thing-index l.old)) [] l.things.items

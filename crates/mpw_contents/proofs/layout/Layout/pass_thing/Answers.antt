@@ -7,5 +7,6 @@ pub returns-in_default : goal.returns-in_default
 returns-in_default c =
     let l = c.args.self.now in
     let shown = thing_items l.shelf.now c.args.thing in
-    adds_one l shown c.args.things.now.items c.push.new.things.items c.args.thing c.in_ok-push.ensures c.requires.thing
+    adds_one l shown c.args.things.now.items c.push.new.things.items c.args.thing
+    c.in_ok-push.ensures c.requires.thing
     (shows_same l.window shown shown refl)

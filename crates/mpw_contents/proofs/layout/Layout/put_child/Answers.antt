@@ -20,5 +20,6 @@ returns-in_default c =
 
 pub put_reference-requires-clause-target : goal.put_reference-requires-clause-target
 put_reference-requires-clause-target c =
-    child_leads c.args.self.now c.requires.layout c.args.node.now c.requires.node c.args.child c.in-Some.reference.now c.requires.child
+    child_leads c.args.self.now c.requires.layout c.args.node.now c.requires.node c.args.child
+    c.in-Some.reference.now c.requires.child
     (copied_some c.reference.result c.in-Some.reference _ c.in-Some.is c.reference.ensures.is)

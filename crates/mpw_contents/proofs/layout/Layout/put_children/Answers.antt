@@ -14,8 +14,11 @@ pub loop-child-preserved : goal.loop-child-preserved
 loop-child-preserved c =
     let l = c.args.self.now in
     let node = c.args.node.now in
-    let shown = λ (child : Child). map (placed_item c.args.placing) (child_shown (name_shown l.shelf.now)
+    let shown =
+    λ (child : Child). map (placed_item c.args.placing) (child_shown (name_shown l.shelf.now)
     (element_at (slice_get l.structures.now node.structure) child.element)) in
     let i = c.loop-child.child-index in
-    adds_next l shown c.deref-child-items.result.now node.children.items i _ c.args.things.now.items c.loop-child.things.items c.put_child.new.things.items
-    c.deref-child-items.ensures.value c.loop-child-test.true c.loop-child.invariant c.in_ok-put_child.ensures
+    adds_next l shown c.deref-child-items.result.now node.children.items i _ c.args.things.now.items
+    c.loop-child.things.items c.put_child.new.things.items
+    c.deref-child-items.ensures.value c.loop-child-test.true c.loop-child.invariant
+    c.in_ok-put_child.ensures

@@ -14,7 +14,8 @@ pub returns-in_default : goal.returns-in_default
 returns-in_default c =
     let l = c.args.self.now in
     let shape = c.args.shape in
-    nothing_drawn l shape.placing (element_at (slice_get l.structures.now shape.structure) shape.element) c.args.things.now.items
+    nothing_drawn l shape.placing (element_at (slice_get l.structures.now shape.structure)
+    shape.element) c.args.things.now.items
     (copied_none c.element.result _ c.in_default.is c.element.ensures.is)
 
 pub returns-then-not-may_meet : goal.returns-then-not-may_meet
@@ -22,17 +23,23 @@ returns-then-not-may_meet c =
     let l = c.args.self.now in
     let shape = c.args.shape in
     let away = c.may_meet.ensures c.if-not-may_meet.true in
-    drawn_out l shape.placing (element_at (slice_get l.structures.now shape.structure) shape.element) c.in-Some.element.now c.args.things.now.items
+    drawn_out l shape.placing (element_at (slice_get l.structures.now shape.structure)
+    shape.element) c.in-Some.element.now c.args.things.now.items
     (copied_some c.element.result c.in-Some.element _ c.in-Some.is c.element.ensures.is)
-    (subst (λ b. is_met l.window (option_map (placed_box shape.placing) b) ≡ false) c.element_box.ensures away)
+    (subst (λ b. is_met l.window (option_map (placed_box shape.placing) b) ≡ false)
+    c.element_box.ensures away)
 
 pub returns : goal.returns
 unfolding thing_items
 returns c =
     let l = c.args.self.now in
     let shape = c.args.shape in
-    let items = drawn shape.placing (element_at (slice_get l.structures.now shape.structure) shape.element) in
+    let items =
+    drawn shape.placing (element_at (slice_get l.structures.now shape.structure) shape.element)
+    in
     on_ok_weaker c.push.result
-    (λ e. adds_one l items c.args.things.now.items c.push.new.things.items (things.Shape shape) e c.requires.near
+    (λ e. adds_one l items c.args.things.now.items c.push.new.things.items (things.Shape shape) e
+    c.requires.near
     (shows_same l.window items (thing_items l.shelf.now (things.Shape shape))
-    (ap (drawn shape.placing) (sym (shape_is l c.requires.layout shape.structure shape.element))))) c.push.ensures
+    (ap (drawn shape.placing) (sym (shape_is l c.requires.layout shape.structure shape.element)))))
+    c.push.ensures
