@@ -17,8 +17,8 @@ use mpw_geom::{Box2, Orient, Placing, Point};
 use mpw_hier::{Shelf, is_box_near};
 use std::alloc::{AllocError, Global};
 
-/// The most passes: as many as a shelf has levels.
-const PASSES: usize = 64;
+/// The most passes: one for each level of a shelf, of which there are 64 at most, and one that opens nothing.
+const PASSES: usize = 65;
 
 /// No step.
 const STILL: Point = Point { x: 0, y: 0 };
@@ -130,7 +130,7 @@ impl<'a> Layout<'a> {
     /// The contents, by one pass after another.
     ///
     /// # Errors
-    /// As those of [`Layout::open`], and where there are more passes than levels.
+    /// As those of [`Layout::open`], and where things are still opened behind the last level.
     fn fill(&self, alloc: Global) -> Result<Contents, Stop>
         requires { IsLayout self.now }
         ensures { IfOk result (λ contents. Shows self.now.window (flat self.now.shelf.now 0) (things_items self.now.shelf.now contents)) }
