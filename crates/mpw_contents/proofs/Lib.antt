@@ -12,3 +12,4 @@ pub mod Spans
 pub mod Instances
 pub mod Arrays
 pub mod Coded
+pub mod Examples
