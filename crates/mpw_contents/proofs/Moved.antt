@@ -1,8 +1,8 @@
 -- Things elsewhere show the same elsewhere.
-use Rattle.std.proofs.Common.{◌≡◌, ◌<◌, ◌+◌, ℕ, List, [], ◌∷◌, ◌++◌, length, get_or, map, take, Option, Some, None, refl, sym, ap, ◌∙◌, arith}
+use Rattle.std.proofs.Common.{◌≡◌, ◌<◌, List, [], ◌∷◌, ◌++◌, length, get_or, map, Option, Some, None, refl, sym, ap, ◌∙◌, arith}
 use Rattle.std.specs.List.{flat_map}
 use Rattle.std.proofs.lemmas.Int.{ints}
-use Rattle.std.proofs.lemmas.List.{map-append, length-map, get_or-map, take_more}
+use Rattle.std.proofs.lemmas.List.{map-append}
 use Rattle.mpw_geom.proofs.Chains.{same_point}
 use Rattle.mpw_geom.specs.Placing.{moved_point, placed_point, oriented_point}
 use Rattle.mpw_geom.specs.declared.plane.Orient.TheVariants.{R0}
@@ -87,25 +87,4 @@ first_tells d (t ∷ ts) to x y p q w h some first other way =
     way_is d p q (other ∙ ap place_of_thing there ∙ place_moved d t
     ∙ ap (moved_point d) (sym first)) ∙ sym way
 
-pub same_many : (d : Point) (from to : List Thing) → AreMoved d from to → length from ≡ length to
-same_many d from to h = sym (ap length h ∙ length-map from (moved_thing d))
-
 -- ---- one more
-
--- where one isn't moved so, not all are
-pub moved_at : (d : Point) (from to : List Thing) (i : ℕ) (x y : Thing) → AreMoved d from to
-    → i < length from
-    → get_or to i y ≡ moved_thing d (get_or from i x)
-moved_at d from to i x y h lt =
-    ap (λ ts. get_or ts i y) h ∙ get_or-map (moved_thing d) from i x y lt
-
-pub moved_more : (d : Point) (from to : List Thing) (i : ℕ) (x y : Thing) → i < length from
-    → i < length to
-    → take i to ≡ map (moved_thing d) (take i from)
-    → get_or to i y ≡ moved_thing d (get_or from i x)
-    → take (i + 1) to ≡ map (moved_thing d) (take (i + 1) from)
-moved_more d from to i x y lt less h one =
-    take_more to i y less ∙ ap (λ ts. ts ++ get_or to i y ∷ []) h
-    ∙ ap (λ t. map (moved_thing d) (take i from) ++ t ∷ []) one
-    ∙ sym (ap (map (moved_thing d)) (take_more from i x lt)
-    ∙ map-append (moved_thing d) (take i from) (get_or from i x ∷ []))

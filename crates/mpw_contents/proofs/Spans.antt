@@ -81,12 +81,6 @@ along_same a b c d s u most p e f g h =
 pub nowhere : (p : Places) → p.end ≤ p.from → (k : ℕ) → IsOutside p k
 nowhere p h k = elim (cases_lt k p.from) [ inl lt ↦ inl lt | inr le ↦ inr (omega (arith, h, le)) ]
 
--- no place is outside
-pub along_all : (there window : Span) (step other : ℤ) (most : ℕ)
-    → AlongMissed there window step other most (record { from = 0; end = most })
-along_all there window step other most k n h (inl lt) = absurd (omega (arith, lt))
-along_all there window step other most k n h (inr le) = absurd (omega (arith, h, le))
-
 -- ---- boxes
 
 abbrev pub x_of : Box2 → Span

@@ -1,10 +1,9 @@
 -- The top as an array of one, and what all things show.
 use Rattle.std.proofs.Common.{◌≡◌, ℕ, ◌-◌, List, [], ◌∷◌, length, map, take, Option, Some, refl, sym, ap, subst, ◌∙◌, arith}
-use Rattle.std.specs.Prelude.{slice_get, All, IfSome, option_copied}
+use Rattle.std.specs.Prelude.{slice_get, IfSome, option_copied}
 use Rattle.std.specs.Borrow.{Bor}
 use Rattle.std.proofs.lemmas.Int.{ints}
 use Rattle.std.proofs.lemmas.List.{append-nil}
-use Rattle.std.proofs.lemmas.List.Elements.{All-weaker}
 use Rattle.mpw_geom.proofs.Chains.{same_point}
 use Rattle.mpw_geom.specs.Plane.{IsInPlane}
 use Rattle.mpw_geom.specs.Placing.{placed_point, oriented_point}
@@ -20,11 +19,9 @@ use Rattle.mpw_walk.proofs.Fronts.{one}
 use Rattle.mpw_walk.proofs.Placings.{same_placing, here}
 use Rattle.mpw_contents.specs.declared.layout.Layout.{Layout}
 use Rattle.mpw_contents.specs.declared.thing.Array.{Array}
-use Rattle.mpw_contents.specs.declared.thing.Thing.{Thing}
 use Rattle.mpw_contents.specs.declared.thing.Thing.TheVariants as things
-use Rattle.mpw_contents.specs.Contents.{IsNear}
 use Rattle.mpw_contents.specs.Things.{place_shown, thing_items}
-use Rattle.mpw_contents.specs.Internal.Making.{IsLayout, IsThing}
+use Rattle.mpw_contents.specs.Internal.Making.{IsLayout}
 use Rattle.mpw_contents.specs.Internal.Opening.{NamesAreOpened}
 use Rattle.mpw_contents.proofs.Layouts.{named_is, node_named}
 
@@ -84,14 +81,6 @@ top_shown law l w top at node =
     one_shown ss top.structure node
     ∙ sym (node_named l w top (record { place = length l.nodes.now - 1; at = at }) s.top named)
     ∙ named_is l w s.top ∙ sym (flat_is law ss s w.nodes.is)
-
--- things of nodes are near
-pub things_near : (nodes : List Node) (ts : List Thing) → All (IsThing nodes) ts → All IsNear ts
-things_near nodes ts h = All-weaker (IsThing nodes) IsNear near ts h
-  where
-    near : (t : Thing) → IsThing nodes t → IsNear t
-    near (things.Shape shape) k = k
-    near (things.Array a) k = k.near
 
 -- what a shelf gives is a layout
 pub layout_is : (l : Layout) (o : Option (Bor (List Node))) → o ≡ Some l.nodes
