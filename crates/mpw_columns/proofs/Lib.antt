@@ -22,3 +22,5 @@ pub mod OneLine
 pub mod Sorted
 pub mod Collected
 pub mod Following
+pub mod Liked
+pub mod Moved

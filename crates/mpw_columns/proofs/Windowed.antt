@@ -65,7 +65,7 @@ shares a b s h k =
     (test_from_le (int_max a.x0 b.x0) (int_min a.x1 b.x1) (omega (arith, ints, clamps)))
     (test_from_le (int_max a.y0 b.y0) (int_min a.y1 b.y1) (omega (arith, ints, clamps)))
 
-is_met_at : (window : Box2) (o : Option Box2) (s : Square) → IsInBox o s
+pub is_met_at : (window : Box2) (o : Option Box2) (s : Square) → IsInBox o s
     → has_square window s ≡ true → is_met window o ≡ true
 is_met_at window o s h k = subst (λ (x : Option Box2). is_met window x ≡ true) (sym h.is)
     (shares h.corners window s h.has k)

@@ -1,7 +1,10 @@
 -- What is displaced across the edges, as they are seen along an axis: the rows stay.
-use Rattle.std.specs.Prelude.{◌≡◌, ◌+◌, ℕ, ℤ, ◌+ℤ◌, ◌≤ℤ◌, ◌<ℤ◌, List, Contains}
+use Rattle.std.specs.Prelude.{◌≡◌, ◌+◌, ℕ, ℤ, pos, ◌+ℤ◌, ◌≤ℤ◌, ◌<ℤ◌, List, Contains}
 use Rattle.mpw_geom.specs.declared.plane.Box2.{Box2}
 use Rattle.mpw_geom.specs.declared.plane.Layer.{Layer}
+use Rattle.mpw_geom.specs.declared.plane.Point.{Point}
+use Rattle.mpw_edges.specs.declared.run.Axis.{Axis}
+use Rattle.mpw_edges.specs.declared.run.Axis.TheVariants.{V, H}
 use Rattle.mpw_edges.specs.Edges.{Squares}
 use Rattle.mpw_tiles.specs.Snapshots.{Snapshot, shown}
 use Rattle.mpw_markers.specs.declared.marker.Key.{Key}
@@ -14,6 +17,11 @@ use Rattle.mpw_columns.specs.Columns.{upright, across}
 -- The box, displaced.
 abbrev pub displaced : ℤ → Box2 → Box2
 displaced by b = record { x0 = b.x0 +ℤ by; y0 = b.y0; x1 = b.x1 +ℤ by; y1 = b.y1 }
+
+-- The displacement of the layout that is this one across the edges of the axis.
+abbrev pub across_edges : Axis → ℤ → Point
+across_edges V by = record { x = by; y = pos 0 }
+across_edges H by = record { x = pos 0; y = by }
 
 -- The key, displaced.
 abbrev pub displaced_key : ℤ → Key → Key

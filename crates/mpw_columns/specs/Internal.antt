@@ -2,5 +2,6 @@
 pub mod Bands
 pub mod Checked
 pub mod Found
+pub mod Like
 pub mod Listed
 pub mod Marked

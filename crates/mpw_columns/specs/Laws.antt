@@ -9,6 +9,9 @@ use Rattle.mpw_edges.specs.declared.run.Axis.TheVariants.{V, H}
 use Rattle.mpw_edges.specs.Edges.{Squares}
 use Rattle.mpw_edges.specs.Laws.{AreSameIn}
 use Rattle.mpw_edges.specs.Pieces.{HasStep}
+use Rattle.mpw_hier.specs.Items.{Item}
+use Rattle.mpw_contents.specs.Contents.{AreWhole, AreSound}
+use Rattle.mpw_contents.specs.Displaced.{moved}
 use Rattle.mpw_tiles.specs.Snapshots.{Snapshot, shown, shown_extent}
 use Rattle.mpw_markers.specs.declared.marker.Key.{Key}
 use Rattle.mpw_markers.specs.declared.marker.Marker.{Marker}
@@ -20,9 +23,10 @@ use Rattle.mpw_job.specs.Layers.{Coverage}
 use Rattle.mpw_job.specs.Layout.{AreLayoutMarkers}
 use Rattle.mpw_columns.specs.declared.column.Column.{Column}
 use Rattle.mpw_columns.specs.Columns.{across, widened_along, AreColumnsOf}
-use Rattle.mpw_columns.specs.Displaced.{displaced, displaced_key, IsDisplaced, AreDisplacedOn, ShowsDisplaced}
+use Rattle.mpw_columns.specs.Displaced.{displaced, across_edges, displaced_key, IsDisplaced, AreDisplacedIn, AreDisplacedOn, ShowsDisplaced}
 use Rattle.mpw_columns.specs.Found.{IsFound, HasLayers}
 use Rattle.mpw_columns.specs.Runs.{IsRunWithin}
+use Rattle.mpw_columns.specs.Seen.{seen_box, seen_on}
 use Rattle.mpw_columns.specs.Together.{IsColumnList, MeetsShown, together}
 use Rattle.mpw_columns.specs.Within.{is_in_column}
 
@@ -77,3 +81,13 @@ DisplacedColumnsHaveDisplacedLists =
     → All (λ rule. HasLayers layers rule.check) s.deck.rules → IsDisplaced by c e
     → ShowsDisplaced s extent layers greatest by c → IsColumnList s c keys
     → IsColumnList s e (map (displaced_key by) keys)
+
+-- Where what meets a window that is seen along an axis, moved across the edges, is what meets the window displaced, the one shows what the
+-- other shows, displaced.
+abbrev pub MovedItemsShowDisplaced : Type 0
+MovedItemsShowDisplaced =
+    (axis : Axis) (all first second : List Item) (window : Box2) (by : ℤ)
+    → AreWhole (seen_box axis window) all first → AreSound all first
+    → AreWhole (seen_box axis (displaced by window)) all second → AreSound all second
+    → second ≡ map (moved (across_edges axis by)) first → (layer : Layer)
+    → AreDisplacedIn window by (seen_on axis (shown_on all) layer) (seen_on axis (shown_on all) layer)

@@ -22,6 +22,7 @@ use crate::counts::Counts;
 use crate::divide::add_column;
 use crate::keys::ColumnKeys;
 use crate::laws::{columns_have_whole_runs, columns_make_the_layout};
+use crate::like::{equal_to_earlier, lists_with, own_columns};
 use crate::list::{list_shapes, seen_box};
 use crate::look::{Look, layers_of};
 use crate::part::{parts_in, window_of};
@@ -207,6 +208,24 @@ fn all_lists<P: Progress>(
     Ok(lists)
 }
 
+/// The keys of columns, a list for each: those that are like no earlier column are found, the others' made of these.
+fn every_list<P: Progress>(
+    rt: &(impl Threads + Sync),
+    alloc: Global,
+    layout: &Layout<'_>,
+    columns: &[Column],
+    progress: &mut P,
+) -> Result<Vec<ColumnKeys>, AllocError>
+    requires layout { IsLayout layout.now }
+    requires upright { All (λ c. IsUpright (upright (seen_box c.axis layout.now.extent) c)) columns.now }
+    ensures { IfOk result (λ v. AllZip (IsColumnList layout.now.snapshot.now) columns.now v.items) }
+{
+    let likes = equal_to_earlier(alloc, layout, columns)?;
+    let own = own_columns(alloc, columns, likes.as_slice())?;
+    let lists = all_lists(rt, alloc, layout, own.as_slice(), progress)?;
+    lists_with(alloc, layout, columns, likes.as_slice(), lists)
+}
+
 /// The columns of an axis.
 fn columns_along(alloc: Global, layout: &Layout<'_>, axis: Axis) -> Result<Vec<Column>, AllocError>
     requires near { is_box_near layout.now.extent ≡ true }
@@ -295,7 +314,7 @@ fn check_extent<P: Progress>(
         most,
     };
     let (columns, upright) = columns_of_both(alloc, &layout)?;
-    let lists = all_lists(rt, alloc, &layout, columns.as_slice(), progress)?;
+    let lists = every_list(rt, alloc, &layout, columns.as_slice(), progress)?;
     let markers = markers_of(alloc, snapshot, &extent, lists.as_slice(), upright)?;
     Book::from_vec(alloc, markers)
 }

@@ -1,6 +1,6 @@
 //! Laws of the definitions alone. Each function calls at most the laws on which its own rests: its contract is the law.
 
-ghost use Rattle.mpw_columns.specs.Laws.{WindowDecidesAlong, ColumnsHaveWholeRuns, ColumnsMakeTheLayout, DisplacedColumnsFindDisplacedRuns, DisplacedColumnsHaveDisplacedLists};
+ghost use Rattle.mpw_columns.specs.Laws.{WindowDecidesAlong, ColumnsHaveWholeRuns, ColumnsMakeTheLayout, DisplacedColumnsFindDisplacedRuns, DisplacedColumnsHaveDisplacedLists, MovedItemsShowDisplaced};
 
 use mpw_edges::test_decides_pair_steps;
 use mpw_tiles::squares_lie_in_boxes;
@@ -42,4 +42,11 @@ pub fn displaced_columns_have_displaced_lists()
     test_decides_pair_steps();
     columns_have_whole_runs();
     displaced_columns_find_displaced_runs();
+}
+
+/// Where what meets a window is what meets another, moved, the windows show the same, displaced.
+pub fn moved_items_show_displaced()
+    ensures { MovedItemsShowDisplaced }
+{
+    squares_lie_in_boxes();
 }

@@ -21,6 +21,7 @@ mod follow;
 mod keys;
 mod laws;
 mod leaf;
+mod like;
 mod list;
 mod load;
 mod look;
@@ -33,6 +34,6 @@ pub use column::Column;
 pub use follow::columns_follow_on;
 pub use laws::{
     columns_have_whole_runs, columns_make_the_layout, displaced_columns_find_displaced_runs,
-    displaced_columns_have_displaced_lists, window_decides_along,
+    displaced_columns_have_displaced_lists, moved_items_show_displaced, window_decides_along,
 };
 pub use progress::{Progress, Silent};

@@ -2,13 +2,13 @@ use Rattle.std.proofs.Common.{◌∙◌, ap, rules}
 use Rattle.mpw_columns.proofs.Looking.{columns_upright, look_from}
 use Rattle.mpw_columns.proofs.check.check_extent.Goals as goal
 
-pub all_lists-requires-clause-upright : goal.all_lists-requires-clause-upright
-all_lists-requires-clause-upright g c κs alive =
+pub every_list-requires-clause-upright : goal.every_list-requires-clause-upright
+every_list-requires-clause-upright g c κs alive =
     columns_upright c.args.extent _ _ c.as_slice-2.result.now
     c.requires.near c.requires.ordered c.in_ok-columns.ensures c.as_slice-2.ensures.value
 
-pub all_lists-requires-clause-layout : goal.all_lists-requires-clause-layout
-all_lists-requires-clause-layout g c κs alive =
+pub every_list-requires-clause-layout : goal.every_list-requires-clause-layout
+every_list-requires-clause-layout g c κs alive =
     let s = c.args.snapshot.now in
     let rules_are = c.as_slice-rules.ensures ∙ c.rules.ensures ∙ ap (λ d. d.rules) c.deck.ensures in
     record {

@@ -1,0 +1,15 @@
+use Rattle.std.proofs.Common.{◌∙◌, sym, subst}
+use Rattle.std.specs.Prelude.{All}
+use Rattle.mpw_columns.specs.declared.column.Column.{Column}
+use Rattle.mpw_columns.specs.Seen.{seen_box}
+use Rattle.mpw_columns.specs.Columns.{upright}
+use Rattle.mpw_columns.specs.Internal.Found.{IsUpright}
+use Rattle.mpw_columns.proofs.Liked.{own_all}
+use Rattle.mpw_columns.proofs.check.every_list.Goals as goal
+
+pub all_lists-requires-clause-upright : goal.all_lists-requires-clause-upright
+all_lists-requires-clause-upright g c κs alive =
+    let extent = c.args.layout.now.extent in
+    let P : Column → Type 0 = λ column. IsUpright (upright (seen_box column.axis extent) column) in
+    subst (All P) (sym (c.as_slice-2.ensures.value ∙ c.in_ok-own.ensures))
+    (own_all P c.args.columns.now _ c.requires.upright)

@@ -1,0 +1,83 @@
+//! The lists of columns of which some are like earlier ones.
+
+ghost use Rattle.std.specs.Prelude.{◌≡◌, length, All, IfOk};
+ghost use Rattle.std.specs.List.{AllZip};
+ghost use Rattle.mpw_columns.specs.Seen.{seen_box};
+ghost use Rattle.mpw_columns.specs.Columns.{upright};
+ghost use Rattle.mpw_columns.specs.Together.{IsColumnList};
+ghost use Rattle.mpw_columns.specs.Internal.Checked.{IsLayout};
+ghost use Rattle.mpw_columns.specs.Internal.Found.{IsUpright};
+ghost use Rattle.mpw_columns.specs.Internal.Like.{AreLikes, own_columns};
+
+use crate::check::Layout;
+use crate::column::Column;
+use crate::displaced::list_from;
+use crate::keys::ColumnKeys;
+use std::alloc::{AllocError, Global};
+
+/// For each column the place of an earlier one that it is told to be like; none here.
+pub(crate) fn equal_to_earlier(
+    alloc: Global,
+    layout: &Layout<'_>,
+    columns: &[Column],
+) -> Result<Vec<Option<usize>>, AllocError>
+    requires layout { IsLayout layout.now }
+    ensures { IfOk result (λ v. AreLikes layout.now columns.now v.items) }
+{
+    let mut likes = Vec::with_capacity(alloc, columns.len())?;
+    for _ in columns {
+        likes.push(None)?;
+    }
+    Ok(likes)
+}
+
+/// The columns that are like no earlier one, in their order. One pass; an error is want of memory.
+pub(crate) fn own_columns(
+    alloc: Global,
+    columns: &[Column],
+    likes: &[Option<usize>],
+) -> Result<Vec<Column>, AllocError>
+    requires { length likes.now ≡ length columns.now }
+    ensures { IfOk result (λ v. v.items ≡ own_columns columns.now likes.now) }
+{
+    let mut own = Vec::new(alloc);
+    for place in 0..columns.len() {
+        if likes[place].is_none() {
+            own.push(columns[place])?;
+        }
+    }
+    Ok(own)
+}
+
+/// The lists of columns, from those of the columns that are like no earlier one: the others' are made of their earlier one's. Linear in
+/// the keys; an error is want of memory.
+pub(crate) fn lists_with(
+    alloc: Global,
+    layout: &Layout<'_>,
+    columns: &[Column],
+    likes: &[Option<usize>],
+    own: Vec<ColumnKeys>,
+) -> Result<Vec<ColumnKeys>, AllocError>
+    requires layout { IsLayout layout.now }
+    requires upright { All (λ c. IsUpright (upright (seen_box c.axis layout.now.extent) c)) columns.now }
+    requires likes { AreLikes layout.now columns.now likes.now }
+    requires own { AllZip (IsColumnList layout.now.snapshot.now) (own_columns columns.now likes.now) own.items }
+    ensures { IfOk result (λ v. AllZip (IsColumnList layout.now.snapshot.now) columns.now v.items) }
+{
+    let mut lists = Vec::with_capacity(alloc, columns.len())?;
+    let mut own = own.into_iter();
+    for place in 0..columns.len() {
+        let list = match likes[place] {
+            Some(earlier) => list_from(
+                alloc,
+                layout,
+                &columns[place],
+                &columns[earlier],
+                &lists[earlier],
+            )?,
+            None => own.next().unwrap(),
+        };
+        lists.push(list)?;
+    }
+    Ok(lists)
+}
