@@ -24,3 +24,4 @@ pub mod Collected
 pub mod Following
 pub mod Liked
 pub mod Moved
+pub mod Alike

@@ -1,6 +1,5 @@
 -- Items that are moved show their squares moved, and what meets a window shows its squares.
-use Rattle.std.proofs.Common.{◌≡◌, ◌∙◌, ℤ, pos, ◌+ℤ◌, ◌-ℤ◌, Bool, true, ◌&&◌, ◌||◌, List, [], ◌∷◌, map, refl, sym, ap, arith}
-use Rattle.std.specs.Prelude.{Contains}
+use Rattle.std.proofs.Common.{◌≡◌, ◌∙◌, ℤ, ◌+ℤ◌, Bool, true, ◌&&◌, ◌||◌, List, [], ◌∷◌, map, refl, sym, ap, arith}
 use Rattle.std.proofs.lemmas.Int.{ints}
 use Rattle.mpw_geom.specs.declared.plane.Box2.{Box2}
 use Rattle.mpw_geom.specs.declared.plane.Layer.{Layer}

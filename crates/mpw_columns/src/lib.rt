@@ -17,6 +17,8 @@ mod columns;
 mod counts;
 mod displaced;
 mod divide;
+mod earlier;
+mod equal;
 mod follow;
 mod keys;
 mod laws;

@@ -15,22 +15,6 @@ use crate::displaced::list_from;
 use crate::keys::ColumnKeys;
 use std::alloc::{AllocError, Global};
 
-/// For each column the place of an earlier one that it is told to be like; none here.
-pub(crate) fn equal_to_earlier(
-    alloc: Global,
-    layout: &Layout<'_>,
-    columns: &[Column],
-) -> Result<Vec<Option<usize>>, AllocError>
-    requires layout { IsLayout layout.now }
-    ensures { IfOk result (λ v. AreLikes layout.now columns.now v.items) }
-{
-    let mut likes = Vec::with_capacity(alloc, columns.len())?;
-    for _ in columns {
-        likes.push(None)?;
-    }
-    Ok(likes)
-}
-
 /// The columns that are like no earlier one, in their order. One pass; an error is want of memory.
 pub(crate) fn own_columns(
     alloc: Global,

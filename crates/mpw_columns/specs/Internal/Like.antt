@@ -1,7 +1,15 @@
 -- Columns that are like earlier ones.
-use Rattle.std.specs.Prelude.{◌≡◌, ◌<◌, ◌-ℤ◌, ℕ, List, [], ◌∷◌, length, get_or, Option, Some, None}
+use Rattle.std.specs.Prelude.{◌≡◌, ◌<◌, ◌+◌, ◌-ℤ◌, ℕ, List, [], ◌∷◌, ◌++◌, length, get_or, Option, Some, None, ◌⊎◌}
+use Rattle.mpw_geom.specs.declared.plane.Box2.{Box2}
+use Rattle.mpw_contents.specs.declared.thing.Thing.{Thing}
+use Rattle.mpw_contents.specs.Contents.{AreWhole, AreSound}
+use Rattle.mpw_contents.specs.Things.{things_items}
+use Rattle.mpw_tiles.specs.Snapshots.{shown}
 use Rattle.mpw_columns.specs.declared.check.Layout.{Layout}
 use Rattle.mpw_columns.specs.declared.column.Column.{Column}
+use Rattle.mpw_columns.specs.declared.earlier.Kept.{Kept}
+use Rattle.mpw_columns.specs.Seen.{seen_box}
+use Rattle.mpw_columns.specs.Columns.{upright, across}
 use Rattle.mpw_columns.specs.Displaced.{IsDisplaced, ShowsDisplaced}
 
 -- The column is the earlier one, displaced, and their windows show the same, displaced.
@@ -23,3 +31,35 @@ own_columns [] likes = []
 own_columns (c ∷ cs) [] = []
 own_columns (c ∷ cs) (None ∷ likes) = c ∷ own_columns cs likes
 own_columns (c ∷ cs) (Some earlier ∷ likes) = own_columns cs likes
+
+-- ---- how they are found
+
+-- The window of a column of a layout.
+abbrev pub window_along : Layout → Column → Box2
+window_along l c =
+    seen_box c.axis (across (upright (seen_box c.axis l.extent) c) (l.distance + 1))
+
+-- What of the layout meets the column's window, as things: all of it is shown, and nothing that the layout doesn't show.
+pub record AreContentsOf (l : Layout) (c : Column) (things : List Thing) : Type 0 where
+  pub whole : AreWhole (window_along l c) (shown l.snapshot.now) (things_items l.snapshot.now.shelf things)
+  pub sound : AreSound (shown l.snapshot.now) (things_items l.snapshot.now.shelf things)
+
+-- The column at a place is like the earlier one at this, if there is one.
+abbrev pub IsLikeAt : Layout → List Column → (place : ℕ) → Option ℕ → Type 0
+IsLikeAt l columns place None = Unit {0}
+IsLikeAt l columns place (Some earlier) =
+    (earlier < place) × ((c : Column) → IsLike l (get_or columns earlier c) (get_or columns place c))
+
+-- So of the first n columns.
+pub record AreFirstLikes (l : Layout) (columns : List Column) (n : ℕ) (likes : List (Option ℕ)) : Type 0 where
+  pub long : length likes ≡ n
+  pub each : (place : ℕ) (o : Option ℕ) → place < n → IsLikeAt l columns place (get_or likes place o)
+
+-- Contents of a column before the place.
+pub record IsKept (l : Layout) (columns : List Column) (place : ℕ) (k : Kept) : Type 0 where
+  pub before : k.place < place
+  pub contents : (c : Column) → AreContentsOf l (get_or columns k.place c) k.contents
+
+-- A list stays, or has that behind its last.
+abbrev pub MayAdd : Kept → (old new : List Kept) → Type 0
+MayAdd k old new = (new ≡ old) ⊎ (new ≡ old ++ k ∷ [])

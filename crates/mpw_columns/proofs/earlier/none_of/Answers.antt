@@ -1,6 +1,6 @@
 use Rattle.std.proofs.Common.{arith}
 use Rattle.mpw_columns.proofs.Liked.{none_alike}
-use Rattle.mpw_columns.proofs.like.equal_to_earlier.Goals as goal
+use Rattle.mpw_columns.proofs.earlier.none_of.Goals as goal
 
 pub returns : goal.returns
 returns c = none_alike c.args.layout.now c.args.columns.now c.loop.likes.items c.loop.index

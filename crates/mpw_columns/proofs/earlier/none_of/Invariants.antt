@@ -1,5 +1,5 @@
 use Rattle.std.proofs.Common.{◌≡◌, None, replicate}
-use Rattle.mpw_columns.proofs.like.equal_to_earlier.Given as goal
+use Rattle.mpw_columns.proofs.earlier.none_of.Given as goal
 
 abbrev pub invariant-loop : goal.invariant-loop
 invariant-loop l = l.likes.items ≡ replicate l.index None
