@@ -22,6 +22,7 @@ use crate::counts::Counts;
 use crate::divide::add_column;
 use crate::earlier::equal_to_earlier;
 use crate::keys::ColumnKeys;
+use crate::lattice::lattices_of;
 use crate::laws::{columns_have_whole_runs, columns_make_the_layout};
 use crate::like::{lists_with, own_columns};
 use crate::list::{list_shapes, seen_box};
@@ -235,8 +236,10 @@ fn columns_along(alloc: Global, layout: &Layout<'_>, axis: Axis) -> Result<Vec<C
 {
     let seen = seen_box(axis, &layout.extent);
     let counts = Counts::of(alloc, layout.snapshot, axis, &seen)?;
+    let lattices = lattices_of(alloc, layout.snapshot, axis)?;
     let view = View {
         counts: &counts,
+        lattices: lattices.as_slice(),
         axis,
         seen,
         distance: layout.distance,

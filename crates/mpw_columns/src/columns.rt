@@ -1,6 +1,7 @@
 //! The columns of a layout.
 //!
-//! The extent is halved across, again and again, until a column shows few shapes. Left comes before right, so the columns come in order.
+//! The extent is cut in two across, again and again, until a column shows few shapes: in its middle, or where an array repeats. Left comes
+//! before right, so the columns come in order.
 
 ghost use Rattle.std.specs.Prelude.{◌≡◌, ◌+◌, ◌≤ℤ◌, ◌<ℤ◌, ◌+ℤ◌, pos, ℤ, IfOk, IfSome, OnOk};
 ghost use Rattle.mpw_walk.specs.Turns.{given};
@@ -12,6 +13,7 @@ ghost use Rattle.mpw_columns.specs.Internal.Found.{IsUpright, IsStretch, IsWide,
 
 use crate::column::Column;
 use crate::counts::Counts;
+use crate::lattice::{Lattice, line_between};
 use crate::list::seen_box;
 use crate::part::window_of;
 use mpw_edges::Axis;
@@ -23,11 +25,12 @@ use std::alloc::{AllocError, Global};
 /// Halvings of an extent.
 const MAX_DEPTH: u32 = 32;
 
-/// How many shapes a layout shows where, its extent as it is seen along an axis, how far windows reach beyond columns, and how many shapes
+/// How many shapes a layout shows where, on which lines its arrays repeat, its extent as it is seen along an axis, how far windows reach beyond columns, and how many shapes
 /// a column may show.
 #[derive(Clone, Copy)]
 pub(crate) struct View<'a> {
     pub(crate) counts: &'a Counts,
+    pub(crate) lattices: &'a [Lattice],
     pub(crate) axis: Axis,
     pub(crate) seen: Box2,
     pub(crate) distance: u32,
@@ -73,6 +76,18 @@ fn middle(column: &Column) -> Point
     }
 }
 
+/// A point inside a column where it is cut: on a line on which an array repeats, or else in its middle; its first place, where it has no other.
+fn cut_of(lattices: &[Lattice], column: &Column) -> Point
+    requires { IsStretch column.now }
+    ensures left { column.now.from ≤ℤ result.x }
+    ensures right { result.x <ℤ column.now.to }
+{
+    match line_between(lattices, column.from, column.to) {
+        Some(x) if column.from < x && x < column.to => Point { x, y: 0 },
+        _ => middle(column),
+    }
+}
+
 /// Whether the column shows more shapes than wanted, and its halves fewer together than one and a half times as many: of wires that go
 /// on over all columns halves would show as many again. None is narrower than four of the margins of its window.
 fn is_crowded(view: &View<'_>, column: &Column) -> bool
@@ -83,7 +98,7 @@ fn is_crowded(view: &View<'_>, column: &Column) -> bool
         return false;
     }
     let margin = i64::from(view.distance) + 1;
-    let at = middle(column);
+    let at = cut_of(view.lattices, column);
     let (from, to) = (column.from - margin, column.to + margin);
     let shown = view.counts.shown(from, to);
     let left = view.counts.shown(from, at.x + margin);
@@ -91,12 +106,12 @@ fn is_crowded(view: &View<'_>, column: &Column) -> bool
     shown > u64::from(view.most) && left.saturating_add(right) < shown.saturating_add(shown / 2)
 }
 
-/// The column left of its middle, and the one right of it; none where it has one place alone.
-fn halves(column: &Column) -> Option<(Column, Column)>
+/// The column left of where it is cut, and the one right of it; none where it has one place alone.
+fn halves(lattices: &[Lattice], column: &Column) -> Option<(Column, Column)>
     requires { IsStretch column.now }
     ensures { IfSome result (λ h. AreHalvesOf column.now h.0 h.1) }
 {
-    let at = middle(column);
+    let at = cut_of(lattices, column);
     if at.x == column.from {
         return None;
     }
@@ -137,7 +152,7 @@ fn add_columns(
     if depth == 0 || !is_crowded(view, column) {
         return add_one(columns, column);
     }
-    let Some((left, right)) = halves(column) else {
+    let Some((left, right)) = halves(view.lattices, column) else {
         return add_one(columns, column);
     };
     add_columns(columns, view, &left, depth - 1)?;

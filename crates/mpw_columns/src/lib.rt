@@ -21,6 +21,7 @@ mod earlier;
 mod equal;
 mod follow;
 mod keys;
+mod lattice;
 mod laws;
 mod leaf;
 mod like;

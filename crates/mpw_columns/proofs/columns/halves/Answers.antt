@@ -4,8 +4,8 @@ use Rattle.mpw_columns.proofs.columns.halves.Goals as goal
 
 pub returns : goal.returns
 returns c =
-    let low = c.middle-at.ensures.left in
-    let high = c.middle-at.ensures.right in record {
+    let low = c.cut_of-at.ensures.left in
+    let high = c.cut_of-at.ensures.right in record {
       left_axis = refl;
       right_axis = refl;
       from_is = omega (arith, ints);
