@@ -327,11 +327,13 @@ fn check_extent<P: Progress>(
 /// alone, which each marker then meets.
 ///
 /// The extent is halved into columns of which each shows at most `most` shapes in its window, where halving can have that; with
-/// [`MAX_SHOWN`] a column fits some ten megabytes. Columns are worked in batches of four for each processor, in at most two threads for
-/// each; progress is told before the first and after each. One walk a column gives the shapes whose
+/// [`MAX_SHOWN`] a column fits some ten megabytes. A column whose window shows what that of an earlier one does, displaced, as far as a short
+/// list of shapes and arrays tells it, has that one's keys, displaced: for each column a list of at most 4096 of them is made, which costs a look
+/// at the top's shapes and references at least, and at most 2^20 things are kept. The other columns are worked in batches of four for each
+/// processor, in at most two threads for each; progress is told of them, before the first and after each. One walk a column gives the shapes whose
 /// boxes meet its window, and the rectangles of those on the rules' layers are listed; so what is held is the rectangles of as many columns
 /// as there are threads, and the markers, once as keys of columns and once as the book's. A column costs its walk, its rectangles, a sort of them by layer, a pass over them a halving,
-/// the bands and pairs of each part, and a sort of its keys.
+/// the bands and pairs of each part, and a sort of its keys; one that is like an earlier one a pass over that one's keys.
 ///
 /// # Errors
 /// Want of memory.

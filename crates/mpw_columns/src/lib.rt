@@ -7,6 +7,8 @@
 //! snapshot apart into columns, checks each by itself, and puts their lists together, which are the flat layout's book then
 //! ([`columns_make_the_layout`]): a list goes on where the column before ends ([`columns_follow_on`]), so nothing is sorted as a whole.
 //!
+//! Columns of a regular layout show the same, displaced: these are found once (`earlier`, `equal`), and their lists displaced (`like`).
+//!
 //! Within a column its halves are columns again (`divide`), down to leaves with few rectangles side by side, whose bands serve all
 //! rules (`leaf`). For horizontal edges all is seen with the coordinates exchanged, from where shapes are listed on (`list`).
 #![tactic(auto)]
