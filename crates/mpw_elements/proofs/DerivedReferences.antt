@@ -7,7 +7,8 @@ use Rattle.mpw_records.specs.Records.{RawRecord, RecordOutcome}
 use Rattle.mpw_geom.specs.declared.plane.Orient.{Orient}
 use Rattle.mpw_geom.specs.declared.plane.Orient.TheVariants.{R0}
 use Rattle.mpw_elements.specs.Reading.{Reading, ◌>>=◌, field, demanded, expected, optional}
-use Rattle.mpw_elements.specs.Values.{origin_of, name_of, mirrored_of, magnification_of, turns_of, orient_of, counts_of, grid_of, no_point}
+use Rattle.mpw_structures.specs.Coordinates.{no_point}
+use Rattle.mpw_elements.specs.Values.{origin_of, name_of, mirrored_of, magnification_of, turns_of, orient_of, counts_of, grid_of}
 use Rattle.mpw_elements.specs.Grammar.{orientation, single, array}
 use Rattle.mpw_elements.specs.Derivation.{IsField, DerivesOrient, DerivesSingle, DerivesArray, records_then, Begins}
 use Rattle.mpw_elements.proofs.DerivedFields.{regroup3, regroup4, bind_ok, ok_is, chosen, records_both, parts_both, field_sound, field_complete, demanded_complete, ahead_sound, expected_sound, kind_of, expected_complete, BeginsAhead, optional_sound, field_ahead, Ahead, is_among, not_among, equals, optional_complete}

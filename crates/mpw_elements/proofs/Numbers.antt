@@ -14,18 +14,8 @@ use Rattle.std.specs.List.{list_all}
 use Rattle.std.proofs.lemmas.Bool.Decides.{leb_tells, Decides-and, Decides-by_and}
 use Rattle.mpw_geom.specs.Name.{IsName, IsVisible}
 use Rattle.mpw_records.specs.Records.{RawRecord}
-use Rattle.mpw_elements.specs.Values.{scaled, without_nuls, is_visible, is_name, name_of}
-
-narrow : (n : ℕ) → unsigned_abs (cast_signed w32 n) ≤ 2 ^ 31
-narrow n = grind (arith, nat_tests, ints)
-
-pub scaled_bound : (unit : ℕ) (bytes : List ℕ) → unit ≤ 1000
-    → unsigned_abs (scaled unit bytes) < 2 ^ 42
-unfolding scaled
-scaled_bound unit bytes h =
-    let n = big_number 4 bytes in
-    let p = mul-le (unsigned_abs (cast_signed w32 n)) unit (2 ^ 31) 1000 (narrow n) h in
-    rw (unsigned_abs-mul (cast_signed w32 n) (pos unit)) (omega (arith, p))
+use Rattle.mpw_structures.specs.Coordinates.{scaled}
+use Rattle.mpw_elements.specs.Values.{without_nuls, is_visible, is_name, name_of}
 
 pub nul_last : (xs : List ℕ) → without_nuls (xs ++ 0 ∷ []) ≡ without_nuls xs
 unfolding without_nuls

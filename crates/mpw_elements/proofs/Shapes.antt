@@ -19,9 +19,10 @@ use Rattle.mpw_records.specs.declared.fault.ReadFault.{ReadFault}
 use Rattle.mpw_records.specs.Records.{RawRecord}
 use Rattle.mpw_elements.specs.Internal.Element.{IsRing, IsLine, IsWidth}
 use Rattle.mpw_elements.specs.Reading.{fault_at}
-use Rattle.mpw_elements.specs.Values.{scaled, point_at, points_of, is_closing, without_closing, corners_of, centre_of, width_of, no_point, is_count}
+use Rattle.mpw_structures.specs.Coordinates.{scaled, no_point}
+use Rattle.mpw_elements.specs.Values.{point_at, points_of, is_closing, without_closing, corners_of, centre_of, width_of, is_count}
 use Rattle.mpw_elements.specs.Internal.Values.{IsNear}
-use Rattle.mpw_elements.proofs.Numbers.{scaled_bound}
+use Rattle.mpw_structures.proofs.TextPoints.{scaled_bound}
 
 pub near_reach : (z : ℤ) → unsigned_abs z < 2 ^ 47 → IsWithinReach z
 near_reach (pos n) h = record { above = omega (arith, ints); below = omega (arith, ints) }

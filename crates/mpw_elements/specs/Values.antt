@@ -9,6 +9,7 @@ use Rattle.byteorder.specs.Endian.{big_number}
 use Rattle.mpw_geom.specs.declared.plane.Point.{Point}
 use Rattle.mpw_geom.specs.declared.plane.Orient.{Orient}
 use Rattle.mpw_geom.specs.declared.plane.Orient.TheVariants.{R0, R90, R180, R270, M0, M90, M180, M270}
+use Rattle.mpw_structures.specs.Coordinates.{scaled, no_point}
 use Rattle.mpw_structures.specs.Element.{same_point, is_manhattan_step, each_step, closed}
 use Rattle.mpw_records.specs.declared.fault.Code.TheVariants.{BadName, BadSize, Magnification, Angle, NotManhattan, RoundPath, OddWidth, PointPath, Columns, Pitch, Absolute}
 use Rattle.mpw_records.specs.declared.fault.ReadFault.{ReadFault}
@@ -23,10 +24,6 @@ use Rattle.mpw_elements.specs.Reading.{fault_at}
 abbrev pub short_of : RawRecord → ℕ
 short_of r = big_number 2 r.bytes
 
--- A four-byte signed number of database units, in nm.
-unfoldable pub scaled : ℕ → List ℕ → ℤ
-scaled unit bytes = cast_signed w32 (big_number 4 bytes) *ℤ pos unit
-
 -- ---- points
 
 abbrev pub point_at : ℕ → List ℕ → ℕ → Point
@@ -36,9 +33,6 @@ point_at unit bytes i =
 -- The points of XY, eight bytes each.
 unfoldable pub points_of : ℕ → List ℕ → List Point
 points_of unit bytes = map (point_at unit bytes) (range_with_len 0 (length bytes / 8))
-
-abbrev pub no_point : Point
-no_point = record { x = pos 0; y = pos 0 }
 
 -- Of two or more points, a last one equal to the first is the closing point.
 unfoldable pub is_closing : List Point → Bool

@@ -11,8 +11,7 @@ use crate::layer::read_layer;
 use crate::reading::{end_element, expect};
 use crate::shape::corners;
 use mpw_records::{Records, kind};
-use mpw_structures::{Boundary, Element};
-use std::alloc::Global;
+use mpw_structures::{Boundary, Element, Storage};
 
 /// The boundary whose first record was read, which begins at `start`, as an element. A box has BOXTYPE in the place
 /// of DATATYPE.
@@ -21,7 +20,7 @@ use std::alloc::Global;
 /// The first fault of its records, or want of memory.
 #[tactic(auto, unfolding(crate::specs::Internal::Grammar::boundary_by_layer, mpw_records::specs::Format::least_size))]
 pub fn read_boundary(
-    alloc: Global,
+    storage: Storage<'_>,
     records: &mut Records<'_>,
     start: usize,
     unit: u16,
@@ -35,7 +34,7 @@ pub fn read_boundary(
 {
     let layer = read_layer(records, start, datatype)?;
     let xy = expect(records, start, kind::XY)?;
-    let points = corners(alloc, unit, xy)?;
+    let points = corners(storage, unit, xy)?;
     end_element(
         records,
         start,

@@ -13,11 +13,10 @@ ghost use Rattle.mpw_elements.specs.Values.{path_type_of, width_of, extension_of
 use crate::fault::ReadError;
 use crate::layer::read_layer;
 use crate::reading::{demand, end_element, is_kind, next_field, value_and_next};
-use crate::shape::{centre, scale};
+use crate::shape::centre;
 use crate::values::{lengthening, path_type, width};
 use mpw_records::{Record, Records, kind};
-use mpw_structures::{Element, Path};
-use std::alloc::Global;
+use mpw_structures::{Boxed, Element, Path, Storage, scale};
 
 /// The width of a path and how far its ends are lengthened, in nm.
 #[derive(Clone, Copy)]
@@ -124,7 +123,7 @@ fn read_breadth<'a>(
 /// The first fault of its records, or want of memory.
 #[tactic(auto, unfolding(crate::specs::Internal::Grammar::path_by_breadth, mpw_records::specs::Format::least_size))]
 pub fn read_path(
-    alloc: Global,
+    storage: Storage<'_>,
     records: &mut Records<'_>,
     start: usize,
     unit: u16,
@@ -136,7 +135,7 @@ pub fn read_path(
 {
     let layer = read_layer(records, start, kind::DATATYPE)?;
     let (breadth, found) = read_breadth(records, start, unit)?;
-    let points = centre(alloc, unit, demand(found, kind::XY)?)?;
+    let points = centre(storage, unit, demand(found, kind::XY)?)?;
     let path = Path {
         layer,
         width: breadth.width,
@@ -144,5 +143,6 @@ pub fn read_path(
         end: breadth.end,
         points,
     };
+    let path = Boxed::new(storage.alloc, path)?;
     end_element(records, start, Element::Path(path))
 }

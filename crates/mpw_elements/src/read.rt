@@ -14,8 +14,7 @@ use crate::path::read_path;
 use crate::reading::fault_of;
 use crate::reference::read_reference;
 use mpw_records::{Code, ReadFault, Record, Records, kind};
-use mpw_structures::Element;
-use std::alloc::Global;
+use mpw_structures::{Element, Storage};
 
 /// Goes on behind ENDEL.
 fn skip(records: &mut Records<'_>, start: usize) -> Result<(), ReadError>
@@ -40,7 +39,7 @@ fn skip(records: &mut Records<'_>, start: usize) -> Result<(), ReadError>
 /// An element, if its first record begins one.
 #[tactic(auto, unfolding(crate::specs::Internal::Grammar::element_by_parts, mpw_records::specs::Format::least_size))]
 fn one_element(
-    alloc: Global,
+    storage: Storage<'_>,
     records: &mut Records<'_>,
     first: Record<'_>,
     unit: u16,
@@ -52,11 +51,11 @@ fn one_element(
 {
     let start = first.offset;
     match first.kind {
-        kind::BOUNDARY => read_boundary(alloc, records, start, unit, kind::DATATYPE),
-        kind::BOX => read_boundary(alloc, records, start, unit, kind::BOXTYPE),
-        kind::PATH => read_path(alloc, records, start, unit),
-        kind::SREF => read_reference(alloc, records, start, unit, false),
-        kind::AREF => read_reference(alloc, records, start, unit, true),
+        kind::BOUNDARY => read_boundary(storage, records, start, unit, kind::DATATYPE),
+        kind::BOX => read_boundary(storage, records, start, unit, kind::BOXTYPE),
+        kind::PATH => read_path(storage, records, start, unit),
+        kind::SREF => read_reference(storage.alloc, records, start, unit, false),
+        kind::AREF => read_reference(storage.alloc, records, start, unit, true),
         kind::TEXT | kind::NODE => {
             skip(records, start)?;
             Ok(None)
@@ -69,14 +68,14 @@ fn one_element(
 /// element, or none where a TEXT or a NODE ends, which are passed over. Each four-byte number is
 /// multiplied by `unit`, in nm, before it is tested.
 ///
-/// It takes memory for the points and the name of an element alone, and looks at each byte a fixed
-/// number of times.
+/// It takes memory for an element alone, whose points stay in the text where the storage has that, and looks at each byte a
+/// fixed number of times.
 ///
 /// # Errors
 /// The fault of the first record that can't stand where it stands, by the order of tests; or want of
 /// memory. From then on `records` gives nothing.
 pub fn read_element(
-    alloc: Global,
+    storage: Storage<'_>,
     records: &mut Records<'_>,
     first: Record<'_>,
     unit: u16,
@@ -87,7 +86,7 @@ pub fn read_element(
     ensures err { OnErr result (records.new ≡ []) }
     ensures rest { length records.new ≤ length records.old }
 {
-    let outcome = one_element(alloc, records, first, unit);
+    let outcome = one_element(storage, records, first, unit);
     if outcome.is_err() {
         records.stop();
     }

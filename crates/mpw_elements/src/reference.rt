@@ -17,7 +17,7 @@ use crate::values::{
 };
 use mpw_geom::{Name, Orient, Point};
 use mpw_records::{Record, Records, kind};
-use mpw_structures::{Element, Reference};
+use mpw_structures::{Boxed, Element, Reference};
 use std::alloc::Global;
 
 /// Past MAG, if the record is one: the record behind it.
@@ -78,24 +78,49 @@ fn orientation<'a>(
     Ok((orient(mirrored, turns), found))
 }
 
+/// Which structure is placed, and how it is turned.
+struct Instance {
+    name: Name,
+    orient: Orient,
+}
+
+impl Drop for Instance {
+    fn drop(self) {
+        let Instance { name, orient: _ } = self;
+        drop(name);
+    }
+}
+
+impl Instance {
+    /// The name and the orientation.
+    fn into_parts(self) -> (Name, Orient)
+        ensures name { result.0 ≡ self.name }
+        ensures orient { result.1 ≡ self.orient }
+    {
+        let Instance { name, orient } = self;
+        (name, orient)
+    }
+}
+
 /// The reference of an SREF whose name and orientation were read, and one record behind them, as an element.
 #[tactic(auto, unfolding(crate::specs::Internal::Grammar::single_behind, mpw_records::specs::Format::least_size))]
 fn read_single(
+    alloc: Global,
     records: &mut Records<'_>,
     start: usize,
     unit: u16,
-    name: Name,
-    orient: Orient,
+    instance: Instance,
     found: Record<'_>,
 ) -> Result<Option<Element>, ReadError>
     requires unit { unit ≤ 1000 }
-    requires name { IsName name }
+    requires name { IsName instance.name }
     requires found { IsSized (raw found) }
-    ensures single { GivesReading (λ e. e) result records.new (single_behind start unit name orient (raw found.entry) records.old) }
+    ensures single { GivesReading (λ e. e) result records.new (single_behind start unit instance.name instance.orient (raw found.entry) records.old) }
     ensures shape { IfOk result (λ found. IfSome found IsElement) }
     ensures rest { length records.new ≤ length records.old }
 {
     let origin = place(unit, demand(found, kind::XY)?)?;
+    let (name, orient) = instance.into_parts();
     let reference = Reference {
         name,
         orient,
@@ -105,29 +130,31 @@ fn read_single(
         column_step: Point { x: 0, y: 0 },
         row_step: Point { x: 0, y: 0 },
     };
+    let reference = Boxed::new(alloc, reference)?;
     end_element(records, start, Element::Reference(reference))
 }
 
 /// The reference of an AREF whose name and orientation were read, and one record behind them, as an element.
 #[tactic(auto, unfolding(crate::specs::Internal::Grammar::array_behind, mpw_records::specs::Format::least_size))]
 fn read_array(
+    alloc: Global,
     records: &mut Records<'_>,
     start: usize,
     unit: u16,
-    name: Name,
-    orient: Orient,
+    instance: Instance,
     found: Record<'_>,
 ) -> Result<Option<Element>, ReadError>
     requires unit { unit ≤ 1000 }
-    requires name { IsName name }
+    requires name { IsName instance.name }
     requires found { IsSized (raw found) }
-    ensures array { GivesReading (λ e. e) result records.new (array_behind start unit name orient (raw found.entry) records.old) }
+    ensures array { GivesReading (λ e. e) result records.new (array_behind start unit instance.name instance.orient (raw found.entry) records.old) }
     ensures shape { IfOk result (λ found. IfSome found IsElement) }
     ensures rest { length records.new ≤ length records.old }
 {
     let (columns, rows) = counts(demand(found, kind::COLROW)?)?;
     let xy = expect(records, start, kind::XY)?;
     let grid = read_grid(unit, columns, rows, xy)?;
+    let (name, orient) = instance.into_parts();
     let reference = Reference {
         name,
         orient,
@@ -137,6 +164,7 @@ fn read_array(
         column_step: grid.column_step,
         row_step: grid.row_step,
     };
+    let reference = Boxed::new(alloc, reference)?;
     end_element(records, start, Element::Reference(reference))
 }
 
@@ -160,9 +188,10 @@ pub fn read_reference(
     let name = read_name(alloc, expect(records, start, kind::SNAME)?)?;
     let found = next_field(records, start)?;
     let (orient, found) = orientation(records, start, found)?;
+    let instance = Instance { name, orient };
     if is_array {
-        read_array(records, start, unit, name, orient, found)
+        read_array(alloc, records, start, unit, instance, found)
     } else {
-        read_single(records, start, unit, name, orient, found)
+        read_single(alloc, records, start, unit, instance, found)
     }
 }

@@ -5,27 +5,19 @@ ghost use Rattle.std.specs.List.{dedup};
 ghost use Rattle.mpw_structures.specs.Element.{same_point, is_manhattan_step, each_step, closed};
 ghost use Rattle.mpw_records.specs.Records.{raw};
 ghost use Rattle.mpw_elements.specs.Reading.{GivesValue};
-ghost use Rattle.mpw_elements.specs.Values.{scaled, point_at, points_of, is_closing, without_closing, corners_of, centre_of};
+ghost use Rattle.mpw_structures.specs.Coordinates.{scaled};
+ghost use Rattle.mpw_elements.specs.Values.{point_at, points_of, is_closing, without_closing, corners_of, centre_of};
 ghost use Rattle.mpw_elements.specs.Internal.Values.{IsNear};
 
 use crate::fault::ReadError;
 use crate::reading::fault_of;
-use byteorder::{BigEndian, ByteOrder};
 use mpw_geom::Point;
 use mpw_records::{Code, Record};
-use mpw_structures::Points;
+use mpw_structures::{Points, Storage, scale};
 use std::alloc::{AllocError, Global};
 
-/// A four-byte signed number of database units, in nm.
-#[tactic(auto, unfolding(crate::specs::Values::scaled))]
-pub fn scale(unit: u16, bytes: &[u8]) -> i64
-    requires unit { unit ≤ 1000 }
-    requires bytes { 4 ≤ length bytes.now }
-    ensures value { result ≡ scaled unit bytes.now }
-    ensures bound { unsigned_abs result < 2 ^ 42 }
-{
-    i64::from(BigEndian::read_i32(bytes)) * i64::from(unit)
-}
+/// The bytes before a record's data (GDSII Stream release 6, record header).
+const HEADER: usize = 4;
 
 /// The point with an index among those of XY.
 pub fn point(unit: u16, bytes: &[u8], index: usize) -> Point
@@ -119,15 +111,15 @@ fn merge_repeats(mut points: Vec<Point>) -> Vec<Point>
 /// # Errors
 /// `NotManhattan` where an edge, the closing one too, is neither horizontal nor vertical; or want of memory.
 #[tactic(auto, unfolding(crate::specs::Values::corners_of))]
-pub fn corners(alloc: Global, unit: u16, xy: Record<'_>) -> Result<Points, ReadError>
+pub fn corners(storage: Storage<'_>, unit: u16, xy: Record<'_>) -> Result<Points, ReadError>
     requires { unit ≤ 1000 }
     ensures { GivesValue (λ points. points) result (corners_of unit (raw xy.entry)) }
 {
-    let points = drop_closing(all_points(alloc, unit, xy.bytes)?);
+    let points = drop_closing(all_points(storage.alloc, unit, xy.bytes)?);
     if !is_ring(&points) {
         return Err(ReadError::Fault(fault_of(Code::NotManhattan, xy)));
     }
-    Ok(Points::from_vec(points))
+    Ok(storage.points(xy.offset.saturating_add(HEADER), points)?)
 }
 
 /// The centre line of a path.
@@ -136,16 +128,16 @@ pub fn corners(alloc: Global, unit: u16, xy: Record<'_>) -> Result<Points, ReadE
 /// `PointPath` where all points are one, and then `NotManhattan` where a segment is neither horizontal nor vertical; or
 /// want of memory.
 #[tactic(auto, unfolding(crate::specs::Values::centre_of))]
-pub fn centre(alloc: Global, unit: u16, xy: Record<'_>) -> Result<Points, ReadError>
+pub fn centre(storage: Storage<'_>, unit: u16, xy: Record<'_>) -> Result<Points, ReadError>
     requires { unit ≤ 1000 }
     ensures { GivesValue (λ points. points) result (centre_of unit (raw xy.entry)) }
 {
-    let points = merge_repeats(all_points(alloc, unit, xy.bytes)?);
+    let points = merge_repeats(all_points(storage.alloc, unit, xy.bytes)?);
     if points.len() < 2 {
         return Err(ReadError::Fault(fault_of(Code::PointPath, xy)));
     }
     if !is_manhattan(&points) {
         return Err(ReadError::Fault(fault_of(Code::NotManhattan, xy)));
     }
-    Ok(Points::from_vec(points))
+    Ok(storage.points(xy.offset.saturating_add(HEADER), points)?)
 }

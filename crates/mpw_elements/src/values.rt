@@ -11,10 +11,11 @@ ghost use Rattle.mpw_elements.specs.Internal.Values.{IsGrid, IsNear};
 
 use crate::fault::ReadError;
 use crate::reading::fault_of;
-use crate::shape::{point, scale};
+use crate::shape::point;
 use byteorder::{BigEndian, ByteOrder};
 use mpw_geom::{Name, NameFault, Orient, Point};
 use mpw_records::{Code, ReadFault, Real8, Record};
+use mpw_structures::scale;
 use std::alloc::Global;
 
 /// Where an array begins, and its steps, in nm.

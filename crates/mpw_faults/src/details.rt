@@ -1,6 +1,7 @@
 //! Where an element stands.
 ghost use Rattle.std.specs.Prelude.{◌≡◌, ◌≤◌, length, IfOk};
-ghost use Rattle.mpw_elements.specs.Values.{point_at, scaled};
+ghost use Rattle.mpw_structures.specs.Coordinates.{scaled};
+ghost use Rattle.mpw_elements.specs.Values.{point_at};
 ghost use Rattle.mpw_faults.specs.Details.{first_point, pointed, structure_of};
 ghost use Rattle.mpw_records.specs.Records.{front};
 
@@ -29,7 +30,7 @@ pub fn structure_of(alloc: Global, text: &[u8], at: usize) -> Result<Option<Name
 }
 
 /// A four-byte signed number of database units, in nm.
-#[tactic(auto, unfolding(mpw_elements::specs::Values::scaled))]
+#[tactic(auto, unfolding(mpw_structures::specs::Coordinates::scaled))]
 pub(crate) fn scale(unit: u16, bytes: &[u8]) -> i64
     requires unit { unit ≤ 1000 }
     requires bytes { 4 ≤ length bytes.now }

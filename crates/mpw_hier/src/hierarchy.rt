@@ -183,7 +183,7 @@ impl<'a> Hierarchy<'a> {
                 shapes.push(element)?;
                 continue;
             };
-            let link = self.link(&reference.name);
+            let link = self.link(&reference.get().name);
             below.push(link.size)?;
             if link.size.count > 0 {
                 let target = link.target;

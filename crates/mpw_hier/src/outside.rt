@@ -21,7 +21,7 @@ fn places_of(
     let mut places = Vec::new(alloc);
     for element in elements {
         if let Element::Reference(reference) = element {
-            if let Some(place) = library.position(&reference.name) {
+            if let Some(place) = library.position(&reference.get().name) {
                 places.push(place)?;
             }
         }
@@ -49,8 +49,9 @@ fn add_outside(names: &mut Names, library: &Library, elements: &[Element]) -> Re
 {
     for element in elements {
         if let Element::Reference(reference) = element {
-            if library.position(&reference.name).is_none() {
-                names.push(reference.name.copy()?)?;
+            let name = &reference.get().name;
+            if library.position(name).is_none() {
+                names.push(name.copy()?)?;
             }
         }
     }

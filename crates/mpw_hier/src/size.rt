@@ -119,7 +119,7 @@ fn part_size(element: &Element, left: &[Size]) -> Option<Size>
     ensures far { (ts : List Total) → AllZip IsToldBy ts left.now → IfNone result (IsExtentFar (part_total element.now ts).extent) }
 {
     match element {
-        Element::Reference(reference) => array_size(reference, left[0]),
+        Element::Reference(reference) => array_size(reference.get(), left[0]),
         _ => shape_size(element),
     }
 }

@@ -7,17 +7,17 @@ ghost use Rattle.mpw_hier.specs.Boxes.{hull, hull_of_points, has_area, element_b
 ghost use Rattle.mpw_hier.specs.Internal.SizeParts.{wires_box};
 
 use crate::size_box::{has_area, hull};
-use mpw_geom::{Box2, Point};
+use mpw_geom::Box2;
 use mpw_shapes::{Wire, first_wire};
-use mpw_structures::{Element, Path};
+use mpw_structures::{Element, Path, Points, PointsView};
 
 /// The least box that holds the points.
-fn points_box(points: &[Point]) -> Option<Box2>
+fn points_box(points: &Points) -> Option<Box2>
     ensures { result ≡ hull_of_points points.now }
 {
     let mut extent = None;
-    for point in points {
-        extent = hull(extent, Some(Box2::at(*point)));
+    for index in 0..points.len() {
+        extent = hull(extent, Some(Box2::at(points.at(index))));
     }
     extent
 }
@@ -30,7 +30,7 @@ fn if_area(b: Box2) -> Option<Box2>
 }
 
 /// The rectangle of the first of these segments, if it has area. The last one goes to the end of the path.
-fn segment_box(path: &Path, wire: Wire, rest: &[Point]) -> Option<Box2>
+fn segment_box(path: &Path, wire: Wire, rest: &PointsView<'_>) -> Option<Box2>
     requires path { IsPath path.now }
     requires half { IsWithinReach wire.half }
     requires before { IsWithinReach wire.before }
@@ -44,7 +44,7 @@ fn segment_box(path: &Path, wire: Wire, rest: &[Point]) -> Option<Box2>
     } else {
         wire
     };
-    if_area(segment.box_along(rest[0], rest[1]))
+    if_area(segment.box_along(rest.at(0), rest.at(1)))
 }
 
 /// The box of the points of a path, and of its rectangles with area.
@@ -52,13 +52,13 @@ fn path_box(path: &Path) -> Option<Box2>
     requires { IsPath path.now }
     ensures { result ≡ element_box (elements.Path path.now) }
 {
-    let mut rest = path.points.as_slice();
-    let mut extent = points_box(rest);
+    let mut rest = path.points.view();
+    let mut extent = points_box(&path.points);
     let mut wire = first_wire(path);
     while rest.len() >= 2 {
-        extent = hull(extent, segment_box(path, wire, rest));
+        extent = hull(extent, segment_box(path, wire, &rest));
         wire = wire.from_inner();
-        rest = &rest[1..];
+        rest = rest.behind();
     }
     extent
 }
@@ -71,8 +71,8 @@ pub fn element_box(element: &Element) -> Option<Box2>
     ensures { result ≡ element_box element.now }
 {
     match element {
-        Element::Boundary(boundary) => points_box(boundary.points.as_slice()),
-        Element::Path(path) => path_box(path),
+        Element::Boundary(boundary) => points_box(&boundary.points),
+        Element::Path(path) => path_box(path.get()),
         Element::Reference(_) => None,
     }
 }

@@ -11,7 +11,8 @@ use Rattle.mpw_records.specs.Records.{RawRecord, RecordOutcome}
 use Rattle.mpw_records.specs.Real.{real_value}
 use Rattle.mpw_elements.specs.declared.values.Grid.{Grid}
 use Rattle.mpw_elements.specs.Reading.{Reading, ◌>>=◌, is_skipped, field, expected, optional}
-use Rattle.mpw_elements.specs.Values.{origin_of, name_of, mirrored_of, magnification_of, turns, turns_or_fault, turns_of, orient_of, counts_of, grid_or_fault, step_of, point_at, grid_of, no_point}
+use Rattle.mpw_structures.specs.Coordinates.{no_point}
+use Rattle.mpw_elements.specs.Values.{origin_of, name_of, mirrored_of, magnification_of, turns, turns_or_fault, turns_of, orient_of, counts_of, grid_or_fault, step_of, point_at, grid_of}
 use Rattle.mpw_elements.specs.Grammar.{orientation, single, array}
 use Rattle.mpw_library.proofs.Refusals.{Any, IsOfValue, done_local, done_completes, tested_local}
 use Rattle.mpw_library.proofs.Fields.{Ahead, demanding, fielded, fielded_local, fielded_completes}

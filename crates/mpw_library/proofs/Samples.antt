@@ -10,7 +10,8 @@ use Rattle.mpw_records.specs.declared.kind.TheConstants.{LAYER, DATATYPE, XY, EN
 use Rattle.mpw_records.specs.Format.{data_fault}
 use Rattle.mpw_records.specs.Records.{RawRecord}
 use Rattle.mpw_elements.specs.declared.values.Grid.{Grid}
-use Rattle.mpw_elements.specs.Values.{scaled, points_of, is_closing, without_closing, corners_of, centre_of, origin_of, name_of, without_nuls, counts_of, part_of, grid_of}
+use Rattle.mpw_structures.specs.Coordinates.{scaled}
+use Rattle.mpw_elements.specs.Values.{points_of, is_closing, without_closing, corners_of, centre_of, origin_of, name_of, without_nuls, counts_of, part_of, grid_of}
 use Rattle.mpw_library.proofs.Fields.{IsSample}
 
 -- a record of that type and data

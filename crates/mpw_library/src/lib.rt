@@ -9,5 +9,5 @@ mod read;
 mod text;
 
 pub use laws::{libraries_are_derived, unexpected_is_first};
-pub use read::read_library;
+pub use read::{read_library, read_shared};
 pub use text::LibraryText;

@@ -14,8 +14,9 @@ ghost use Rattle.mpw_library.specs.Internal.Library.{IsItem};
 
 use mpw_elements::{ReadError, demand, fault_of, read_element, read_name};
 use mpw_records::{Code, ReadFault, Real8, Record, Records, kind};
-use mpw_structures::{Element, Elements, Library, Structure, Structures};
+use mpw_structures::{Element, Elements, Library, SharedText, Storage, Structure, Structures};
 use std::alloc::Global;
+use std::sync::Arc;
 
 /// What stands next in a structure.
 #[derive(Drop)]
@@ -121,7 +122,7 @@ fn is_between(kind: u8) -> bool
 
 /// What stands next in a structure.
 #[tactic(auto, unfolding(crate::specs::Grammar::item))]
-fn next_item(alloc: Global, records: &mut Records<'_>, unit: u16) -> Result<Item, ReadError>
+fn next_item(storage: Storage<'_>, records: &mut Records<'_>, unit: u16) -> Result<Item, ReadError>
     requires { unit ≤ 1000 }
     ensures item { GivesReading (λ i. i) result records.new (item unit records.old) }
     ensures shape { IfOk result IsItem }
@@ -135,22 +136,26 @@ fn next_item(alloc: Global, records: &mut Records<'_>, unit: u16) -> Result<Item
     if is_between(found.kind) {
         return Ok(Item::Other);
     }
-    match read_element(alloc, records, found, unit)? {
+    match read_element(storage, records, found, unit)? {
         Some(element) => Ok(Item::Placed(element)),
         None => Ok(Item::Other),
     }
 }
 
 /// The elements up to ENDSTR.
-fn read_elements(alloc: Global, records: &mut Records<'_>, unit: u16) -> Result<Elements, ReadError>
+fn read_elements(
+    storage: Storage<'_>,
+    records: &mut Records<'_>,
+    unit: u16,
+) -> Result<Elements, ReadError>
     requires { unit ≤ 1000 }
     ensures elements { GivesReading (λ es. es) result records.new (all_elements unit records.old) }
     ensures shape { IfOk result (All IsElement) }
     ensures rest { length records.new ≤ length records.old }
 {
-    let mut elements = Vec::new(alloc);
+    let mut elements = Vec::new(storage.alloc);
     loop {
-        match next_item(alloc, records, unit)? {
+        match next_item(storage, records, unit)? {
             Item::End => return Ok(Elements::from_vec(elements)),
             Item::Other => {}
             Item::Placed(element) => elements.push(element)?,
@@ -161,7 +166,7 @@ fn read_elements(alloc: Global, records: &mut Records<'_>, unit: u16) -> Result<
 /// STRNAME and the elements up to ENDSTR, behind other structures.
 #[tactic(auto, unfolding(crate::specs::Grammar::structure))]
 fn read_structure(
-    alloc: Global,
+    storage: Storage<'_>,
     records: &mut Records<'_>,
     unit: u16,
     before: &Structures,
@@ -173,18 +178,18 @@ fn read_structure(
     ensures new { IfOk result (λ s. place_of before.now s.name ≡ None) }
 {
     let strname = next_is(records, kind::STRNAME)?;
-    let name = read_name(alloc, strname)?;
+    let name = read_name(storage.alloc, strname)?;
     if before.position(&name).is_some() {
         return Err(ReadError::Fault(fault_of(Code::DoubleName, strname)));
     }
-    let elements = read_elements(alloc, records, unit)?;
+    let elements = read_elements(storage, records, unit)?;
     Ok(Structure { name, elements })
 }
 
 /// BGNSTR and a structure, or none at ENDLIB.
 #[tactic(auto, unfolding(crate::specs::Grammar::next_structure))]
 fn next_structure(
-    alloc: Global,
+    storage: Storage<'_>,
     records: &mut Records<'_>,
     unit: u16,
     before: &Structures,
@@ -200,12 +205,12 @@ fn next_structure(
         return Ok(None);
     }
     demand(found, kind::BGNSTR)?;
-    Ok(Some(read_structure(alloc, records, unit, before)?))
+    Ok(Some(read_structure(storage, records, unit, before)?))
 }
 
 /// The structures up to ENDLIB.
 fn read_structures(
-    alloc: Global,
+    storage: Storage<'_>,
     records: &mut Records<'_>,
     unit: u16,
 ) -> Result<Structures, ReadError>
@@ -213,8 +218,8 @@ fn read_structures(
     ensures structures { GivesReading (λ ss. ss) result records.new (all_structures unit records.old) }
     ensures shape { IfOk result IsLibrary }
 {
-    let mut structures = Structures::new(alloc);
-    while let Some(structure) = next_structure(alloc, records, unit, &structures)? {
+    let mut structures = Structures::new(storage.alloc);
+    while let Some(structure) = next_structure(storage, records, unit, &structures)? {
         structures.push(structure)?;
     }
     Ok(structures)
@@ -222,32 +227,52 @@ fn read_structures(
 
 /// The structures from HEADER to ENDLIB.
 #[tactic(auto, unfolding(crate::specs::Grammar::library))]
-fn read_whole(alloc: Global, bytes: &[u8]) -> Result<Library, ReadError>
-    ensures library { GivesValue (λ library. library) result (library_of bytes.now) }
+fn read_whole(alloc: Global, text: &Arc<Vec<u8>>) -> Result<Library, ReadError>
+    ensures library { GivesValue (λ library. library) result (library_of text.now.value.items) }
     ensures shape { IfOk result IsLibrary }
 {
-    let mut records = Records::new(bytes);
+    let mut records = Records::new(text.as_slice());
     next_is(&mut records, kind::HEADER)?;
     next_is(&mut records, kind::BGNLIB)?;
     let unit = read_head(&mut records)?;
-    let structures = read_structures(alloc, &mut records, unit)?;
+    let shared = SharedText::new(alloc, text, unit)?;
+    let storage = Storage {
+        alloc,
+        text: Some(&shared),
+    };
+    let structures = read_structures(storage, &mut records, unit)?;
     Ok(Library::new(alloc, structures)?)
 }
 
 /// Reads a library from a text of GDSII Stream release 6, with coordinates in nm whatever the
-/// database unit is. What stands behind ENDLIB is no part of it.
+/// database unit is. What stands behind ENDLIB is no part of it. The points of its elements stay in the text, which the library
+/// shares.
 ///
 /// One pass over the text; it takes memory for the structures, their elements and the index of their
-/// names.
+/// names: 32 bytes for a boundary, whatever its points.
 ///
 /// # Errors
 /// The first fault by offset, with the first code in the order of the tests; or want of memory. An
 /// unexpected record is told by the offset of the first record with which no text goes on.
+pub fn read_shared(alloc: Global, text: &Arc<Vec<u8>>) -> Result<Library, ReadError>
+    ensures library { GivesValue (λ library. library) result (library_of text.now.value.items) }
+    ensures derived { IfOk result (IsTextOf text.now.value.items) }
+    ensures unexpected { IfErr result (IsToldFirst text.now.value.items) }
+    ensures shape { IfOk result IsLibrary }
+{
+    read_whole(alloc, text)
+}
+
+/// The same of a text that stays another's: it is copied once.
+///
+/// # Errors
+/// As [`read_shared`].
 pub fn read_library(alloc: Global, bytes: &[u8]) -> Result<Library, ReadError>
     ensures library { GivesValue (λ library. library) result (library_of bytes.now) }
     ensures derived { IfOk result (IsTextOf bytes.now) }
     ensures unexpected { IfErr result (IsToldFirst bytes.now) }
     ensures shape { IfOk result IsLibrary }
 {
-    read_whole(alloc, bytes)
+    let text = Arc::new(alloc, Vec::from_slice(alloc, bytes)?)?;
+    read_shared(alloc, &text)
 }

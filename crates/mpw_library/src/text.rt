@@ -5,7 +5,7 @@ ghost use Rattle.mpw_structures.specs.Library.{IsLibrary};
 ghost use Rattle.mpw_elements.specs.Reading.{GivesValue};
 ghost use Rattle.mpw_library.specs.Grammar.{library_of};
 
-use crate::read::read_library;
+use crate::read::read_shared;
 use mpw_elements::ReadError;
 use mpw_records::ReadFault;
 use mpw_structures::Library;
@@ -47,12 +47,12 @@ impl LibraryText {
     pub fn read(alloc: Global, bytes: Vec<u8>) -> Result<LibraryText, AllocError>
         ensures { IfOk result (λ text. text ≡ bytes.items) }
     {
-        let outcome = match read_library(alloc, &bytes) {
+        let bytes = Arc::new(alloc, bytes)?;
+        let outcome = match read_shared(alloc, &bytes) {
             Ok(library) => Ok(library),
             Err(ReadError::Fault(fault)) => Err(fault),
             Err(ReadError::Memory) => return Err(AllocError),
         };
-        let bytes = Arc::new(alloc, bytes)?;
         Ok(LibraryText {
             bytes,
             outcome: Some(outcome),
@@ -76,7 +76,7 @@ impl LibraryText {
     {
         match &self.outcome {
             Some(outcome) => library_in(outcome),
-            None => read_library(alloc, self.bytes.as_slice()),
+            None => read_shared(alloc, &self.bytes),
         }
     }
 

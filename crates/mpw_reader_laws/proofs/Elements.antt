@@ -14,7 +14,8 @@ use Rattle.mpw_records.specs.declared.kind.TheConstants.{ENDLIB, BOUNDARY, PATH,
 use Rattle.mpw_records.specs.Records.{RawRecord, RecordOutcome}
 use Rattle.mpw_elements.specs.declared.values.Grid.{Grid}
 use Rattle.mpw_elements.specs.Reading.{Reading, ◌>>=◌, fault_at, field, expected, optional}
-use Rattle.mpw_elements.specs.Values.{short_of, corners_of, centre_of, origin_of, path_type_of, width_of, extension_of, lengthening, name_of, mirrored_of, magnification_of, turns_of, orient_of, counts_of, grid_of, no_point}
+use Rattle.mpw_structures.specs.Coordinates.{no_point}
+use Rattle.mpw_elements.specs.Values.{short_of, corners_of, centre_of, origin_of, path_type_of, width_of, extension_of, lengthening, name_of, mirrored_of, magnification_of, turns_of, orient_of, counts_of, grid_of}
 use Rattle.mpw_elements.specs.Grammar.{boundary, path, orientation, single, array, ignored, element}
 use Rattle.mpw_reader_laws.specs.FirstFault.{IsFaultOf}
 use Rattle.mpw_reader_laws.proofs.Progress.{Progress, Progresses, Held, as_progress, cons_progress, done_progress, err_progress, choice_progress, tested_progress, then_progress, demanding, held_demanded, fielded, fielded_progress, expected_progress, opting, held_optional}

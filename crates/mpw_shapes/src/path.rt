@@ -138,7 +138,8 @@ pub(crate) fn path_rectangles(alloc: Global, path: &Path) -> Result<Vec<Box2>, A
 {
     let mut boxes = Vec::new(alloc);
     let mut wire = first_wire(path);
-    let mut rest = path.points.as_slice();
+    let points = path.points.to_vec(alloc)?;
+    let mut rest = points.as_slice();
     while rest.len() > 2 {
         push_box(&mut boxes, wire.box_along(rest[0], rest[1]))?;
         wire = wire.from_inner();

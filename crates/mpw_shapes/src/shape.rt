@@ -27,8 +27,11 @@ pub fn rectangles(alloc: Global, element: &Element) -> Result<Vec<Box2>, AllocEr
     ensures area { IfOk result (λ boxes. All HasArea boxes.items) }
 {
     match element {
-        Element::Boundary(boundary) => boundary_rectangles(alloc, boundary.points.as_slice()),
-        Element::Path(path) => path_rectangles(alloc, path),
+        Element::Boundary(boundary) => {
+            let corners = boundary.points.to_vec(alloc)?;
+            boundary_rectangles(alloc, &corners)
+        }
+        Element::Path(path) => path_rectangles(alloc, path.get()),
         Element::Reference(_) => Ok(Vec::new(alloc)),
     }
 }

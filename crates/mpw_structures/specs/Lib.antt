@@ -1,3 +1,5 @@
 pub mod Element
 pub mod Places
 pub mod Library
+pub mod Coordinates
+pub mod Internal

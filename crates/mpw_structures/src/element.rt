@@ -2,10 +2,11 @@
 
 ghost use Rattle.std.specs.Prelude.{◌≡◌, ◌↔◌, IfOk, IsTrue};
 
+use crate::boxed::Boxed;
 use crate::points::Points;
 use mpw_geom::{Layer, Name, Orient, Point};
 use mpw_lists::Same;
-use std::alloc::AllocError;
+use std::alloc::{AllocError, Global};
 
 /// A polygon by its corners in file order, without the closing point (GDSII Stream, BOUNDARY and
 /// BOX). Other repeats stay. The edge from the last corner to the first is implied.
@@ -89,13 +90,16 @@ pub enum Element {
     /// Of a BOUNDARY or a BOX.
     Boundary(Boundary),
     /// Of a PATH.
-    Path(Path),
+    Path(Boxed<Path>),
     /// Of an SREF or an AREF. It covers nothing by itself.
-    Reference(Reference),
+    Reference(Boxed<Reference>),
 }
 
 impl Boundary {
-    /// The same boundary, in memory of its own. An error is want of memory.
+    /// The same boundary, which shares its points.
+    ///
+    /// # Errors
+    /// Where no more copies can be counted.
     pub fn copy(&self) -> Result<Boundary, AllocError>
         ensures { IfOk result (λ boundary. boundary ≡ self.now) }
     {
@@ -114,7 +118,10 @@ impl Boundary {
 }
 
 impl Path {
-    /// The same path, in memory of its own. An error is want of memory.
+    /// The same path, which shares its points.
+    ///
+    /// # Errors
+    /// Where no more copies can be counted.
     pub fn copy(&self) -> Result<Path, AllocError>
         ensures { IfOk result (λ path. path ≡ self.now) }
     {
@@ -182,14 +189,17 @@ impl Reference {
 }
 
 impl Element {
-    /// The same element, in memory of its own. An error is want of memory.
-    pub fn copy(&self) -> Result<Element, AllocError>
+    /// The same element. An error is want of memory, or comes where no more copies can be counted.
+    pub fn copy(&self, alloc: Global) -> Result<Element, AllocError>
         ensures { IfOk result (λ element. element ≡ self.now) }
     {
         match self {
             Element::Boundary(boundary) => Ok(Element::Boundary(boundary.copy()?)),
-            Element::Path(path) => Ok(Element::Path(path.copy()?)),
-            Element::Reference(reference) => Ok(Element::Reference(reference.copy()?)),
+            Element::Path(path) => Ok(Element::Path(Boxed::new(alloc, path.get().copy()?)?)),
+            Element::Reference(reference) => {
+                let copy = reference.get().copy()?;
+                Ok(Element::Reference(Boxed::new(alloc, copy)?))
+            }
         }
     }
 }
@@ -199,8 +209,8 @@ impl Same for Element {
     fn is_same(&self, other: &Element) -> bool {
         match (self, other) {
             (Element::Boundary(a), Element::Boundary(b)) => a.is_same(b),
-            (Element::Path(a), Element::Path(b)) => a.is_same(b),
-            (Element::Reference(a), Element::Reference(b)) => a.is_same(b),
+            (Element::Path(a), Element::Path(b)) => a.get().is_same(b.get()),
+            (Element::Reference(a), Element::Reference(b)) => a.get().is_same(b.get()),
             _ => false,
         }
     }

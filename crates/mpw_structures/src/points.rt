@@ -1,41 +1,241 @@
 //! The points of an element, which contracts see as a list.
 
-ghost use Rattle.std.specs.Prelude.{◌≡◌, ◌↔◌, IfOk, IsTrue};
+ghost use Rattle.std.specs.Prelude.{◌≡◌, ◌↔◌, ◌+◌, ◌*◌, ◌<◌, ◌≤◌, length, drop, slice_index_or, IfOk, IsTrue};
+ghost use Rattle.mpw_structures.specs.Coordinates.{no_point};
 
-use crate::list::OwnedList;
+use crate::coordinates::{Coordinates, POINT, Text};
 use mpw_geom::Point;
-use std::alloc::AllocError;
+use std::alloc::{AllocError, Global};
+use std::marker::Model;
+use std::sync::Arc;
 
-/// The points of an element in file order, in nm.
-pub type Points = OwnedList<Point>;
+/// The points of an element in file order, in nm. They stay in the text that they were read off, where it has just
+/// them, which takes 16 bytes whatever their number; or they are in memory of their own.
+pub struct Points {
+    source: Arc<Coordinates>,
+    /// Where they begin in a text.
+    at: u32,
+    /// How many are taken of a text.
+    count: u32,
+}
 
-impl OwnedList<Point> {
-    /// The same points, in memory of their own. An error is want of memory.
+impl Drop for Points {
+    fn drop(self) {
+        let Points {
+            source,
+            at: _,
+            count: _,
+        } = self;
+        drop(source);
+    }
+}
+
+impl Model for Points {
+    ghost use Rattle.std.specs.Prelude.{List};
+    ghost use Rattle.mpw_geom.specs.declared.plane.Point.{Point};
+    ghost use Rattle.mpw_structures.specs.Internal.Coordinates.{points_in, Fits};
+
+    ghost Value = { List Point };
+
+    ghost view = { λ a. points_in a.source.value a.at a.count };
+
+    ghost invariant = { λ a. Fits a.source.value a.at a.count };
+}
+
+impl Points {
+    /// The points of a vector. An error is want of memory.
+    pub fn from_vec(alloc: Global, points: Vec<Point>) -> Result<Points, AllocError>
+        ensures { IfOk result (λ found. found ≡ points.items) }
+    {
+        Ok(Points {
+            source: Arc::new(alloc, Coordinates::Own(points))?,
+            at: 0,
+            count: 0,
+        })
+    }
+
+    /// How many there are.
+    pub fn len(&self) -> usize
+        ensures { result ≡ length self.now }
+    {
+        match &*self.source {
+            Coordinates::Shared(_) => self.count as usize,
+            Coordinates::Own(points) => points.len(),
+        }
+    }
+
+    /// The point with an index, in constant time.
+    pub fn at(&self, index: usize) -> Point
+        requires { index < length self.now }
+        ensures { result ≡ slice_index_or self.now index no_point }
+    {
+        match &*self.source {
+            Coordinates::Shared(text) => text.point(self.at as usize + POINT * index),
+            Coordinates::Own(points) => points[index],
+        }
+    }
+
+    /// All of them, as a view.
+    pub fn view(&self) -> PointsView<'_>
+        ensures { result ≡ self.now }
+    {
+        PointsView {
+            points: self,
+            from: 0,
+            count: self.len(),
+        }
+    }
+
+    /// The points in a vector. An error is want of memory.
+    pub fn to_vec(&self, alloc: Global) -> Result<Vec<Point>, AllocError>
+        ensures { IfOk result (λ points. points.items ≡ self.now) }
+    {
+        let count = self.len();
+        let mut points = Vec::with_capacity(alloc, count)?;
+        for index in 0..count {
+            points.push(self.at(index))?;
+        }
+        Ok(points)
+    }
+
+    /// The same points, in constant time and without further memory.
+    ///
+    /// # Errors
+    /// Where no more copies can be counted.
     pub fn copy(&self) -> Result<Points, AllocError>
         ensures { IfOk result (λ points. points ≡ self.now) }
     {
-        Ok(Points::from_vec(self.items.clone()?))
+        Ok(Points {
+            source: self.source.clone()?,
+            at: self.at,
+            count: self.count,
+        })
     }
 
     /// Whether the lists have the same points, in order. It stops at the first difference, and takes no memory.
     pub fn is_same(&self, other: &Points) -> bool
         ensures { IsTrue result ↔ (self.now ≡ other.now) }
     {
-        are_same(self.as_slice(), other.as_slice())
+        if self.len() != other.len() {
+            return false;
+        }
+        for index in 0..self.len() {
+            if self.at(index) != other.at(index) {
+                return false;
+            }
+        }
+        true
     }
 }
 
-/// Whether the points are the same, in order.
-fn are_same(first: &[Point], second: &[Point]) -> bool
-    ensures { IsTrue result ↔ (first.now ≡ second.now) }
-{
-    if first.len() != second.len() {
-        return false;
+/// The points of an element from one on, which contracts see as the list of these.
+#[derive(Drop)]
+pub struct PointsView<'a> {
+    points: &'a Points,
+    /// How many stand before these.
+    from: usize,
+    /// How many points the element has.
+    count: usize,
+}
+
+impl<'a> Model for PointsView<'a> {
+    ghost use Rattle.std.specs.Prelude.{List, drop};
+    ghost use Rattle.mpw_structures.specs.Internal.Coordinates.{IsFrom};
+    ghost use Rattle.mpw_geom.specs.declared.plane.Point.{Point};
+
+    ghost Value = { List Point };
+
+    ghost view = { λ a. drop a.from a.points.now };
+
+    ghost invariant = { λ a. IsFrom a.from a.count a.points.now };
+}
+
+impl<'a> PointsView<'a> {
+    /// How many there are.
+    pub fn len(&self) -> usize
+        ensures { result ≡ length self.now }
+    {
+        self.count - self.from
     }
-    for i in 0..first.len() {
-        if first[i] != second[i] {
-            return false;
+
+    /// The point with an index, in constant time.
+    pub fn at(&self, index: usize) -> Point
+        requires { index < length self.now }
+        ensures { result ≡ slice_index_or self.now index no_point }
+    {
+        self.points.at(self.from + index)
+    }
+
+    /// Those behind the first.
+    pub fn behind(self) -> PointsView<'a>
+        requires { 1 ≤ length self }
+        ensures { result ≡ drop 1 self.entry }
+    {
+        PointsView {
+            points: self.points,
+            from: self.from + 1,
+            count: self.count,
         }
     }
-    true
+}
+
+/// A text of GDSII Stream, in which the points of elements may stay. Contracts see its bytes. Copies share them.
+pub struct SharedText {
+    source: Arc<Coordinates>,
+}
+
+impl Drop for SharedText {
+    fn drop(self) {
+        let SharedText { source } = self;
+        drop(source);
+    }
+}
+
+impl Model for SharedText {
+    ghost use Rattle.std.specs.Prelude.{ℕ, List};
+    ghost use Rattle.mpw_structures.specs.Internal.Coordinates.{bytes_in, HasUnit};
+
+    ghost Value = { List ℕ };
+
+    ghost view = { λ a. bytes_in a.source.value };
+
+    ghost invariant = { λ a. HasUnit a.source.value };
+}
+
+impl SharedText {
+    /// A text whose database unit is so many nm.
+    ///
+    /// # Errors
+    /// Want of memory, or where no more copies can be counted.
+    pub fn new(alloc: Global, bytes: &Arc<Vec<u8>>, unit: u16) -> Result<SharedText, AllocError>
+        requires { unit ≤ 1000 }
+        ensures { IfOk result (λ text. text ≡ bytes.now.value.items) }
+    {
+        let bytes = bytes.clone()?;
+        Ok(SharedText {
+            source: Arc::new(alloc, Coordinates::Shared(Text { bytes, unit }))?,
+        })
+    }
+
+    /// These points, which stay in the text where it has just them from a byte on; else in memory of their own. Linear
+    /// in the points.
+    ///
+    /// # Errors
+    /// Want of memory, or where no more copies can be counted.
+    pub fn points(&self, alloc: Global, at: usize, points: Vec<Point>) -> Result<Points, AllocError>
+        ensures { IfOk result (λ found. found ≡ points.items) }
+    {
+        let place = match &*self.source {
+            Coordinates::Shared(text) => text.place(at, &points),
+            Coordinates::Own(_) => None,
+        };
+        match place {
+            Some(place) => Ok(Points {
+                source: self.source.clone()?,
+                at: place.at,
+                count: place.count,
+            }),
+            None => Points::from_vec(alloc, points),
+        }
+    }
 }

@@ -11,7 +11,8 @@ use Rattle.mpw_records.specs.Records.{RawRecord, RecordOutcome}
 use Rattle.mpw_elements.specs.declared.path.Breadth.{Breadth}
 use Rattle.mpw_elements.specs.Reading.{Reading, ◌>>=◌, fault_at, field, demanded, expected, optional}
 use Rattle.mpw_elements.specs.Grammar.{orientation, ignored}
-use Rattle.mpw_elements.specs.Values.{short_of, corners_of, centre_of, origin_of, path_type_of, width_of, extension_of, lengthening, name_of, counts_of, grid_of, no_point}
+use Rattle.mpw_structures.specs.Coordinates.{no_point}
+use Rattle.mpw_elements.specs.Values.{short_of, corners_of, centre_of, origin_of, path_type_of, width_of, extension_of, lengthening, name_of, counts_of, grid_of}
 
 -- A value that a record tells, and the next record.
 abbrev pub and_field : {V : Type 0} → ℕ → Result V ReadFault → List RecordOutcome

@@ -1,4 +1,5 @@
-use Rattle.mpw_structures.specs.Element.{IsWithinReach}
+use Rattle.std.proofs.Common.{subst, sym}
+use Rattle.mpw_structures.specs.Element.{IsWithinReach, IsPath}
 use Rattle.mpw_records.specs.Records.{raw}
 use Rattle.mpw_elements.specs.Internal.Element.{IsWidth, IsBreadth}
 use Rattle.mpw_elements.proofs.Shapes.{centre_line, kept}
@@ -11,7 +12,7 @@ end_element-requires c =
     let width = kept IsWidth told.width breadth.width.within_reach breadth.width in
     let line = centre_line c.args.unit (raw c.in_ok-demand.field-0) c.in_ok-points.points c.requires
     c.in_ok-points.ensures in
-    record {
+    subst IsPath (sym c.in_ok-path.ensures) (record {
       half = width.half;
       width = width.value;
       width_within_reach = width.within_reach;
@@ -20,4 +21,4 @@ end_element-requires c =
       points = line.points;
       segments = line.segments;
       points_within_reach = line.within_reach;
-    }
+    })

@@ -1,6 +1,6 @@
 use Rattle.std.proofs.Common.{◌-◌, drop, sym, ◌∙◌, arith, length-drop}
 use Rattle.mpw_structures.specs.Element.{is_manhattan_step}
-use Rattle.mpw_elements.specs.Values.{no_point}
+use Rattle.mpw_structures.specs.Coordinates.{no_point}
 use Rattle.mpw_elements.proofs.Steps.{short_true}
 use Rattle.mpw_elements.proofs.shape.is_manhattan.Goals as goal
 

@@ -1,6 +1,6 @@
 use Rattle.std.proofs.Common.{◌-◌, length, refl, sym}
 use Rattle.mpw_structures.specs.Element.{is_manhattan_step}
-use Rattle.mpw_elements.specs.Values.{no_point}
+use Rattle.mpw_structures.specs.Coordinates.{no_point}
 use Rattle.mpw_elements.proofs.Steps.{closed_steps, not_empty}
 use Rattle.mpw_elements.proofs.shape.is_ring.Goals as goal
 

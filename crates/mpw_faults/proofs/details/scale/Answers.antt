@@ -2,7 +2,7 @@ use Rattle.std.proofs.Common.{◌^◌, pos, ◌*ℤ◌, refl, arith, rules}
 use mir.Syntax.{w32, w64}
 use mir.Val.{SFits}
 use Rattle.std.proofs.lemmas.Int.{ints, to_z-of_z, fits_signed_mul}
-use Rattle.mpw_elements.specs.Values.{scaled}
+use Rattle.mpw_structures.specs.Coordinates.{scaled}
 use Rattle.mpw_faults.proofs.details.scale.Goals as goal
 
 pub returns : goal.returns

@@ -1,5 +1,6 @@
 use Rattle.std.proofs.Common.{◌≡◌, [], ◌∷◌, ◌++◌, ap, sym, ◌∙◌, append-nil}
 use Rattle.std.proofs.lemmas.List.{at_drop_all}
+use Rattle.mpw_structures.specs.declared.element.Element.TheVariants as elements
 use Rattle.mpw_hier.specs.Structures.{referenced_names}
 use Rattle.mpw_hier.specs.Outside.{names_outside}
 use Rattle.mpw_hier.proofs.References.{own_outside, none_outside, known_name, unknown_name, none_if, some_if, outside_on}
@@ -15,14 +16,16 @@ loop-element-preserved c =
       | in-Reference+then-is_none+in_ok-copy+in_ok-push w ↦
           let none =
           none_if w.position.result w.is_none.result w.is_none.ensures w.if-is_none.true in
-          rw (unknown_name ss e w.in-Reference.reference w.in-Reference.is
+          rw (unknown_name ss e w.get.result.now
+          (w.in-Reference.is ∙ ap elements.Reference (sym w.get.ensures))
           (sym w.position.ensures ∙ none)) (w.names-is ∙ w.in_ok-push.ensures.ok
           ∙ ap (λ name. old ++ name ∷ []) w.in_ok-copy.ensures)
       | in-Reference+else-is_none w ↦
           let some =
           some_if w.position.result w.is_none.result w.is_none.ensures w.if-is_none.false in
           rw (
-            known_name ss e w.in-Reference.reference some.0 w.in-Reference.is
+            known_name ss e w.get.result.now some.0
+                (w.in-Reference.is ∙ ap elements.Reference (sym w.get.ensures))
                 (sym w.position.ensures ∙ some.1),
             append-nil,
           ) w.names-is

@@ -1,5 +1,6 @@
 use Rattle.std.proofs.Common.{◌≡◌, ℕ, Vec, Global, ◌++◌, ap, sym, ◌∙◌, append-nil}
 use Rattle.std.proofs.lemmas.List.{at_drop_all}
+use Rattle.mpw_structures.specs.declared.element.Element.TheVariants as elements
 use Rattle.mpw_hier.specs.Structures.{referenced_names}
 use Rattle.mpw_hier.specs.Outside.{places_of}
 use Rattle.mpw_hier.proofs.References.{own_places, no_places, known_place, unknown_place, places_on}
@@ -14,12 +15,14 @@ loop-element-preserved c =
     let items = λ (v : Vec ℕ Global). v.items in
     let added : c.match-element.places.items ≡ old ++ own_places ss e = elim c.match-element.branch [
       | in-Reference+in-Some+in_ok-push w ↦
-          rw (known_place ss e w.in-Reference.reference w.in-Some.place w.in-Reference.is
+          rw (known_place ss e w.get.result.now w.in-Some.place
+          (w.in-Reference.is ∙ ap elements.Reference (sym w.get.ensures))
           (sym w.position.ensures ∙ w.in-Some.is))
           (ap items w.places-is ∙ w.in_ok-push.ensures.items)
       | in-Reference+in_default-position w ↦
           rw (
-            unknown_place ss e w.in-Reference.reference w.in-Reference.is
+            unknown_place ss e w.get.result.now
+                (w.in-Reference.is ∙ ap elements.Reference (sym w.get.ensures))
                 (sym w.position.ensures ∙ w.in_default-position.is),
             append-nil,
           )

@@ -1,12 +1,13 @@
-use Rattle.std.proofs.Common.{◌≡◌, ◌-◌, length, take, drop, arith}
-use Rattle.std.proofs.lemmas.List.{take_all, length-drop}
+use Rattle.std.proofs.Common.{◌≡◌, ◌≤◌, ◌∙◌, length, sym, ap, arith}
+use Rattle.mpw_hier.specs.Boxes.{hull_of_points}
 use Rattle.mpw_hier.proofs.ElementBoxes.{boxed_none, boxed_more, boxed_all, boxed_reach}
 use Rattle.mpw_hier.proofs.size_shape.path_box.Goals as goal
 
 pub loop-rest-init : goal.loop-rest-init
 loop-rest-init c =
     boxed_none c.args.path.now c.first_wire-wire.result _ _ c.requires c.first_wire-wire.ensures
-    c.as_slice-rest.ensures c.points_box-extent.ensures
+    c.view-rest.ensures
+    (c.points_box-extent.ensures ∙ ap hull_of_points (sym c.view-rest.ensures))
 
 pub segment_box-requires-clause-half : goal.segment_box-requires-clause-half
 segment_box-requires-clause-half c =
@@ -14,13 +15,12 @@ segment_box-requires-clause-half c =
 
 pub loop-rest-preserved : goal.loop-rest-preserved
 loop-rest-preserved c =
-    let rest = c.loop-rest.rest.now in
-    let whole : take (length rest - 1) (drop 1 rest) ≡ drop 1 rest =
-    take_all (length rest - 1) (drop 1 rest) (omega (arith, length-drop 1 rest)) in
+    let rest = c.loop-rest.rest in
+    let least : 2 ≤ length rest = omega (arith, c.loop-rest-test.true, c.len.ensures) in
     boxed_more c.args.path.now c.loop-rest.wire c.from_inner-wire.result rest _ _ _ _ c.requires
-    c.loop-rest.invariant c.loop-rest-test.true whole c.segment_box.ensures
+    c.loop-rest.invariant least c.behind-rest.ensures c.segment_box.ensures
     c.hull-extent.ensures c.from_inner-wire.ensures
 
 pub returns : goal.returns
 returns c = boxed_all c.args.path.now c.loop-rest.wire _ _ c.loop-rest.invariant
-    (omega (arith, c.loop-rest-test.false))
+    (omega (arith, c.loop-rest-test.false, c.len.ensures))

@@ -3,6 +3,6 @@ use Rattle.mpw_hier.specs.Boxes.{hull, hull_of_points}
 use Rattle.mpw_hier.proofs.size_shape.points_box.Given as goal
 
 -- the points so far, and those to come
-abbrev pub invariant-loop-point : goal.invariant-loop-point
-invariant-loop-point l =
-    hull l.extent (hull_of_points (drop l.point-index l.points)) ≡ hull_of_points l.points
+abbrev pub invariant-loop-index : goal.invariant-loop-index
+invariant-loop-index l =
+    hull l.extent (hull_of_points (drop l.index l.points)) ≡ hull_of_points l.points

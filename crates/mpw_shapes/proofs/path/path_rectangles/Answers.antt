@@ -1,4 +1,4 @@
-use Rattle.std.proofs.Common.{◌≡◌, length, drop, take, ◌-◌, arith}
+use Rattle.std.proofs.Common.{◌≡◌, ◌∙◌, length, drop, take, ◌-◌, arith}
 use Rattle.std.proofs.lemmas.List.{take_all, length-drop}
 use Rattle.mpw_shapes.proofs.Laid.{laid_none, laid_more, laid_last, laid_all}
 use Rattle.mpw_shapes.proofs.path.path_rectangles.Goals as goal
@@ -6,7 +6,7 @@ use Rattle.mpw_shapes.proofs.path.path_rectangles.Goals.{then-rest-eq2+in_ok-pus
 
 pub loop-rest-init : goal.loop-rest-init
 loop-rest-init c =
-    rw (c.as_slice-rest.ensures, c.new-boxes.ensures.items)
+    rw (c.as_slice-rest.ensures.value ∙ c.in_ok-points.ensures, c.new-boxes.ensures.items)
     (laid_none c.args.path.now _ c.requires c.first_wire-wire.ensures)
 
 pub loop-rest-preserved : goal.loop-rest-preserved

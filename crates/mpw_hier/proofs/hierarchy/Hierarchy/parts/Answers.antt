@@ -1,5 +1,6 @@
 use Rattle.std.proofs.Common.{◌≡◌, ◌++◌, [], drop, sym, ap, subst, ◌∙◌, append-nil}
 use Rattle.std.proofs.lemmas.List.{at_drop_all}
+use Rattle.mpw_structures.specs.declared.element.Element.TheVariants as elements
 use Rattle.mpw_hier.specs.Nodes.{IsTarget, AreChildren, none, shape_places}
 use Rattle.mpw_hier.specs.Internal.Building.{IsSizeHere}
 use Rattle.mpw_hier.specs.Values.{structure_items, flats}
@@ -30,10 +31,10 @@ loop-element-preserved-in_default c =
 
 pub link-link-requires-clause-known : goal.link-link-requires-clause-known
 link-link-requires-clause-known c =
-    let r = c.in-Reference.reference in
+    let r = c.get.result.now in
     c.requires.known r.name (named_among c.args.elements.now c.loop-element.element
     c.index-elements-element.result r c.loop-element-test.true c.index-elements-element.is
-    c.in-Reference.is)
+    (c.in-Reference.is ∙ ap elements.Reference (sym c.get.ensures)))
 
 pub loop-element-preserved : goal.loop-element-preserved
 loop-element-preserved c =
@@ -42,8 +43,8 @@ loop-element-preserved c =
     let e = c.index-elements-element.result in
     let h = c.loop-element-test.true in
     let is = c.index-elements-element.is in
-    let r = c.in-Reference.reference in
-    let at = c.in-Reference.is in
+    let r = c.get.result.now in
+    let at = c.in-Reference.is ∙ ap elements.Reference (sym c.get.ensures) in
     let inv = c.loop-element.invariant in
     let ss = c.args.self.now.shelf.now in
     let s = c.args.self.now.submission.now in

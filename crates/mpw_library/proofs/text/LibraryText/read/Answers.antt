@@ -32,13 +32,10 @@ read_fault text o fault gives is = record {
 
 pub invariant_of-result : goal.invariant_of-result
 invariant_of-result c =
-    let text : c.deref.result.now ≡ c.in_ok-bytes.bytes.value.items = c.deref.ensures.value
-    ∙ sym (ap (λ v. v.items) c.in_ok-bytes.ensures.ok) in
-    subst (λ (xs : List ℕ). IsRead xs c.match-read_library.outcome) text
-    (elim c.match-read_library.branch [
-      | in-Ok w ↦ rw w.outcome-is (read_ok c.deref.result.now c.read_library.result _
-          c.read_library.ensures.library c.read_library.ensures.shape w.in-Ok.is)
+    elim c.match-read_shared.branch [
+      | in-Ok w ↦ rw w.outcome-is (read_ok _ c.read_shared.result _
+          c.read_shared.ensures.library c.read_shared.ensures.shape w.in-Ok.is)
       | in-Err-Fault w ↦ rw w.outcome-is
-          (read_fault c.deref.result.now c.read_library.result _ c.read_library.ensures.library
+          (read_fault _ c.read_shared.result _ c.read_shared.ensures.library
           (w.in-Err-Fault.is ∙ ap (λ e. Err e) w.in-Err-Fault.field-0-is))
-    ])
+    ]

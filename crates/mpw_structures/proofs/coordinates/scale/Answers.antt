@@ -2,9 +2,9 @@ use Rattle.std.proofs.Common.{◌^◌, pos, ◌*ℤ◌, refl, arith, rules}
 use mir.Syntax.{w32, w64}
 use mir.Val.{SFits}
 use Rattle.std.proofs.lemmas.Int.{ints, to_z-of_z, fits_signed_mul}
-use Rattle.mpw_elements.specs.Values.{scaled}
-use Rattle.mpw_elements.proofs.Numbers.{scaled_bound}
-use Rattle.mpw_elements.proofs.shape.scale.Goals as goal
+use Rattle.mpw_structures.specs.Coordinates.{scaled}
+use Rattle.mpw_structures.proofs.TextPoints.{scaled_bound}
+use Rattle.mpw_structures.proofs.coordinates.scale.Goals as goal
 
 pub returns-clause-value : goal.returns-clause-value
 unfolding scaled
