@@ -10,7 +10,7 @@ use mpw_structures::{Boundary, Element, Library, Path, Reference, Structure};
 fn add_boundary(sum: &mut Sum, found: &Boundary) {
     sum.add(1);
     sum.add_layer(found.layer);
-    sum.add_points(found.points.as_slice());
+    sum.add_points(&found.points);
 }
 
 fn add_path(sum: &mut Sum, found: &Path) {
@@ -19,7 +19,7 @@ fn add_path(sum: &mut Sum, found: &Path) {
     for number in [found.width, found.begin, found.end] {
         sum.add_signed(number);
     }
-    sum.add_points(found.points.as_slice());
+    sum.add_points(&found.points);
 }
 
 fn add_reference(sum: &mut Sum, found: &Reference) {
@@ -36,8 +36,8 @@ fn add_reference(sum: &mut Sum, found: &Reference) {
 fn add_element(sum: &mut Sum, found: &Element) {
     match found {
         Element::Boundary(found) => add_boundary(sum, found),
-        Element::Path(found) => add_path(sum, found),
-        Element::Reference(found) => add_reference(sum, found),
+        Element::Path(found) => add_path(sum, found.get()),
+        Element::Reference(found) => add_reference(sum, found.get()),
     }
 }
 

@@ -1,6 +1,7 @@
 //! One number of many, which another order or another number changes.
 
 use mpw_geom::{Layer, Name, Point};
+use mpw_structures::Points;
 
 /// The sum so far: each number is added to 1,000,003 times what stood before it, modulo 2^64.
 #[derive(Clone, Copy)]
@@ -50,10 +51,10 @@ impl Sum {
     }
 
     /// The number of points, and each of them.
-    pub fn add_points(&mut self, points: &[Point]) {
+    pub fn add_points(&mut self, points: &Points) {
         self.add_count(points.len());
-        for point in points {
-            self.add_point(*point);
+        for index in 0..points.len() {
+            self.add_point(points.at(index));
         }
     }
 

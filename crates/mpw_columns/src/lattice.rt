@@ -68,6 +68,7 @@ fn placed_by<'a>(
     let Some(Element::Reference(reference)) = elements.get(element) else {
         return None;
     };
+    let reference = reference.get();
     if reference.orient != Orient::R0 {
         return None;
     }

@@ -62,7 +62,7 @@ impl<'a> Layout<'a> {
         ensures read { IfSome result (λ r. IsReference r.now) }
     {
         match self.element(structure, place)? {
-            Element::Reference(reference) => Some(reference),
+            Element::Reference(reference) => Some(reference.get()),
             Element::Boundary(_) | Element::Path(_) => None,
         }
     }

@@ -4,10 +4,10 @@ ghost use Rattle.mpw_elements.specs.Values.{point_at};
 ghost use Rattle.mpw_faults.specs.Areas.{box_of, boxed, holding, own_area};
 ghost use Rattle.mpw_records.specs.Records.{front};
 
-use crate::details::scale;
 use mpw_geom::{Box2, Point};
 use mpw_records::kind::XY;
 use mpw_skipping::record_at;
+use mpw_structures::scale;
 
 /// The point with that place in XY's data.
 fn point_of(unit: u16, bytes: &[u8], place: usize) -> Point

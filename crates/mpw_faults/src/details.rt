@@ -1,15 +1,14 @@
 //! Where an element stands.
 ghost use Rattle.std.specs.Prelude.{◌≡◌, ◌≤◌, length, IfOk};
-ghost use Rattle.mpw_structures.specs.Coordinates.{scaled};
 ghost use Rattle.mpw_elements.specs.Values.{point_at};
 ghost use Rattle.mpw_faults.specs.Details.{first_point, pointed, structure_of};
 ghost use Rattle.mpw_records.specs.Records.{front};
 
-use byteorder::{BigEndian, ByteOrder};
 use mpw_elements::{ReadError, read_name};
 use mpw_geom::{Name, Point};
 use mpw_records::kind::XY;
 use mpw_skipping::record_at;
+use mpw_structures::scale;
 use std::alloc::{AllocError, Global};
 
 /// The structure whose STRNAME stands at a place of a text, where its name is one. Constant time but for the name.
@@ -27,16 +26,6 @@ pub fn structure_of(alloc: Global, text: &[u8], at: usize) -> Result<Option<Name
         Err(ReadError::Fault(_)) => Ok(None),
         Err(ReadError::Memory) => Err(AllocError),
     }
-}
-
-/// A four-byte signed number of database units, in nm.
-#[tactic(auto, unfolding(mpw_structures::specs::Coordinates::scaled))]
-pub(crate) fn scale(unit: u16, bytes: &[u8]) -> i64
-    requires unit { unit ≤ 1000 }
-    requires bytes { 4 ≤ length bytes.now }
-    ensures { result ≡ scaled unit bytes.now }
-{
-    i64::from(BigEndian::read_i32(bytes)) * i64::from(unit)
 }
 
 /// The first of points.

@@ -14,7 +14,7 @@ use mpw_geom::{Box2, Placing, Point};
 use mpw_records::Records;
 use mpw_records::kind::{AREF, ENDEL, SNAME, SREF};
 use mpw_skipping::{ElementSpan, record_at};
-use mpw_structures::{Element, Reference};
+use mpw_structures::{Element, Reference, Storage};
 use std::alloc::{AllocError, Global};
 
 /// How many levels of references are gone up.
@@ -132,7 +132,7 @@ fn placing_by(element: &Option<Element>) -> Option<Placing>
     ensures { result ≡ placing_by element.now }
 {
     match element {
-        Some(Element::Reference(reference)) => single(reference),
+        Some(Element::Reference(reference)) => single(reference.get()),
         Some(Element::Boundary(_)) => None,
         Some(Element::Path(_)) => None,
         None => None,
@@ -153,7 +153,12 @@ fn placing_in(
     match records.next() {
         None => Ok(None),
         Some(Err(_)) => Ok(None),
-        Some(Ok(first)) => match read_element(alloc, &mut records, first, unit) {
+        Some(Ok(first)) => match read_element(
+            Storage { alloc, text: None },
+            &mut records,
+            first,
+            unit,
+        ) {
             Ok(element) => Ok(placing_by(&element)),
             Err(ReadError::Fault(_)) => Ok(None),
             Err(ReadError::Memory) => Err(AllocError),

@@ -5,6 +5,7 @@ ghost use Rattle.mpw_records.specs.Records.{outcomes_of};
 
 use mpw_elements::{ReadError, read_element};
 use mpw_records::{ReadFault, Records};
+use mpw_structures::Storage;
 use std::alloc::{AllocError, Global};
 
 /// A fault in the text from a place on, with its place in the whole, up to 2^64 - 1.
@@ -26,7 +27,12 @@ fn fault_in(alloc: Global, text: &[u8], unit: u16) -> Result<Option<ReadFault>, 
     match records.next() {
         None => Ok(None),
         Some(Err(fault)) => Ok(Some(fault)),
-        Some(Ok(first)) => match read_element(alloc, &mut records, first, unit) {
+        Some(Ok(first)) => match read_element(
+            Storage { alloc, text: None },
+            &mut records,
+            first,
+            unit,
+        ) {
             Ok(_) => Ok(None),
             Err(ReadError::Fault(fault)) => Ok(Some(fault)),
             Err(ReadError::Memory) => Err(AllocError),

@@ -167,6 +167,7 @@ fn flatten<'a>(
             })?;
             continue;
         };
+        let reference = reference.get();
         for instance in &instances(alloc, reference)? {
             let inner = with(alloc, placings, *instance)?;
             flatten(list, shelf, number, &reference.name, &inner, depth - 1)?;
@@ -190,18 +191,20 @@ pub fn flat_list<'a>(alloc: Global, shelf: &'a Shelf, roots: &[Root]) -> Result<
 }
 
 /// Whether a step goes up across the square's row, at the square or left of it.
-fn rises(from: &Point, to: &Point, cell: Cell) -> bool {
+fn rises(from: Point, to: Point, cell: Cell) -> bool {
     from.x <= cell.x && from.y <= cell.y && cell.y < to.y
 }
 
 fn boundary_has(boundary: &Boundary, cell: Cell) -> bool {
-    let points = boundary.points.as_slice();
-    let Some(last) = points.last() else {
+    let points = &boundary.points;
+    let count = points.len();
+    if count == 0 {
         return false;
-    };
-    let mut from = last;
+    }
+    let mut from = points.at(count - 1);
     let mut winding = 0i64;
-    for to in points {
+    for index in 0..count {
+        let to = points.at(index);
         winding = winding.wrapping_add(i64::from(rises(from, to, cell)));
         winding = winding.wrapping_sub(i64::from(rises(to, from, cell)));
         from = to;
@@ -219,14 +222,12 @@ fn is_along(from: i64, to: i64, before: i64, behind: i64, z: i64) -> bool {
 }
 
 fn path_has(path: &Path, cell: Cell) -> bool {
-    let points = path.points.as_slice();
+    let points = &path.points;
     let half = path.width / 2;
-    for (k, pair) in points.windows(2).enumerate() {
-        let [from, to] = pair else {
-            return false;
-        };
-        let before = if k == 0 { path.begin } else { half };
-        let behind = if k.wrapping_add(2) == points.len() {
+    for index in 1..points.len() {
+        let (from, to) = (points.at(index - 1), points.at(index));
+        let before = if index == 1 { path.begin } else { half };
+        let behind = if index.wrapping_add(1) == points.len() {
             path.end
         } else {
             half
@@ -253,7 +254,7 @@ fn path_has(path: &Path, cell: Cell) -> bool {
 pub fn has(element: &Element, cell: Cell) -> bool {
     match element {
         Element::Boundary(boundary) => boundary_has(boundary, cell),
-        Element::Path(path) => path_has(path, cell),
+        Element::Path(path) => path_has(path.get(), cell),
         Element::Reference(_) => false,
     }
 }
@@ -262,7 +263,7 @@ pub fn has(element: &Element, cell: Cell) -> bool {
 pub fn layer(element: &Element) -> Option<Layer> {
     match element {
         Element::Boundary(boundary) => Some(boundary.layer),
-        Element::Path(path) => Some(path.layer),
+        Element::Path(path) => Some(path.get().layer),
         Element::Reference(_) => None,
     }
 }

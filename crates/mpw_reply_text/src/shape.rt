@@ -14,7 +14,7 @@ use crate::write::write_parts;
 use itoa::Buffer;
 use mpw_geom::{Layer, Name, Placing, Point};
 use mpw_replies::{ShapeListing, ShapeView};
-use mpw_structures::{Boundary, Element, Path};
+use mpw_structures::{Boundary, Element, Path, Points};
 use mpw_wire::{Sink, WireFault};
 
 /// Writes a point, behind a space.
@@ -28,24 +28,20 @@ fn write_point<W: Sink>(writer: &mut W, point: Point) -> Result<(), WireFault>
 
 /// Writes points where a placing takes them.
 #[tactic(auto, unfolding(crate::specs::Reply::points_text))]
-fn write_points<W: Sink>(
-    writer: &mut W,
-    placing: Placing,
-    points: &[Point],
-) -> Result<(), WireFault>
+fn write_points<W: Sink>(writer: &mut W, placing: Placing, points: &Points) -> Result<(), WireFault>
     requires points { All IsPointWithinReach points.now }
     requires displacement { IsInPlane placing.by }
     ensures { Writes W.contents W.failures writer.old writer.new result (points_text placing points.now) }
 {
-    for point in points {
-        write_point(writer, placing.apply(*point))?;
+    for index in 0..points.len() {
+        write_point(writer, placing.apply(points.at(index)))?;
     }
     Ok(())
 }
 
 /// Writes the points of a shape, and the end of its line.
 #[tactic(auto, unfolding(crate::specs::Reply::shape_end))]
-fn write_end<W: Sink>(writer: &mut W, placing: Placing, points: &[Point]) -> Result<(), WireFault>
+fn write_end<W: Sink>(writer: &mut W, placing: Placing, points: &Points) -> Result<(), WireFault>
     requires points { All IsPointWithinReach points.now }
     requires displacement { IsInPlane placing.by }
     ensures { Writes W.contents W.failures writer.old writer.new result (shape_end placing points.now) }
@@ -119,7 +115,7 @@ fn write_boundary<W: Sink>(
     ensures { Writes W.contents W.failures writer.old writer.new result (shape_text shape.now.cell.now shape.now.version shape.now.placing (ElementTold.Boundary boundary.now)) }
 {
     write_boundary_head(writer, shape.cell, shape.version, boundary.layer)?;
-    write_end(writer, shape.placing, boundary.points.as_slice())
+    write_end(writer, shape.placing, &boundary.points)
 }
 
 /// Writes the line of a path.
@@ -130,7 +126,7 @@ fn write_path<W: Sink>(writer: &mut W, shape: &ShapeView<'_>, path: &Path) -> Re
     ensures { Writes W.contents W.failures writer.old writer.new result (shape_text shape.now.cell.now shape.now.version shape.now.placing (ElementTold.Path path.now)) }
 {
     write_path_head(writer, shape.cell, shape.version, path)?;
-    write_end(writer, shape.placing, path.points.as_slice())
+    write_end(writer, shape.placing, &path.points)
 }
 
 /// Writes the line of a shape.
@@ -141,7 +137,7 @@ fn write_shape<W: Sink>(writer: &mut W, shape: &ShapeView<'_>) -> Result<(), Wir
 {
     match shape.element {
         Element::Boundary(boundary) => write_boundary(writer, shape, boundary),
-        Element::Path(path) => write_path(writer, shape, path),
+        Element::Path(path) => write_path(writer, shape, path.get()),
         Element::Reference(_) => Ok(()),
     }
 }

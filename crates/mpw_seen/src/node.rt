@@ -35,6 +35,7 @@ fn child_number(elements: &[Element], own: &[u64], outer: &[u64], child: Child) 
     let number = target_number(own, outer, child.target);
     match elements.get(child.element) {
         Some(Element::Reference(reference)) => {
+            let reference = reference.get();
             let instances = u64::from(reference.columns) * u64::from(reference.rows);
             instances.saturating_mul(number)
         }

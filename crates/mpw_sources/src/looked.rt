@@ -27,7 +27,7 @@ pub(crate) fn is_on(element: &Element, layer: Layer) -> bool
 {
     match element {
         Element::Boundary(boundary) => same_layer(boundary.layer, layer),
-        Element::Path(path) => same_layer(path.layer, layer),
+        Element::Path(path) => same_layer(path.get().layer, layer),
         Element::Reference(_) => false,
     }
 }

@@ -74,7 +74,7 @@ fn add_shape(layers: &mut Vec<Layer>, rules: &[Rule], element: &Element) -> Resu
 {
     match element {
         Element::Boundary(boundary) => add_layer(layers, rules, boundary.layer),
-        Element::Path(path) => add_layer(layers, rules, path.layer),
+        Element::Path(path) => add_layer(layers, rules, path.get().layer),
         Element::Reference(_) => Ok(()),
     }
 }

@@ -32,7 +32,7 @@ fn layer_of(element: &Element) -> Option<Layer>
 {
     match element {
         Element::Boundary(boundary) => Some(boundary.layer),
-        Element::Path(path) => Some(path.layer),
+        Element::Path(path) => Some(path.get().layer),
         Element::Reference(_) => None,
     }
 }

@@ -151,7 +151,7 @@ impl<'a> Frame<'a> {
     {
         let child = self.node.children.get(self.child)?;
         match self.elements.get(child.element).unwrap() {
-            Element::Reference(reference) => Some((child.target, reference)),
+            Element::Reference(reference) => Some((child.target, reference.get())),
             _ => None,
         }
     }

@@ -105,6 +105,7 @@ fn targets(alloc: Global, structure: &Structure) -> Result<Vec<(&Name, Affine)>>
     let mut targets = Vec::new(alloc);
     for element in structure.elements.as_slice() {
         if let Element::Reference(reference) = element {
+            let reference = reference.get();
             add_targets(&mut targets, reference, &instances(alloc, reference)?)?;
         }
     }
@@ -181,7 +182,7 @@ pub fn flat_list<'a>(alloc: Global, shelf: &'a Shelf, roots: &[Root]) -> Result<
 fn layer(element: &Element) -> Option<Layer> {
     match element {
         Element::Boundary(boundary) => Some(boundary.layer),
-        Element::Path(path) => Some(path.layer),
+        Element::Path(path) => Some(path.get().layer),
         Element::Reference(_) => None,
     }
 }

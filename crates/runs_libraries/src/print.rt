@@ -21,8 +21,8 @@ fn orientation(orient: Orient) -> &'static str {
 /// The coordinates in turn.
 fn points(alloc: Global, points: &Points) -> Result<String, AllocError> {
     let mut text = String::new(alloc);
-    for point in points.as_slice() {
-        let Point { x, y } = *point;
+    for index in 0..points.len() {
+        let Point { x, y } = points.at(index);
         text.push_str(format!(in alloc; " {x} {y}")?.as_str())?;
     }
     Ok(text)
@@ -62,15 +62,15 @@ fn reference(rt: &impl Print, found: &Reference) -> Result<()> {
 fn element(rt: &(impl Print + AllocGlobal), found: &Element) -> Result<()> {
     match found {
         Element::Boundary(found) => boundary(rt, &found.copy()?),
-        Element::Path(found) => path(rt, &found.copy()?),
-        Element::Reference(found) => reference(rt, &found.copy()?),
+        Element::Path(found) => path(rt, &found.get().copy()?),
+        Element::Reference(found) => reference(rt, &found.get().copy()?),
     }
 }
 
 fn structure(rt: &(impl Print + AllocGlobal), found: &Structure) -> Result<()> {
     println!(rt; "    {}", found.name)?;
     for item in found.elements.as_slice() {
-        element(rt, &item.copy()?)?;
+        element(rt, &item.copy(rt.alloc())?)?;
     }
     Ok(())
 }

@@ -16,7 +16,7 @@ use std::alloc::{AllocError, Global};
 fn rectangles_of_copy(alloc: Global, element: &Element) -> Result<Vec<Box2>, AllocError>
     requires { IsElement element.now }
 {
-    rectangles(alloc, &element.copy()?)
+    rectangles(alloc, &element.copy(alloc)?)
 }
 
 fn add_boxes(alloc: Global, boxes: &mut Vec<Box2>, library: &Library) -> Result<(), AllocError>

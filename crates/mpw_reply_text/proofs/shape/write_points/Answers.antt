@@ -10,8 +10,8 @@ unfolding points_text
 returns-in_err-write_point g c =
     let fault = c.in_err-write_point.field-0.0 in
     Writes-stop_at (λ p. point_text (placed_point c.args.placing p)) c.args.points.now
-    c.loop-point.point-index _ (search rules)
+    c.loop-index.index _ (search rules)
     _ _ _ _ _ _ fault _ _ (ap fault_of c.in_err-write_point.was)
     (handed_on c.from_residual.result fault c.from_residual.ensures.1)
-    c.loop-point.invariant.0 c.loop-point.invariant.1 (point_text c.apply.result)
+    c.loop-index.invariant.0 c.loop-index.invariant.1 (point_text c.apply.result)
     (ap point_text c.apply.ensures) c.write_point.ensures

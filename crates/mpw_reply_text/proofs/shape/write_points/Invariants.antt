@@ -5,8 +5,8 @@ use Rattle.mpw_geom.specs.Placing.{placed_point}
 use Rattle.mpw_reply_text.specs.Reply.{point_text}
 use Rattle.mpw_reply_text.proofs.shape.write_points.Given as goal
 
-abbrev pub invariant-loop-point : goal.invariant-loop-point
-invariant-loop-point g l =
+abbrev pub invariant-loop-index : goal.invariant-loop-index
+invariant-loop-index g l =
     Appends (g.W.Sink.contents l.initial.writer) (g.W.Sink.contents l.writer)
-    (flat_map (λ p. point_text (placed_point l.placing p)) (take l.point-index l.points))
+    (flat_map (λ p. point_text (placed_point l.placing p)) (take l.index l.points))
     × (g.W.Sink.failures l.writer ≡ g.W.Sink.failures l.initial.writer)
