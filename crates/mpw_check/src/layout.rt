@@ -15,11 +15,12 @@ use mpw_geom::{Name, Orient, Placing, Point};
 use mpw_hier::{
     Bindings, HierFault, MAX_SHAPES, Outline, Shelf, Submission, shelves_have_their_numbers,
 };
-use mpw_library::read_library;
+use mpw_library::read_shared;
 use mpw_structures::Library;
 use mpw_tiles::Snapshot;
 use mpw_walk::{Root, roots_at_origin_show_their_submission};
 use std::alloc::{AllocError, Global};
+use std::sync::Arc;
 
 /// The outline of a library, whose top shows no name outside it.
 fn outline_of(alloc: Global, library: &Library, top: &Name) -> Result<Outline, CheckFault>
@@ -116,7 +117,8 @@ fn draw(alloc: Global, deck: Deck, library: Library, top: &Name) -> Result<Snaps
 }
 
 /// Reads a library's text, and places its structure `top` where it was drawn (orientation R0, at the origin, in nm) under a
-/// deck. It costs what reading takes, a search for each name, and a pass over the structures that the top shows.
+/// deck. Its points stay in the text, which the layout shares. It costs what reading takes, a search for each name, and a pass
+/// over the structures that the top shows.
 ///
 /// # Errors
 /// The first fault of the text; a top that isn't in it, stands below itself, shows names outside the library, or goes beyond a
@@ -125,12 +127,12 @@ pub fn read_layout(
     alloc: Global,
     deck: Deck,
     top: &Name,
-    text: &[u8],
+    text: &Arc<Vec<u8>>,
 ) -> Result<Snapshot, CheckFault>
-    ensures ok { IfOk result (IsDrawnFrom deck top.now text.now) }
-    ensures faults { IfErr result (IsOfText top.now text.now) }
+    ensures ok { IfOk result (IsDrawnFrom deck top.now text.now.value.items) }
+    ensures faults { IfErr result (IsOfText top.now text.now.value.items) }
 {
-    match read_library(alloc, text) {
+    match read_shared(alloc, text) {
         Ok(library) => draw(alloc, deck, library, top),
         Err(ReadError::Fault(fault)) => Err(CheckFault::Library(fault)),
         Err(ReadError::Memory) => Err(CheckFault::Memory),

@@ -8,6 +8,7 @@ use mpw_deck::Deck;
 use mpw_geom::Name;
 use mpw_tiles::Snapshot;
 use std::alloc::{AllocError, Global};
+use std::sync::Arc;
 
 /// The records of a library in units of 1 nm, up to the name of its structure: HEADER, BGNLIB, LIBNAME, UNITS and BGNSTR.
 const HEAD: [u8; 90] = [
@@ -52,6 +53,6 @@ pub fn blank_layout(alloc: Global, deck: Deck, top: &Name) -> Result<Snapshot, C
     ensures drawn { IfOk result (IsDrawnFrom deck top.now (blank_text top.now)) }
     ensures faults { IfErr result (IsOfText top.now (blank_text top.now)) }
 {
-    let text = blank_text(alloc, top)?;
+    let text = Arc::new(alloc, blank_text(alloc, top)?)?;
     read_layout(alloc, deck, top, &text)
 }

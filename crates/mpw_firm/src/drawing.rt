@@ -57,7 +57,7 @@ fn no_top(rt: &HostRuntime, file: &str, source: &Source<'_>) -> FirmFault
     requires { only_top (kept_text source.now) ≡ None }
     ensures { IsOfNoTop file.now source.now result }
 {
-    match mpw_library::read_library(rt.alloc(), source.kept()) {
+    match mpw_library::read_shared(rt.alloc(), source.shared()) {
         Ok(_) => {
             let _ = tell_tops(rt, file, source.kept());
             several_tops(rt.alloc(), file)
@@ -93,7 +93,7 @@ fn drawn_at(
     ensures drawn { IfOk result (IsDrawnFrom deck target.now.top.now (kept_text source.now)) }
     ensures refused { IfErr result (IsOfSource target.now.file.now target.now.top.now source.now) }
 {
-    match read_layout(rt.alloc(), deck, target.top, source.kept()) {
+    match read_layout(rt.alloc(), deck, target.top, source.shared()) {
         Ok(layout) => Ok(layout),
         Err(fault) => {
             if is_of_top(&fault) {

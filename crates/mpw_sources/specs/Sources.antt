@@ -15,9 +15,9 @@ pub record Layered : Type 0 where
   pub skip : List Layer
   pub text : List ℕ
 
--- Where layers are set aside: the cuts, and what is left.
+-- What is left, and where layers are set aside the cuts.
 abbrev pub IsLayered : List Layer → (text : List ℕ) → List Cut → (left : List ℕ) → Type 0
-IsLayered [] text cuts left = Unit {0}
+IsLayered [] text cuts left = left ≡ text
 IsLayered (layer ∷ layers) text cuts left =
     (cuts ≡ cuts_of_layers (layer ∷ layers) text)
     × (left ≡ without_layers (layer ∷ layers) text)
@@ -41,7 +41,7 @@ pub record Source : Type 0 where
   pub text : List ℕ
 
 abbrev pub IsCut : List Cut → (left kept : List ℕ) → Type 0
-IsCut [] left kept = Unit {0}
+IsCut [] left kept = kept ≡ left
 IsCut (cut ∷ cuts) left kept = kept ≡ without (cut ∷ cuts) left
 
 abbrev pub cut_text : List Cut → List ℕ → List ℕ

@@ -7,15 +7,16 @@ use mpw_skipping::{Cut, cuts_of_layers, original, without};
 use std::alloc::{AllocError, Global};
 use std::io;
 use std::marker::Model;
+use std::sync::Arc;
 
 /// A library's text, and the layers that are set aside. Contracts see these two.
 pub struct Layered<'a> {
     skip: &'a [Layer],
-    text: Vec<u8>,
+    text: Arc<Vec<u8>>,
     /// What is left out; nothing where no layers are set aside.
     cuts: Vec<Cut>,
-    /// What is left; nothing where no layers are set aside.
-    left: Vec<u8>,
+    /// What is left: the text itself where no layers are set aside.
+    left: Arc<Vec<u8>>,
 }
 
 impl Drop for Layered<'_> {
@@ -37,9 +38,9 @@ impl<'a> Model for Layered<'a> {
 
     ghost Value = { Layered };
 
-    ghost view = { λ s. record { skip = s.skip.now; text = s.text.items } };
+    ghost view = { λ s. record { skip = s.skip.now; text = s.text.value.items } };
 
-    ghost invariant = { λ s. IsLayered s.skip.now s.text.items s.cuts.items s.left.items };
+    ghost invariant = { λ s. IsLayered s.skip.now s.text.value.items s.cuts.items s.left.value.items };
 }
 
 impl<'a> Layered<'a> {
@@ -50,22 +51,23 @@ impl<'a> Layered<'a> {
     pub fn new(alloc: Global, skip: &'a [Layer], text: Vec<u8>) -> Result<Layered<'a>, AllocError>
         ensures { IfOk result (λ layered. layered ≡ record { skip = skip.entry.now; text = text.items }) }
     {
+        let text = Arc::new(alloc, text)?;
         if skip.is_empty() {
-            let (cuts, left) = (Vec::new(alloc), Vec::new(alloc));
+            let left = text.clone()?;
             return Ok(Layered {
                 skip,
                 text,
-                cuts,
+                cuts: Vec::new(alloc),
                 left,
             });
         }
-        let cuts = cuts_of_layers(alloc, skip, &text)?;
-        let left = without(alloc, &text, cuts.as_slice())?;
+        let cuts = cuts_of_layers(alloc, skip, text.as_slice())?;
+        let left = without(alloc, text.as_slice(), cuts.as_slice())?;
         Ok(Layered {
             skip,
             text,
             cuts,
-            left,
+            left: Arc::new(alloc, left)?,
         })
     }
 
@@ -77,13 +79,10 @@ impl<'a> Layered<'a> {
     }
 
     /// The text without these elements.
-    pub fn left(&self) -> &[u8]
-        ensures { result.now ≡ left_text self.now.skip self.now.text }
+    pub fn left(&self) -> &Arc<Vec<u8>>
+        ensures { result.now.value.items ≡ left_text self.now.skip self.now.text }
     {
-        match self.skip {
-            [] => self.text.as_slice(),
-            _ => self.left.as_slice(),
-        }
+        &self.left
     }
 
     /// Where a byte of that stands in the file.

@@ -10,13 +10,14 @@ use mpw_records::ReadFault;
 use mpw_skipping::{Cut, cuts_of_unreached, original, without};
 use std::alloc::{AllocError, Global};
 use std::marker::Model;
+use std::sync::Arc;
 
 /// A library's text, the layers that are set aside, and what is cut out of what is left. Contracts see these.
 pub struct Source<'a> {
     layered: Layered<'a>,
     structures: Vec<Cut>,
-    /// What is read; nothing where no structures are cut out.
-    kept: Vec<u8>,
+    /// What is read: what is left itself where no structures are cut out.
+    kept: Arc<Vec<u8>>,
 }
 
 impl Drop for Source<'_> {
@@ -39,7 +40,7 @@ impl<'a> Model for Source<'a> {
 
     ghost view = { λ s. record { skip = s.layered.skip; structures = s.structures.items; text = s.layered.text } };
 
-    ghost invariant = { λ s. IsCut s.structures.items (left_text s.layered.skip s.layered.text) s.kept.items };
+    ghost invariant = { λ s. IsCut s.structures.items (left_text s.layered.skip s.layered.text) s.kept.value.items };
 }
 
 /// A name as it stands in a record: with a NUL where its number of bytes is odd.
@@ -83,11 +84,12 @@ impl<'a> Source<'a> {
         ensures { IfOk result (IsSourceOf skip.entry.now (option_map (λ name. name.now) above.entry) text.items) }
     {
         let layered = Layered::new(alloc, skip, text)?;
-        let structures = cuts_for(alloc, above, layered.left())?;
+        let structures = cuts_for(alloc, above, layered.left().as_slice())?;
         let kept = if structures.is_empty() {
-            Vec::new(alloc)
+            layered.left().clone()?
         } else {
-            without(alloc, layered.left(), structures.as_slice())?
+            let kept = without(alloc, layered.left().as_slice(), structures.as_slice())?;
+            Arc::new(alloc, kept)?
         };
         Ok(Source {
             layered,
@@ -107,17 +109,21 @@ impl<'a> Source<'a> {
     pub fn left(&self) -> &[u8]
         ensures { result.now ≡ left_text self.now.skip self.now.text }
     {
-        self.layered.left()
+        self.layered.left().as_slice()
     }
 
     /// The text as it is read.
     pub fn kept(&self) -> &[u8]
         ensures { result.now ≡ kept_text self.now }
     {
-        match self.structures.as_slice() {
-            [] => self.layered.left(),
-            _ => self.kept.as_slice(),
-        }
+        self.kept.as_slice()
+    }
+
+    /// The same, for those who share it.
+    pub fn shared(&self) -> &Arc<Vec<u8>>
+        ensures { result.now.value.items ≡ kept_text self.now }
+    {
+        &self.kept
     }
 
     /// What is cut out of the text that is left.

@@ -15,6 +15,7 @@ use mpw_spread::{check_part, read_range, subject_of};
 use mpw_tiles::Snapshot;
 use mpw_words::print_marker;
 use std::alloc::Global;
+use std::sync::Arc;
 use std::thread::Threads;
 use std::{fs, mem, str};
 
@@ -23,7 +24,7 @@ use std::{fs, mem, str};
 struct Layout {
     deck: Vec<u8>,
     top: Name,
-    library: Vec<u8>,
+    library: Arc<Vec<u8>>,
     snapshot: Snapshot,
 }
 
@@ -31,7 +32,7 @@ struct Layout {
 fn read(rt: &HostRuntime, deck: &str, top: &str, library: &str) -> Result<Layout> {
     let alloc = rt.alloc();
     let deck = fs::read(rt, deck)?;
-    let library = fs::read(rt, library)?;
+    let library = Arc::new(alloc, fs::read(rt, library)?)?;
     let Ok(rules) = read_deck(alloc, &deck) else {
         bail!("a deck");
     };
@@ -74,7 +75,7 @@ fn part_text(
         return Ok(None);
     };
     let subject = subject_of(
-        &layout.library,
+        layout.library.as_slice(),
         layout.deck.clone()?,
         layout.top.copy()?,
         tiles,
