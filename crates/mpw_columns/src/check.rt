@@ -18,11 +18,9 @@ ghost use Rattle.mpw_columns.specs.Internal.Checked.{IsLayout, AreColumnsOfBoth,
 
 use crate::column::Column;
 use crate::columns::{View, columns_of, upright, walk_within};
-use crate::counts::Counts;
 use crate::divide::add_column;
 use crate::earlier::equal_to_earlier;
 use crate::keys::ColumnKeys;
-use crate::lattice::lattices_of;
 use crate::laws::{columns_have_whole_runs, columns_make_the_layout};
 use crate::like::{lists_with, own_columns};
 use crate::list::{list_shapes, seen_box};
@@ -30,6 +28,7 @@ use crate::look::{Look, layers_of};
 use crate::part::{parts_in, window_of};
 use crate::progress::Progress;
 use crate::together::together;
+use mpw_cuts::{Counts, lattices_of};
 use mpw_deck::Rule;
 use mpw_edges::{Axis, test_decides_pair_steps};
 use mpw_geom::{Box2, Layer};

@@ -12,10 +12,9 @@ ghost use Rattle.mpw_columns.specs.Columns.{upright, across, AreColumns};
 ghost use Rattle.mpw_columns.specs.Internal.Found.{IsUpright, IsStretch, IsWide, AreHalvesOf};
 
 use crate::column::Column;
-use crate::counts::Counts;
-use crate::lattice::{Lattice, line_between};
 use crate::list::seen_box;
 use crate::part::window_of;
+use mpw_cuts::{Counts, Lattice, line_between};
 use mpw_edges::Axis;
 use mpw_geom::{Box2, Point};
 use mpw_tiles::Snapshot;

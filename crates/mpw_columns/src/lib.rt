@@ -16,14 +16,12 @@
 mod check;
 mod column;
 mod columns;
-mod counts;
 mod displaced;
 mod divide;
 mod earlier;
 mod equal;
 mod follow;
 mod keys;
-mod lattice;
 mod laws;
 mod leaf;
 mod like;

@@ -15,7 +15,7 @@ const MOST_LEVELS: usize = 64;
 
 /// Lines at equal distances along an axis.
 #[derive(Clone, Copy)]
-pub(crate) struct Lattice {
+pub struct Lattice {
     /// Where a line stands, from a line of the lattice before, or from the top's origin.
     from: i64,
     /// From one line to the next, in nm.
@@ -23,7 +23,7 @@ pub(crate) struct Lattice {
 }
 
 /// The coordinate along the axis across whose edges columns are cut.
-fn along(axis: Axis, point: Point) -> i64 {
+pub(crate) fn along(axis: Axis, point: Point) -> i64 {
     match axis {
         Axis::V => point.x,
         Axis::H => point.y,
@@ -100,7 +100,7 @@ fn most_of<'a>(nodes: &[Node], elements: &'a [Element], node: &Node) -> Option<M
 ///
 /// # Errors
 /// Want of memory.
-pub(crate) fn lattices_of(
+pub fn lattices_of(
     alloc: Global,
     snapshot: &Snapshot,
     axis: Axis,
@@ -160,7 +160,7 @@ fn half_of(cells: u64) -> u64 {
 
 /// Where the places from one to before another are best cut: on a line of the first lattice that has one between them, so that cells left of it
 /// are a power of two; none where no lattice has.
-pub(crate) fn line_between(lattices: &[Lattice], from: i64, to: i64) -> Option<i64> {
+pub fn line_between(lattices: &[Lattice], from: i64, to: i64) -> Option<i64> {
     let mut base = 0i64;
     for lattice in lattices {
         let pitch = i64::from(lattice.pitch);

@@ -1,0 +1,4 @@
+use Rattle.mpw_cuts.proofs.counts.Counts.+add_node.Given as goal
+
+abbrev pub decreases-add_node : goal.decreases-add_node
+decreases-add_node l = l.depth

@@ -1,0 +1,162 @@
+//! How many shapes columns show: guesses that decide where columns are cut, and nothing else.
+//!
+//! The extent is seen in bins of equal width. It is counted how many shapes begin in each, and how many end, from the top's structure
+//! down: what a structure shows where it is placed is counted at once, where it is no wider than two bins, and instances that stand at
+//! the same places along the axis are counted together. A column shows those that have begun before its end and haven't ended before
+//! its begin.
+
+use crate::line::{Instances, Line, Reach, array_of, reach_of_box, shape_reach};
+use mpw_edges::Axis;
+use mpw_geom::Box2;
+use mpw_hier::Node;
+use mpw_structures::{Element, Structure};
+use mpw_tiles::Snapshot;
+use std::alloc::{AllocError, Global};
+
+/// How many bins there are.
+const BINS: u64 = 4096;
+
+/// The most levels that are gone down.
+const MOST_LEVELS: u32 = 64;
+
+/// Where the bins begin, how wide they are together, and how many shapes begin and end in each.
+#[derive(Drop)]
+pub struct Counts {
+    low: i64,
+    width: u64,
+    begun: Vec<u64>,
+    ended: Vec<u64>,
+}
+
+/// The structures of a library, and its nodes.
+#[derive(Clone, Copy)]
+struct Tree<'a> {
+    structures: &'a [Structure],
+    nodes: &'a [Node],
+}
+
+/// The sum of the first of the numbers.
+fn sum_of(numbers: &[u64], count: usize) -> u64 {
+    let mut sum = 0u64;
+    for k in 0..count.min(numbers.len()) {
+        sum = sum.saturating_add(numbers[k]);
+    }
+    sum
+}
+
+/// Counts so many more in a bin, where there is that bin.
+fn count_in(numbers: &mut Vec<u64>, bin: usize, more: u64) {
+    if bin < numbers.len() {
+        numbers[bin] = numbers[bin].saturating_add(more);
+    }
+}
+
+impl Counts {
+    /// The bin of a place; the last one of a place behind all.
+    fn bin_of(&self, at: i64) -> usize {
+        if at <= self.low {
+            return 0;
+        }
+        let bin = at
+            .abs_diff(self.low)
+            .saturating_mul(BINS)
+            .checked_div(self.width)
+            .unwrap_or(0);
+        bin.min(BINS - 1) as usize
+    }
+
+    /// Counts so many shapes that reach so far.
+    fn add(&mut self, reach: Reach, times: u64) {
+        let begin = self.bin_of(reach.low);
+        let end = self.bin_of(reach.high);
+        count_in(&mut self.begun, begin, times);
+        count_in(&mut self.ended, end, times);
+    }
+
+    /// Whether what reaches so far isn't wider than two bins.
+    fn is_narrow(&self, reach: Reach) -> bool {
+        self.bin_of(reach.low).abs_diff(self.bin_of(reach.high)) <= 1
+    }
+
+    /// Counts the shapes of a node where it is placed, at most so many levels down.
+    fn add_node(&mut self, tree: Tree<'_>, placed: Instances, depth: u32) {
+        let Some(node) = tree.nodes.get(placed.node) else {
+            return;
+        };
+        let (Some(extent), Some(structure)) = (
+            node.size.extent,
+            tree.structures.get(node.structure),
+        ) else {
+            return;
+        };
+        let reach = reach_of_box(placed.line, &extent);
+        if depth == 0 || self.is_narrow(reach) {
+            return self.add(reach, placed.times.saturating_mul(node.size.count));
+        }
+        let elements = structure.elements.as_slice();
+        for place in node.shapes.iter() {
+            self.add_shape(elements, *place, placed);
+        }
+        for child in node.children.iter() {
+            if let Some(array) = array_of(elements, child.element, child.target, placed) {
+                for number in 0..array.count() {
+                    self.add_node(tree, array.at(number), depth - 1);
+                }
+            }
+        }
+    }
+
+    /// Counts a shape of a structure that is placed so.
+    fn add_shape(&mut self, elements: &[Element], place: usize, placed: Instances) {
+        if let Some(element) = elements.get(place) {
+            if let Some(reach) = shape_reach(placed.line, element) {
+                self.add(reach, placed.times);
+            }
+        }
+    }
+
+    /// Counts the shapes of the top of the first submission, placed at the origin.
+    fn add_top(&mut self, snapshot: &Snapshot, axis: Axis) {
+        let shelf = snapshot.shelf();
+        if let (Some(nodes), Some(submission)) = (shelf.nodes(0), shelf.get(0)) {
+            let line = Line {
+                axis,
+                is_back: false,
+                from: 0,
+            };
+            let tree = Tree {
+                structures: submission.library.structures(),
+                nodes,
+            };
+            let node = nodes.len().saturating_sub(1);
+            let times = 1;
+            self.add_node(tree, Instances { node, line, times }, MOST_LEVELS);
+        }
+    }
+
+    /// The counts of a layout of one submission alone, placed where it was drawn, whose extent is seen so along the axis. It takes a
+    /// step for each instance that is wider than two bins, or stands in one that is, where those at the same places along the axis are
+    /// one; and for the shapes of these.
+    pub fn of(
+        alloc: Global,
+        snapshot: &Snapshot,
+        axis: Axis,
+        seen: &Box2,
+    ) -> Result<Counts, AllocError> {
+        let mut counts = Counts {
+            low: seen.x0,
+            width: seen.x0.abs_diff(seen.x1).saturating_add(1),
+            begun: vec![in alloc; 0; BINS as usize]?,
+            ended: vec![in alloc; 0; BINS as usize]?,
+        };
+        counts.add_top(snapshot, axis);
+        Ok(counts)
+    }
+
+    /// About how many shapes meet the places from the first to before the second.
+    pub fn shown(&self, from: i64, to: i64) -> u64 {
+        let begun = sum_of(&self.begun, self.bin_of(to).saturating_add(1));
+        let ended = sum_of(&self.ended, self.bin_of(from));
+        begun.saturating_sub(ended)
+    }
+}
