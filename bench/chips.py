@@ -8,6 +8,10 @@ PROGRAM is crates/mpw_firm/out/mpw_firm where none is given. The kinds are:
   wires N      N boxes on layer 1 and half as many on layer 2, anywhere
   nested2 N    N cells of four shapes in arrays of arrays, two levels of them, each level with a box that is too narrow; N is a power of four
   nested4 N    the same in four levels
+  crossed2 N   the same in two levels, of cells whose wires go on into the next cell in both directions
+  crossed4 N   the same in four levels
+  marked2 N    as nested2, of cells with a box that is too narrow in each, so that there are more than N markers
+  marked4 N    the same in four levels
   chip N       N standard cells of twelve kinds in abutting rows, every second row mirrored, arrays as macros, wires over them; one kind has a wire that is too narrow
   mixed N      N cells in all eight orientations, one at a time, with polygons and paths
 
@@ -33,7 +37,9 @@ import runs
 HERE = os.path.dirname(os.path.abspath(__file__))
 PROGRAM = os.path.join(HERE, '..', 'crates', 'mpw_firm', 'out', 'mpw_firm')
 TABLE = [('wires', 300_000), ('wires', 3_000_000), ('wires', 10_000_000), ('nested2', 1 << 18), ('nested2', 1 << 22), ('nested2', 1 << 24),
-         ('nested4', 1 << 18), ('nested4', 1 << 22), ('nested4', 1 << 24), ('chip', 100_000), ('chip', 1_000_000), ('mixed', 200_000)]
+         ('nested4', 1 << 18), ('nested4', 1 << 22), ('nested4', 1 << 24), ('crossed2', 1 << 18), ('crossed2', 1 << 22), ('crossed2', 1 << 24),
+         ('crossed4', 1 << 18), ('crossed4', 1 << 22), ('crossed4', 1 << 24),
+         ('marked2', 1 << 18), ('marked2', 1 << 20), ('marked2', 1 << 22), ('marked4', 1 << 22), ('chip', 100_000), ('chip', 1_000_000), ('mixed', 200_000)]
 DECK = 'tile 65536\nwidth width 1/0 56\nspace space 1/0 51\nseparation separation 1/0 2/0 9\nenclosing enclosing 1/0 2/0 10\n'
 MOST_SECONDS = 600
 SIDE = 65536
@@ -74,16 +80,20 @@ def wires(out, n):
 
 # A cell without a violation, at a pitch of 300, and a box that is too narrow.
 CELL = [(1, 0, 0, 100, 240), (1, 160, 0, 240, 90), (1, 160, 150, 240, 240), (2, 20, 20, 60, 60)]
+# A cell whose wires overlap those of the cells right of it and above.
+CROSSED = [(1, 0, 0, 320, 80), (1, 0, 140, 100, 320), (1, 160, 140, 240, 240), (2, 20, 20, 60, 60)]
+# A cell with a box that is too narrow.
+MARKED = CELL[:2] + [(1, 160, 150, 214, 240), (2, 20, 20, 60, 60)]
 NARROW = (1, -120, 0, -66, 240)
 
 
-def nested(out, n, levels):
+def nested(out, n, levels, shapes=None):
     """Arrays of arrays: the least power of two on a side goes to each level, and what is left to the innermost."""
     bits = (n.bit_length() - 1) // 2
     each = [bits // levels] * levels
     each[0] += bits - sum(each)
     begin(out, b'CELL')
-    for shape in CELL:
+    for shape in shapes or CELL:
         out.write(layouts.boundary(*shape))
     end(out)
     pitch, name = 300, b'CELL'
@@ -166,7 +176,9 @@ def mixed(out, n):
     end(out)
 
 
-KINDS = {'wires': wires, 'nested2': lambda out, n: nested(out, n, 2), 'nested4': lambda out, n: nested(out, n, 4), 'chip': chip, 'mixed': mixed}
+KINDS = {'wires': wires, 'nested2': lambda out, n: nested(out, n, 2), 'nested4': lambda out, n: nested(out, n, 4),
+         'crossed2': lambda out, n: nested(out, n, 2, CROSSED), 'crossed4': lambda out, n: nested(out, n, 4, CROSSED),
+         'marked2': lambda out, n: nested(out, n, 2, MARKED), 'marked4': lambda out, n: nested(out, n, 4, MARKED), 'chip': chip, 'mixed': mixed}
 
 
 def write(path, kind, n):
@@ -218,7 +230,7 @@ def ours(program, path, deck, folder, processors):
 
 def theirs(path, mode, threads):
     """The counts, the seconds and the megabytes of one of KLayout's modes, or that it took too long."""
-    words = [f'library={path}', f'mode={mode}', f'side={SIDE}', f'threads={threads}', 'shielded=no']
+    words = [f'library={path}', f'mode={mode}', f'side={SIDE}', f'threads={threads}', 'shielded=no', 'listed=yes']
     script = os.path.join(HERE, 'klayout_runs.py')
     found = timed(['klayout', '-b', '-r', script, *(it for word in words for it in ('-rd', word))])
     if not found or found[0]:

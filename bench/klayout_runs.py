@@ -1,5 +1,7 @@
 """The four checks of a library's structure TOP by KLayout, with the time that they take:
-klayout -b -r klayout_runs.py -rd library=FILE -rd mode=flat|tiled|deep -rd side=NM -rd threads=N -rd shielded=yes|no
+klayout -b -r klayout_runs.py -rd library=FILE -rd mode=flat|tiled|deep -rd side=NM -rd threads=N -rd shielded=yes|no [-rd listed=yes]
+
+Listed, the pairs of the deep mode are made flat, as those of the others are: a list of all of them, and not of each once for all instances of its cell.
 
 Shielded, KLayout leaves out a pair of edges with another edge between them, as of the rules of bench_job `width` alone does: so that is shielded
 whatever is asked."""
@@ -27,9 +29,12 @@ def whole(first, second):
     options = (False, pya.Region.Projection, 90, 0, FARTHEST, is_shielded)
     first.merge()
     second.merge()
-    return [first.width_check(CHECKS[0][1], *options[:-1], True).count(), first.space_check(CHECKS[1][1], *options).count(),
-            first.separation_check(second, CHECKS[2][1], *options).count(),
-            first.enclosing_check(second, CHECKS[3][1], *options).count()]
+    found = [first.width_check(CHECKS[0][1], *options[:-1], True), first.space_check(CHECKS[1][1], *options),
+             first.separation_check(second, CHECKS[2][1], *options), first.enclosing_check(second, CHECKS[3][1], *options)]
+    if globals().get('listed') == 'yes':
+        for pairs in found:
+            pairs.flatten()
+    return [pairs.count() for pairs in found]
 
 
 def tiled():

@@ -1,7 +1,7 @@
 use Rattle.std.proofs.Common.{ap, ◌++◌}
 use Rattle.mpw_reply_text.specs.Reply.{boundary_head, shape_end, shape_text}
 use Rattle.mpw_wire.specs.Writing.{fault_of}
-use Rattle.mpw_reply_text.proofs.WritingLemmas.{Writes_first, Writes_both, Writes_same, handed_on}
+use Rattle.mpw_reply_text.proofs.WritingLemmas.{Writes_first, Writes_both, handed_on}
 use Rattle.mpw_reply_text.proofs.shape.write_boundary.Goals as goal
 
 pub returns-in_err-write_boundary_head : goal.returns-in_err-write_boundary_head
@@ -20,8 +20,6 @@ unfolding shape_text
 returns g c =
     let s = c.args.shape.now in
     let head = (boundary_head s.cell.now s.version c.args.boundary.now.layer) in
-    Writes_same _ _ _ _ _ (head ++ shape_end s.placing c.as_slice.result.now) _
-    (ap (λ points. head ++ shape_end s.placing points) c.as_slice.ensures)
-    (Writes_both _ _ _ _ _ _ _ _ head (shape_end s.placing c.as_slice.result.now)
+    Writes_both _ _ _ _ _ _ _ _ head (shape_end s.placing c.args.boundary.now.points)
     (ap fault_of c.in_ok-write_boundary_head.was) c.write_boundary_head.ensures
-    c.write_end.ensures)
+    c.write_end.ensures

@@ -1,7 +1,7 @@
 use Rattle.std.proofs.Common.{ap, ◌++◌}
 use Rattle.mpw_reply_text.specs.Reply.{path_head, shape_end, shape_text}
 use Rattle.mpw_wire.specs.Writing.{fault_of}
-use Rattle.mpw_reply_text.proofs.WritingLemmas.{Writes_first, Writes_both, Writes_same, handed_on}
+use Rattle.mpw_reply_text.proofs.WritingLemmas.{Writes_first, Writes_both, handed_on}
 use Rattle.mpw_reply_text.proofs.shape.write_path.Goals as goal
 
 pub returns-in_err-write_path_head : goal.returns-in_err-write_path_head
@@ -19,7 +19,6 @@ unfolding shape_text
 returns g c =
     let s = c.args.shape.now in
     let head = (path_head s.cell.now s.version c.args.path.now) in
-    Writes_same _ _ _ _ _ (head ++ shape_end s.placing c.as_slice.result.now) _
-    (ap (λ points. head ++ shape_end s.placing points) c.as_slice.ensures)
-    (Writes_both _ _ _ _ _ _ _ _ head (shape_end s.placing c.as_slice.result.now)
-    (ap fault_of c.in_ok-write_path_head.was) c.write_path_head.ensures c.write_end.ensures)
+    Writes_both _ _ _ _ _ _ _ _ head (shape_end s.placing c.args.path.now.points)
+    (ap fault_of c.in_ok-write_path_head.was) c.write_path_head.ensures
+    c.write_end.ensures

@@ -1,4 +1,4 @@
-use Rattle.std.proofs.Common.{rules, ap}
+use Rattle.std.proofs.Common.{rules, ap, ◌∙◌}
 use Rattle.mpw_geom.specs.Placing.{placed_point}
 use Rattle.mpw_reply_text.specs.Reply.{point_text, points_text}
 use Rattle.mpw_wire.specs.Writing.{fault_of}
@@ -14,4 +14,5 @@ returns-in_err-write_point g c =
     _ _ _ _ _ _ fault _ _ (ap fault_of c.in_err-write_point.was)
     (handed_on c.from_residual.result fault c.from_residual.ensures.1)
     c.loop-index.invariant.0 c.loop-index.invariant.1 (point_text c.apply.result)
-    (ap point_text c.apply.ensures) c.write_point.ensures
+    (ap point_text c.apply.ensures
+    ∙ ap (λ p. point_text (placed_point c.args.placing p)) c.at.ensures) c.write_point.ensures
