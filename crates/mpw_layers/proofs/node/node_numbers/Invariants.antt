@@ -1,0 +1,7 @@
+use Rattle.mpw_layers.specs.Internal.Values.{AreValues}
+use Rattle.mpw_layers.specs.Internal.Counts.{node_number}
+use Rattle.mpw_layers.proofs.node.node_numbers.Given as goal
+
+abbrev pub invariant-loop-node : goal.invariant-loop-node
+invariant-loop-node l =
+    AreValues (node_number l.layer l.outer) l.structures l.nodes l.node-index l.numbers.items

@@ -1,0 +1,3 @@
+-- What private functions and proofs alone need: no public contract speaks of it.
+pub mod Values
+pub mod Counts

@@ -1,0 +1,31 @@
+-- What private functions and proofs need of this: the numbers of shapes on a layer of nodes and submissions, up to the greatest number of
+-- 64 bits.
+use Rattle.std.specs.Prelude.{◌≡◌, ℕ, ◌+◌, ◌<◌, cond, List, length, slice_index}
+use Rattle.std.specs.List.{sum_by}
+use Rattle.mpw_geom.specs.declared.plane.Layer.{Layer}
+use Rattle.mpw_structures.specs.declared.element.Element.{Element}
+use Rattle.mpw_hier.specs.declared.node.Child.{Child}
+use Rattle.mpw_hier.specs.declared.submission.Submission.{Submission}
+use Rattle.mpw_hier.specs.Values.{flat}
+use Rattle.mpw_walk.specs.declared.root.Root.{Root}
+use Rattle.mpw_seen.specs.Internal.Counts.{told, child_number}
+use Rattle.mpw_layers.specs.Layers.{is_on, layer_items}
+
+-- A shape on the layer counts one.
+abbrev pub one_if : Layer → Element → ℕ
+one_if layer element = cond (is_on layer element) 1 0
+
+-- The number of a node: its own shapes on the layer, and those of its children.
+abbrev pub node_number : Layer → List ℕ → List Element → List ℕ → List Child → ℕ
+node_number layer outer es own children =
+    told (sum_by (one_if layer) es + sum_by (child_number es own outer) children)
+
+-- The numbers of the first submissions.
+pub record AreOfFirst (ss : List Submission) (layer : Layer) (many : ℕ) (numbers : List ℕ)
+    : Type 0 where
+  pub many_are : length numbers ≡ many
+  pub each : (k : ℕ) → k < many → slice_index numbers k ≡ layer_items layer (flat ss k)
+
+-- The number of a root's submission.
+abbrev pub root_number : List ℕ → Root → ℕ
+root_number numbers root = slice_index numbers root.submission
