@@ -20,7 +20,7 @@ use Rattle.mpw_seen.specs.Internal.Counts.{told, target_number, array_number, ch
 use Rattle.mpw_seen.proofs.Sums.{told_product, told_again}
 use Rattle.mpw_seen.proofs.Children.{told_both, shown_below}
 use Rattle.mpw_layers.specs.Layers.{layer_items}
-use Rattle.mpw_layers.specs.Internal.Counts.{one_if, node_number}
+use Rattle.mpw_layers.specs.Internal.Counts.{one_if, node_number, told_on}
 use Rattle.mpw_layers.proofs.Placed.{none_on, append_on, array_on, own_on}
 use Rattle.mpw_layers.proofs.Values.{AreOfTargets, StepTells}
 
@@ -31,10 +31,6 @@ get_at (y ∷ front) x xs = get_at front x xs
 
 one_longer : {X : Type 0} (front : List X) (x : X) → length (front ++ x ∷ []) ≡ length front + 1
 one_longer front x = length-append front (x ∷ [])
-
--- how many shapes on a layer a flat list has, up to the greatest number
-abbrev pub told_on : Layer → List Item → ℕ
-told_on layer items = told (layer_items layer items)
 
 module _ (layer : Layer) (s : Submission) (before : List (List Item)) (earlier : List Node)
     (own outer : List ℕ) (all : List Element)
@@ -110,7 +106,7 @@ module _ (layer : Layer) (s : Submission) (before : List (List Item)) (earlier :
 -- the number of a node is how many shapes its structure shows
 pub numbers_tell : (layer : Layer) (outer : List ℕ)
     → StepTells 0 (told_on layer) outer (node_number layer outer)
-numbers_tell layer outer s before earlier own es cs numbers children =
+numbers_tell layer outer s before earlier own es cs are numbers children =
     let below = shown_below (structure_items before s) es in
     told_both (sum_by (one_if layer) es) (sum_by (child_number es own outer) cs)
     (layer_items layer (own_items (length before) es)) (layer_items layer below)

@@ -2,3 +2,5 @@ pub mod Placed
 pub mod Values
 pub mod Children
 pub mod Counted
+pub mod Gathering
+pub mod Adding

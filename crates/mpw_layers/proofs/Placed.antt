@@ -1,16 +1,16 @@
 -- How many of the shapes that are placed are on a layer.
-use Rattle.std.proofs.Common.{◌≡◌, ℕ, ◌+◌, ◌*◌, ◌≤◌, List, [], ◌∷◌, ◌++◌, length, map, refl, ap, sym, ◌∙◌, arith, length-append}
+use Rattle.std.proofs.Common.{◌≡◌, ℕ, ◌+◌, ◌*◌, List, [], ◌∷◌, ◌++◌, length, map, refl, ap, sym, ◌∙◌, arith, length-append}
 use Rattle.std.specs.List.{flat_map, range_with_len, sum_by}
 use Rattle.std.proofs.lemmas.List.{length-map}
 use Rattle.std.proofs.lemmas.List.FromFn.{length-range_with_len}
-use Rattle.std.proofs.lemmas.List.Sums.{sum_by-append, sum_by-cons, count_by-le-length}
+use Rattle.std.proofs.lemmas.List.Sums.{sum_by-append, sum_by-cons}
 use Rattle.mpw_geom.specs.declared.plane.Layer.{Layer}
 use Rattle.mpw_geom.specs.declared.placing.Placing.{Placing}
 use Rattle.mpw_structures.specs.declared.element.Element.{Element}
 use Rattle.mpw_structures.specs.declared.element.Element.TheVariants as elements
 use Rattle.mpw_structures.specs.declared.element.Reference.{Reference}
 use Rattle.mpw_hier.specs.Items.{Item, own_items, row_of, instances, placed_item, placed_items}
-use Rattle.mpw_layers.specs.Layers.{is_on, layer_items}
+use Rattle.mpw_layers.specs.Layers.{layer_items}
 use Rattle.mpw_layers.specs.Internal.Counts.{one_if}
 
 abbrev one_of : Layer → Item → ℕ
@@ -29,10 +29,6 @@ pub append_on : (layer : Layer) (xs ys : List Item)
     → layer_items layer (xs ++ ys) ≡ layer_items layer xs + layer_items layer ys
 unfolding layer_items
 append_on layer xs ys = sum_by-append (one_of layer) xs ys
-
-pub few_on : (layer : Layer) (xs : List Item) → layer_items layer xs ≤ length xs
-unfolding layer_items
-few_on layer xs = count_by-le-length (λ (i : Item). is_on layer i.element) xs
 
 -- ---- placed shapes are on the layers on which they were
 

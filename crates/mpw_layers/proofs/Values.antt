@@ -1,13 +1,16 @@
 -- The values of nodes, where each is what some function tells of the flat list of its structure.
 use Rattle.std.proofs.Common.{◌≡◌, ℕ, zero, suc, ◌+◌, ◌-◌, ◌<◌, ◌≤◌, ◌⊎◌, inl, inr, List, [], ◌∷◌, ◌++◌, length, get_or, take, Option, Some, refl, sym, ap, subst, ◌∙◌, arith}
-use Rattle.std.specs.Prelude.{slice_get, slice_index_or, option_copied, IfSome}
+use Rattle.std.proofs.lemmas.List.Elements.{All-get_or}
+use Rattle.std.specs.Prelude.{All, slice_get, slice_index_or, option_copied, IfSome}
 use Rattle.std.specs.Borrow.{Bor}
 use Rattle.std.proofs.lemmas.Bool.{cases_lt}
 use Rattle.std.proofs.lemmas.List.{length-append, length-take, get_or-take, take-append-le}
 use Rattle.std.proofs.lemmas.Option.{slice_get_within, slice_get-get_or, get_or_from_slice_get}
-use Rattle.std.proofs.Math.Seq.{take-append_seam}
+use Rattle.std.proofs.Math.Seq.{take-append_seam, get_or-append_seam}
 use Rattle.mpw_structures.specs.declared.element.Element.{Element}
 use Rattle.mpw_structures.specs.declared.structures.Structure.{Structure}
+use Rattle.mpw_structures.specs.Element.{IsElement}
+use Rattle.mpw_structures.specs.Library.{IsLibrary, IsStructure}
 use Rattle.mpw_structures.specs.Places.{place_of}
 use Rattle.mpw_hier.specs.declared.node.Child.{Child}
 use Rattle.mpw_hier.specs.declared.node.Node.{Node}
@@ -21,7 +24,7 @@ use Rattle.mpw_seen.specs.Internal.Counts.{elements_of}
 use Rattle.mpw_seen.specs.Internal.Shown.{NamesAreShown}
 use Rattle.mpw_seen.proofs.Children.{shown_below}
 use Rattle.mpw_seen.proofs.Nodes.{one}
-use Rattle.mpw_layers.specs.Internal.Values.{AreValues}
+use Rattle.mpw_layers.specs.Internal.Values.{AreValues, AreOfFirst, target_value}
 
 among_first : {X : Type 0} (k : ℕ) (xs : List X) (i : ℕ) (x : X) → slice_get (take k xs) i ≡ Some x
     → slice_get xs i ≡ Some x
@@ -89,12 +92,60 @@ values_more {V} step library nodes i node old new value w at is made = record {
         (last ∙ ap Some (is ∙ ap (λ (m : Node). told_by m old) e
         ∙ ap (λ xs. told_by other xs) (sym whole)))
 
+-- one submission more
+pub first_more : {V : Type 0} (nothing : V) (tell : List Item → V) (ss : List Submission) (i : ℕ)
+    (old new : List V) (value : V)
+    → AreOfFirst nothing tell ss i old → value ≡ tell (flat ss i) → new ≡ old ++ value ∷ []
+    → AreOfFirst nothing tell ss (i + 1) new
+first_more nothing tell ss i old new value w is made = record {
+  many_are = let h = length-append old (value ∷ []) in let e = ap length made in
+      omega (arith, h, e, w.many_are);
+  each = λ k h. rw made (go k h (cases_lt k i));
+}
+  where
+    whole_of : take i (old ++ value ∷ []) ≡ old
+    whole_of = subst (λ n. take n (old ++ value ∷ []) ≡ old) w.many_are
+        (take-append_seam old (value ∷ []))
+
+    last : slice_index_or (old ++ value ∷ []) i nothing ≡ value
+    last = subst (λ n. get_or (old ++ value ∷ []) n nothing ≡ value) w.many_are
+        (get_or-append_seam old value [] nothing)
+
+    go : (k : ℕ) → k < i + 1 → (k < i) ⊎ (i ≤ k)
+        → slice_index_or (old ++ value ∷ []) k nothing ≡ tell (flat ss k)
+    go k h (inl lt) = sym (get_or-take i (old ++ value ∷ []) k nothing lt)
+        ∙ ap (λ xs. get_or xs k nothing) whole_of ∙ w.each k lt
+    go k h (inr le) =
+        let e : i ≡ k = omega (arith, h, le) in
+        subst (λ n. slice_index_or (old ++ value ∷ []) n nothing ≡ tell (flat ss n)) e (last ∙ is)
+
+past_end : {X : Type 0} (xs : List X) (n : ℕ) (d : X) → length xs ≤ n → get_or xs n d ≡ d
+past_end [] n d h = refl
+past_end (x ∷ xs) zero d h = absurd (omega (arith, h))
+past_end (x ∷ xs) (suc n) d h = past_end xs n d (omega (arith, h))
+
+-- those of all submissions tell of any number, also of one behind the last
+pub any_value : {V : Type 0} (nothing : V) (tell : List Item → V) → tell [] ≡ nothing
+    → (law : NamesAreShown) (ss : List Submission) (values : List V)
+    → AreOfFirst nothing tell ss (length ss) values → (n : ℕ)
+    → slice_index_or values n nothing ≡ tell (flat ss n)
+any_value nothing tell none law ss values w n = elim (cases_lt n (length ss)) [
+  | inl lt ↦ w.each n lt
+  | inr le ↦ past_end values n nothing (omega (arith, w.many_are, le)) ∙ sym none
+      ∙ ap tell (sym (past_end (flats ss) n [] (omega (arith, law.many ss, le))))
+]
+
 -- ---- what the values tell
 
--- the value of a target, by those of the nodes before it and of the submissions before its own
-abbrev pub target_value : {V : Type 0} → V → List V → List V → Target → V
-target_value nothing own outer (targets.Own place) = slice_index_or own place nothing
-target_value nothing own outer (targets.Outer number) = slice_index_or outer number nothing
+-- the elements of a structure of a library were read
+elements_are : (library : List Structure) (place : ℕ) (structure : Structure) → IsLibrary library
+    → slice_get library place ≡ Some structure → All IsElement structure.elements
+elements_are library place structure read is =
+    let within = slice_get_within library place structure is in
+    let e : get_or library place structure ≡ structure =
+    get_or_from_slice_get library place structure structure is in
+    subst (λ (x : Structure). All IsElement x.elements) e
+    (All-get_or IsStructure library place structure within read).elements
 
 module _ {V : Type 0} (nothing : V) (tell : List Item → V) (outer : List V) where
   -- the value of each target is what its name shows
@@ -107,7 +158,8 @@ module _ {V : Type 0} (nothing : V) (tell : List Item → V) (outer : List V) wh
   abbrev pub StepTells : (List Element → List V → List Child → V) → Type 0
   StepTells step =
       (s : Submission) (before : List (List Item)) (earlier : List Node) (own : List V)
-      (es : List Element) (cs : List Child) → AreOfTargets s before earlier own
+      (es : List Element) (cs : List Child) → All IsElement es
+      → AreOfTargets s before earlier own
       → AreChildren s before earlier 0 es cs
       → step es own cs
       ≡ tell (own_items (length before) es ++ shown_below (structure_items before s) es)
@@ -116,7 +168,7 @@ module _ {V : Type 0} (nothing : V) (tell : List Item → V) (outer : List V) wh
       (law : NamesAreShown) (ss : List Submission) (n : ℕ)
       (s : Submission) (is : slice_get ss n ≡ Some s) (nodes : List Node)
       (w : AreNodesOf (flats (take n ss)) (heights (take n ss)) s nodes)
-      (bound : (to : ℕ) → to < n → slice_index_or outer to nothing ≡ tell (flat ss to))
+      (bound : AreOfFirst nothing tell ss n outer)
       (values : List V) where
     abbrev before : List (List Item)
     before = flats (take n ss)
@@ -154,7 +206,7 @@ module _ {V : Type 0} (nothing : V) (tell : List Item → V) (outer : List V) wh
           earlier = lt;
           to_is = there;
         })).items in
-        bound to lt ∙ ap tell (flat_is law ss to t there ∙ sym shown)
+        bound.each to lt ∙ ap tell (flat_is law ss to t there ∙ sym shown)
 
     targets_told : (k : ℕ) → AreTold k → AreOfTargets s before (take k nodes) (take k values)
     targets_told k below name (targets.Own place) o = own_told k below name place o
@@ -179,6 +231,7 @@ module _ {V : Type 0} (nothing : V) (tell : List Item → V) (outer : List V) wh
         made.each k node (slice_get_within nodes k node at) at
         ∙ ap Some (ap (λ o. step (elements_of o) (take k values) node.children.items) m.is
         ∙ steps s before (take k nodes) (take k values) es node.children.items
+        (elements_are s.library node.structure m.structure w.library m.is)
         (targets_told k below) m.children
         ∙ ap (λ number. tell (own_items number es ++ shown_below (structure_items before s) es))
         long
@@ -208,7 +261,7 @@ from_is o from p s is copied at = one p s from.now at (sym copied ∙ ap option_
 pub top_value : {V : Type 0} (nothing : V) (tell : List Item → V) (outer : List V)
     (step : List Element → List V → List Child → V)
     → StepTells nothing tell outer step → (law : NamesAreShown) (ss : List Submission) (n : ℕ)
-    → ((to : ℕ) → to < n → slice_index_or outer to nothing ≡ tell (flat ss to))
+    → AreOfFirst nothing tell ss n outer
     → (o : Option (Bor (List Node))) (nodes : Bor (List Node)) → o ≡ Some nodes
     → IfSome o (λ (ns : Bor (List Node)). AreNodes ss n ns.now)
     → (p : Option (Bor Submission)) (from : Bor Submission) → p ≡ Some from

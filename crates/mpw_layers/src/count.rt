@@ -4,13 +4,13 @@ ghost use Rattle.std.specs.Prelude.{◌≡◌, ◌<◌, ◌≤◌, ◌^◌, leng
 ghost use Rattle.std.specs.List.{sum_by};
 ghost use Rattle.mpw_hier.specs.Values.{flat};
 ghost use Rattle.mpw_seen.specs.Internal.Counts.{told};
-ghost use Rattle.mpw_layers.specs.Layers.{layer_items, layer_count, shows};
-ghost use Rattle.mpw_layers.specs.Internal.Counts.{root_number, AreOfFirst};
+ghost use Rattle.mpw_layers.specs.Layers.{layer_count, shows};
+ghost use Rattle.mpw_layers.specs.Internal.Counts.{root_number, told_on, AreCounts};
 
 use crate::laws::names_are_shown;
 use crate::node::{node_numbers, number_at};
 use mpw_geom::Layer;
-use mpw_hier::{Shelf, shelves_have_their_numbers};
+use mpw_hier::Shelf;
 use mpw_walk::Root;
 use std::alloc::{AllocError, Global};
 
@@ -27,11 +27,9 @@ fn submission_count(
     outer: &[usize],
 ) -> Result<usize, AllocError>
     requires number { number < length shelf.now }
-    requires outer { AreOfFirst shelf.now layer number outer.now }
-    ensures { IfOk result (λ count. count ≡ layer_items layer (flat shelf.now number)) }
+    requires outer { AreCounts shelf.now layer number outer.now }
+    ensures { IfOk result (λ count. count ≡ told_on layer (flat shelf.now number)) }
 {
-    shelf.is_shelf();
-    shelves_have_their_numbers();
     names_are_shown();
     let nodes = shelf.nodes(number).unwrap();
     let structures = shelf.get(number).unwrap().library.structures();
@@ -40,7 +38,7 @@ fn submission_count(
 }
 
 /// How many submissions there are.
-fn many(shelf: &Shelf) -> usize
+pub(crate) fn many(shelf: &Shelf) -> usize
     ensures many { result ≡ length shelf.now }
     ensures few { result ≤ 4096 }
 {
@@ -53,7 +51,7 @@ fn many(shelf: &Shelf) -> usize
 /// # Errors
 /// Want of memory.
 fn submission_counts(alloc: Global, shelf: &Shelf, layer: Layer) -> Result<Vec<usize>, AllocError>
-    ensures { IfOk result (λ counts. AreOfFirst shelf.now layer (length shelf.now) counts.items) }
+    ensures { IfOk result (λ counts. AreCounts shelf.now layer (length shelf.now) counts.items) }
 {
     let many = many(shelf);
     let mut counts = Vec::with_capacity(alloc, many)?;

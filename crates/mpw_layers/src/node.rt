@@ -84,7 +84,7 @@ fn node_number(
 }
 
 /// The elements of the structure at a place; none where there is none.
-fn elements_at(structures: &[Structure], place: usize) -> &[Element]
+pub fn elements_at(structures: &[Structure], place: usize) -> &[Element]
     ensures { result.now ≡ elements_of (slice_get structures.now place) }
 {
     match structures.get(place) {

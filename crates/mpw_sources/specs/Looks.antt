@@ -1,37 +1,32 @@
 -- Whether a check looks at something: a rule whose layer has no shapes finds nothing, whatever the layout is.
-use Rattle.std.specs.Prelude.{◌≡◌, ◌==◌, ◌&&◌, ℕ, Bool, true, false, is_none, List, [], ◌∷◌, ◌++◌, codes, Option, None, Some, if◌then◌else◌}
-use Rattle.std.specs.List.{list_all, list_any}
+use Rattle.std.specs.Prelude.{◌≡◌, ◌⊎◌, ℕ, Bool, true, false, is_none, List, [], ◌∷◌, ◌++◌, codes, Option, None, Some, if◌then◌else◌}
+use Rattle.std.specs.List.{list_all}
 use Rattle.mpw_deck.specs.declared.rule.Check.{Check}
 use Rattle.mpw_deck.specs.declared.rule.Check.TheVariants.{Width, Space, Separation, Enclosing}
 use Rattle.mpw_deck.specs.declared.rule.Rule.{Rule}
 use Rattle.mpw_geom.specs.declared.plane.Layer.{Layer}
-use Rattle.mpw_geom.specs.Layers.{same_layer}
-use Rattle.mpw_structures.specs.declared.element.Element.{Element}
-use Rattle.mpw_structures.specs.declared.element.Element.TheVariants.{Boundary, Path, Reference}
 use Rattle.mpw_tiles.specs.Snapshots.{Snapshot}
-use Rattle.mpw_walk.specs.Turns.{flat_roots}
+use Rattle.mpw_layers.specs.Layers as shown
 use Rattle.mpw_told.specs.Told.{Refuses}
 use Rattle.mpw_told.specs.declared.fault.FirmFault.{FirmFault}
+use Rattle.mpw_told.specs.declared.fault.FirmFault.TheVariants.{Memory}
 use Rattle.mpw_sources.specs.declared.target.Target.{Target}
 
--- A shape is on the layer.
-abbrev pub is_on : Layer → Element → Bool
-is_on layer (Boundary boundary) = same_layer boundary.layer layer
-is_on layer (Path path) = same_layer path.layer layer
-is_on layer (Reference reference) = false
-
 -- The layout shows a shape on the layer.
-unfoldable pub shows : Snapshot → Layer → Bool
-shows s layer = list_any (λ item. is_on layer item.element) (flat_roots s.shelf s.roots)
+abbrev pub shows : Snapshot → Layer → Bool
+shows s layer = shown.shows s.shelf s.roots layer
+
+-- The first of two layers on which it shows none.
+abbrev pub empty_of : Snapshot → Layer → Layer → Option Layer
+empty_of s first second =
+    if shows s first then (if shows s second then None else Some second) else Some first
 
 -- A layer of a check on which the layout shows no shape, the first of them.
 abbrev pub empty_layer : Snapshot → Check → Option Layer
 empty_layer s (Width layer) = if shows s layer then None else Some layer
 empty_layer s (Space layer) = if shows s layer then None else Some layer
-empty_layer s (Separation first second) =
-    if shows s first then (if shows s second then None else Some second) else Some first
-empty_layer s (Enclosing first second) =
-    if shows s first then (if shows s second then None else Some second) else Some first
+empty_layer s (Separation first second) = empty_of s first second
+empty_layer s (Enclosing first second) = empty_of s first second
 
 -- There are rules, and each has shapes on its layers.
 abbrev pub looks : Snapshot → List Rule → Bool
@@ -49,8 +44,8 @@ idle_text file top =
     ++ (top
     ++ codes ": a rule looks at nothing, or there is none, as the notes say: --strict asks for shapes on each layer of each rule"))
 
--- Else it is refused, and that is told; or there is no room.
+-- Else it was asked for, and it is refused, and that is told; or there is no room to look.
 abbrev pub IsOfLook : Target → Bool → Snapshot → FirmFault → Type 0
 IsOfLook target strict s fault =
-    (strict ≡ true) × (looks s s.deck.rules ≡ false)
-    × Refuses (idle_text target.file.now target.top.now) fault
+    (strict ≡ true) × ((fault ≡ Memory) ⊎ ((looks s s.deck.rules ≡ false)
+    × Refuses (idle_text target.file.now target.top.now) fault))

@@ -1,5 +1,5 @@
 -- The faults of a library's elements, as a report has them.
-use Rattle.std.specs.Prelude.{◌≡◌, ℕ, List, map, Option, None, Some, unwrap_or}
+use Rattle.std.specs.Prelude.{ℕ, List, map, Option, None, Some, unwrap_or}
 use Rattle.std.specs.String.{string_bytes}
 use Rattle.mpw_faults.specs.Details.{structure_of}
 use Rattle.mpw_faults.specs.Faults.{faults_of, unit_of}

@@ -1,95 +1,94 @@
 //! What a check looks at. `specs/Looks.antt` has what contracts say of it.
 ghost use Rattle.std.specs.Prelude.{◌≡◌, is_none, IfOk, IfErr};
 ghost use Rattle.std.specs.List.{list_all};
-ghost use Rattle.mpw_geom.specs.Layers.{same_layer};
-ghost use Rattle.mpw_sources.specs.Looks.{IsLookedAt, IsOfLook, empty_layer, idle_text, is_on, looks, shows};
+ghost use Rattle.mpw_sources.specs.Looks.{IsLookedAt, IsOfLook, empty_layer, empty_of, idle_text, looks, shows};
 ghost use Rattle.mpw_told.specs.Told.{Refuses};
 
 use crate::target::Target;
 use mpw_deck::{Check, Rule};
 use mpw_geom::Layer;
-use mpw_structures::Element;
 use mpw_tiles::Snapshot;
 use mpw_told::{FirmFault, refusal};
-use mpw_walk::Walk;
-use std::alloc::Global;
+use std::alloc::{AllocError, Global};
 
-/// Whether two layers are one.
-pub(crate) fn same_layer(one: Layer, other: Layer) -> bool
-    ensures { result ≡ same_layer one other }
+/// Whether a layout shows a shape on a layer. It goes over the structures and their elements once, and not over the shapes.
+///
+/// # Errors
+/// Want of memory.
+fn shows(alloc: Global, snapshot: &Snapshot, layer: Layer) -> Result<bool, AllocError>
+    ensures { IfOk result (λ shown. shown ≡ shows snapshot.now layer) }
 {
-    (one.layer == other.layer) & (one.datatype == other.datatype)
+    mpw_layers::shows(alloc, snapshot.shelf(), snapshot.roots(), layer)
 }
 
-/// Whether a shape is on a layer.
-pub(crate) fn is_on(element: &Element, layer: Layer) -> bool
-    ensures { result ≡ is_on layer element.now }
+/// The first of two layers on which a layout shows no shape.
+///
+/// # Errors
+/// Want of memory.
+fn empty_of(
+    alloc: Global,
+    snapshot: &Snapshot,
+    first: Layer,
+    second: Layer,
+) -> Result<Option<Layer>, AllocError>
+    ensures { IfOk result (λ empty. empty ≡ empty_of snapshot.now first second) }
 {
-    match element {
-        Element::Boundary(boundary) => same_layer(boundary.layer, layer),
-        Element::Path(path) => same_layer(path.get().layer, layer),
-        Element::Reference(_) => false,
+    if !shows(alloc, snapshot, first)? {
+        return Ok(Some(first));
     }
-}
-
-/// Whether a layout shows a shape on a layer. It walks over the shapes up to the first that is.
-#[tactic(auto, unfolding(crate::specs::Looks::shows))]
-fn shows(snapshot: &Snapshot, layer: Layer) -> bool
-    ensures { result ≡ shows snapshot.now layer }
-{
-    snapshot.is_snapshot();
-    let mut walk = Walk::new(snapshot.shelf(), snapshot.roots());
-    while let Some(placed) = walk.next() {
-        if is_on(placed.element, layer) {
-            return true;
-        }
+    if !shows(alloc, snapshot, second)? {
+        return Ok(Some(second));
     }
-    false
+    Ok(None)
 }
 
 /// A layer of a check on which a layout shows no shape, the first of them.
-pub(crate) fn empty_layer(snapshot: &Snapshot, check: Check) -> Option<Layer>
-    ensures { result ≡ empty_layer snapshot.now check }
+///
+/// # Errors
+/// Want of memory.
+pub(crate) fn empty_layer(
+    alloc: Global,
+    snapshot: &Snapshot,
+    check: Check,
+) -> Result<Option<Layer>, AllocError>
+    ensures { IfOk result (λ empty. empty ≡ empty_layer snapshot.now check) }
 {
     match check {
         Check::Width(layer) | Check::Space(layer) => {
-            if shows(snapshot, layer) {
-                None
-            } else {
-                Some(layer)
-            }
+            let shown = shows(alloc, snapshot, layer)?;
+            Ok(if shown { None } else { Some(layer) })
         }
         Check::Separation(first, second) | Check::Enclosing(first, second) => {
-            if !shows(snapshot, first) {
-                Some(first)
-            } else if shows(snapshot, second) {
-                None
-            } else {
-                Some(second)
-            }
+            empty_of(alloc, snapshot, first, second)
         }
     }
 }
 
 /// Whether a layout shows shapes on each layer of these rules.
-fn all_look(snapshot: &Snapshot, rules: &[Rule]) -> bool
-    ensures { result ≡ list_all (λ rule. is_none (empty_layer snapshot.now rule.check)) rules.now }
+///
+/// # Errors
+/// Want of memory.
+fn all_look(alloc: Global, snapshot: &Snapshot, rules: &[Rule]) -> Result<bool, AllocError>
+    ensures { IfOk result (λ look. look ≡ list_all (λ rule. is_none (empty_layer snapshot.now rule.check)) rules.now) }
 {
     for rule in rules {
-        if empty_layer(snapshot, rule.check).is_some() {
-            return false;
+        if empty_layer(alloc, snapshot, rule.check)?.is_some() {
+            return Ok(false);
         }
     }
-    true
+    Ok(true)
 }
 
 /// Whether there are rules, and a layout shows shapes on each of their layers.
-fn looks(snapshot: &Snapshot, rules: &[Rule]) -> bool
-    ensures { result ≡ looks snapshot.now rules.now }
+///
+/// # Errors
+/// Want of memory.
+fn looks(alloc: Global, snapshot: &Snapshot, rules: &[Rule]) -> Result<bool, AllocError>
+    ensures { IfOk result (λ look. look ≡ looks snapshot.now rules.now) }
 {
     match rules {
-        [] => false,
-        _ => all_look(snapshot, rules),
+        [] => Ok(false),
+        _ => all_look(alloc, snapshot, rules),
     }
 }
 
@@ -117,7 +116,7 @@ pub fn look(
     ensures looked { IfOk result (λ _. IsLookedAt strict snapshot.now) }
     ensures refused { IfErr result (IsOfLook target.now strict snapshot.now) }
 {
-    if strict && !looks(snapshot, snapshot.deck().rules().as_slice()) {
+    if strict && !looks(alloc, snapshot, snapshot.deck().rules().as_slice())? {
         return Err(told_of_nothing(alloc, target.file, target.top.as_str()));
     }
     Ok(())

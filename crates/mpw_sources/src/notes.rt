@@ -1,122 +1,39 @@
 //! What is told of what a check looks at: rules that look at nothing, and layers that no rule names. `specs/Notes.antt` has what
 //! contracts say of it.
 ghost use Rattle.std.specs.Prelude.{◌≡◌, ◌++◌, map, IfOk};
-ghost use Rattle.std.specs.List.{flat_map, list_any};
+ghost use Rattle.std.specs.List.{flat_map};
 ghost use Rattle.mpw_report.specs.Content.{note_of};
-ghost use Rattle.mpw_geom.specs.Layers.{same_layer};
-ghost use Rattle.mpw_sources.specs.Notes.{counted, idle_note, idle_notes, is_named, names, notes_of, rule_notes, shapes_on, unnamed_layers, unnamed_note, with_layer, with_shape};
+ghost use Rattle.mpw_sources.specs.Notes.{idle_note, idle_notes, notes_of, rule_notes, shapes_on, unnamed_layers, unnamed_note};
 
-use crate::looked::{empty_layer, is_on, same_layer};
-use mpw_deck::{Check, Rule};
+use crate::looked::empty_layer;
+use mpw_deck::Rule;
 use mpw_geom::Layer;
+use mpw_layers::{Layers, layer_count};
 use mpw_report::Note;
-use mpw_structures::Element;
 use mpw_tiles::Snapshot;
-use mpw_walk::Walk;
 use std::alloc::{AllocError, Global};
 use std::io;
 
-/// How many layers are told that no rule names.
-const MAX_LAYERS: usize = 64;
-
-/// Whether a check names a layer.
-fn names(check: Check, layer: Layer) -> bool
-    ensures { result ≡ names layer check }
+/// The layers with shapes that no rule names, in the order in which they come, at most 64. It goes over the structures and their elements
+/// once, and not over the shapes.
+///
+/// # Errors
+/// Want of memory.
+fn unnamed_layers(alloc: Global, snapshot: &Snapshot) -> Result<Layers, AllocError>
+    ensures { IfOk result (λ layers. layers ≡ unnamed_layers snapshot.now) }
 {
-    match check {
-        Check::Width(one) | Check::Space(one) => same_layer(one, layer),
-        Check::Separation(one, other) | Check::Enclosing(one, other) => {
-            same_layer(one, layer) | same_layer(other, layer)
-        }
-    }
-}
-
-/// Whether one of these rules names a layer.
-fn is_named(rules: &[Rule], layer: Layer) -> bool
-    ensures { result ≡ is_named rules.now layer }
-{
-    for rule in rules {
-        if names(rule.check, layer) {
-            return true;
-        }
-    }
-    false
-}
-
-/// Whether a layer is one of these.
-fn is_there(layers: &[Layer], layer: Layer) -> bool
-    ensures { result ≡ list_any (same_layer layer) layers.now }
-{
-    for other in layers {
-        if same_layer(layer, *other) {
-            return true;
-        }
-    }
-    false
-}
-
-/// Adds a layer that no rule names, if there are not so many yet.
-fn add_layer(layers: &mut Vec<Layer>, rules: &[Rule], layer: Layer) -> Result<(), AllocError>
-    ensures { IfOk result (λ _. layers.new.items ≡ with_layer rules.now layers.old.items layer) }
-{
-    if is_named(rules, layer) | is_there(layers.as_slice(), layer) {
-        return Ok(());
-    }
-    if layers.len() < MAX_LAYERS {
-        layers.push(layer)?;
-    }
-    Ok(())
-}
-
-/// Adds the layer of a shape.
-fn add_shape(layers: &mut Vec<Layer>, rules: &[Rule], element: &Element) -> Result<(), AllocError>
-    ensures { IfOk result (λ _. layers.new.items ≡ with_shape rules.now layers.old.items element.now) }
-{
-    match element {
-        Element::Boundary(boundary) => add_layer(layers, rules, boundary.layer),
-        Element::Path(path) => add_layer(layers, rules, path.get().layer),
-        Element::Reference(_) => Ok(()),
-    }
-}
-
-/// The layers with shapes that no rule names, in the order in which they come, at most 64.
-#[tactic(auto, unfolding(crate::specs::Notes::unnamed_layers))]
-fn unnamed_layers(alloc: Global, snapshot: &Snapshot) -> Result<Vec<Layer>, AllocError>
-    ensures { IfOk result (λ layers. layers.items ≡ unnamed_layers snapshot.now) }
-{
-    snapshot.is_snapshot();
     let rules = snapshot.deck().rules().as_slice();
-    let mut layers = Vec::new(alloc);
-    let mut walk = Walk::new(snapshot.shelf(), snapshot.roots());
-    while let Some(placed) = walk.next() {
-        add_shape(&mut layers, rules, placed.element)?;
-    }
-    Ok(layers)
+    mpw_layers::unnamed_layers(alloc, snapshot.shelf(), snapshot.roots(), rules)
 }
 
-/// A number of shapes, with one more if that shape is on the layer, up to 2^64 - 1.
-fn counted(shapes: usize, layer: Layer, element: &Element) -> usize
-    ensures { result ≡ counted layer shapes element.now }
+/// How many shapes on a layer a layout shows. It goes over the structures and their elements once, and not over the shapes.
+///
+/// # Errors
+/// Want of memory.
+fn shapes_on(alloc: Global, snapshot: &Snapshot, layer: Layer) -> Result<usize, AllocError>
+    ensures { IfOk result (λ shapes. shapes ≡ shapes_on snapshot.now layer) }
 {
-    if is_on(element, layer) {
-        shapes.saturating_add(1)
-    } else {
-        shapes
-    }
-}
-
-/// How many shapes on a layer a layout shows.
-#[tactic(auto, unfolding(crate::specs::Notes::shapes_on))]
-fn shapes_on(snapshot: &Snapshot, layer: Layer) -> usize
-    ensures { result ≡ shapes_on snapshot.now layer }
-{
-    snapshot.is_snapshot();
-    let mut shapes = 0usize;
-    let mut walk = Walk::new(snapshot.shelf(), snapshot.roots());
-    while let Some(placed) = walk.next() {
-        shapes = counted(shapes, layer, placed.element);
-    }
-    shapes
+    layer_count(alloc, snapshot.shelf(), snapshot.roots(), layer)
 }
 
 /// That a deck has no rules, where it has none.
@@ -158,7 +75,8 @@ fn idle_notes<'a>(
 {
     let mut notes = Vec::new(alloc);
     for rule in rules {
-        add_idle(&mut notes, rule, empty_layer(snapshot, rule.check))?;
+        let empty = empty_layer(alloc, snapshot, rule.check)?;
+        add_idle(&mut notes, rule, empty)?;
     }
     Ok(notes)
 }
@@ -173,14 +91,17 @@ fn unnamed_notes<'a>(
 {
     let mut notes = Vec::new(alloc);
     for layer in layers {
-        notes.push(Note::Unnamed(*layer, shapes_on(snapshot, *layer)))?;
+        let shapes = shapes_on(alloc, snapshot, *layer)?;
+        notes.push(Note::Unnamed(*layer, shapes))?;
     }
     Ok(notes)
 }
 
 /// What is told of what a check of a layout looks at: that its deck has no rules; each rule that looks at nothing, with its layer that has no
-/// shapes; and each layer that no rule names, with how many shapes are on it, at most 64. It walks over all shapes for each layer
-/// of a rule that has none and for each layer that no rule names, and once besides.
+/// shapes; and each layer that no rule names, with how many shapes are on it, at most 64.
+///
+/// It goes over the structures and their elements once for each layer of each rule and for each layer that no rule names, and once
+/// besides, and not over the shapes, whatever the number of instances is. Memory for a number, or for 64 layers at most, each structure.
 ///
 /// # Errors
 /// Want of memory.

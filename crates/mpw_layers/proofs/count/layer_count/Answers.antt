@@ -10,5 +10,5 @@ returns c =
     let numbers = c.in_ok-counts.counts.items in
     c.roots_number.ensures
     ∙ ap (λ ns. told (sum_by (root_number ns) c.args.roots.now)) c.deref.ensures.value
-    ∙ ap told (roots_told c.names_are_shown.ensures c.args.shelf.now c.args.layer numbers
-    c.in_ok-counts.ensures c.args.roots.now)
+    ∙ roots_told c.names_are_shown.ensures c.args.shelf.now c.args.layer numbers
+    c.in_ok-counts.ensures c.args.roots.now

@@ -9,7 +9,6 @@ returns c =
     ∙ ap (λ numbers. slice_index numbers (length c.unwrap-nodes.result.now - 1))
     c.deref.ensures.value
     ∙ count_told c.args.layer c.names_are_shown.ensures c.args.shelf.now c.args.number
-    (λ k. (c.shelves_have_their_numbers.ensures.limits c.args.shelf.now c.is_shelf.ensures k).few)
     c.nodes.result c.unwrap-nodes.result c.unwrap-nodes.ensures c.nodes.ensures.some c.get.result
     c.unwrap.result c.unwrap.ensures c.get.ensures c.structures-structures.result.now
     c.structures-structures.ensures c.args.outer.now c.requires.outer c.in_ok-numbers.numbers.items

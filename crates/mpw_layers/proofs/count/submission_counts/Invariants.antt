@@ -1,5 +1,5 @@
-use Rattle.mpw_layers.specs.Internal.Counts.{AreOfFirst}
+use Rattle.mpw_layers.specs.Internal.Counts.{AreCounts}
 use Rattle.mpw_layers.proofs.count.submission_counts.Given as goal
 
 abbrev pub invariant-loop-place : goal.invariant-loop-place
-invariant-loop-place l = AreOfFirst l.shelf l.layer l.place l.counts.items
+invariant-loop-place l = AreCounts l.shelf l.layer l.place l.counts.items

@@ -1,6 +1,6 @@
 use Rattle.std.proofs.Common.{◌≡◌, drop}
-use Rattle.mpw_sources.specs.Notes.{is_named}
-use Rattle.mpw_sources.proofs.notes.is_named.Given as goal
+use Rattle.mpw_layers.specs.Unnamed.{is_named}
+use Rattle.mpw_layers.proofs.named.is_named.Given as goal
 
 -- none of the rules so far names the layer
 abbrev pub invariant-loop-rule : goal.invariant-loop-rule

@@ -1,7 +1,7 @@
 use Rattle.std.proofs.Common.{◌≡◌, drop}
 use Rattle.std.specs.List.{list_any}
 use Rattle.mpw_geom.specs.Layers.{same_layer}
-use Rattle.mpw_sources.proofs.notes.is_there.Given as goal
+use Rattle.mpw_layers.proofs.layers.is_there.Given as goal
 
 -- none of the layers so far is the layer
 abbrev pub invariant-loop-other : goal.invariant-loop-other
