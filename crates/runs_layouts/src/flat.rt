@@ -187,6 +187,13 @@ fn layer(element: &Element) -> Option<Layer> {
     }
 }
 
+impl Shown<'_> {
+    /// The layer of the shape.
+    pub fn layer(&self) -> Option<Layer> {
+        layer(self.element)
+    }
+}
+
 /// Whether the walk gives the list and then ends.
 pub fn gives(walk: &mut Walk, list: &[Shown<'_>]) -> bool {
     for shown in list {

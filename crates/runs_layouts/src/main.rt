@@ -13,10 +13,13 @@
 //! - `within x0 y0 x1 y1, N R90 x y, ..` prints each shape of placed submissions that meets a window;
 //! - `seen N 101` prints how many shapes of a submission come from those submissions with a `1`, by number, of how many;
 //!   with `walked` behind it, how many a walk gives too;
-//! - `walks N` compares walks over random shelves with a plain flattening, and numbers of seen shapes with walks.
+//! - `layers N` prints the layers of a submission's shapes, 64 at most, in the order in which they come, with how many are on each;
+//! - `walks N` compares walks over random shelves, and what nodes tell of layers, with a plain flattening, and numbers of seen shapes
+//!   with walks.
 #![tactic(auto)]
 
 mod flat;
+mod layers;
 mod random;
 mod seen;
 mod shelves;
@@ -44,6 +47,7 @@ fn answer(rt: &(impl Print + AllocGlobal), shelf: &mut Shelf, line: &str) -> Res
     match words.as_slice() {
         ["outside", top] => shelves::outside(rt, top, notation),
         ["walks", count] => walks::compared(rt, count),
+        ["layers", number] => layers::print_layers(rt, shelf, number),
         ["seen", number, flags] => seen::print_seen(rt, shelf, number, flags),
         ["seen", number, flags, "walked"] => seen::print_walked(rt, shelf, number, flags),
         words => shelves::answer(rt, shelf, words, notation),

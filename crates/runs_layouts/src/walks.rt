@@ -1,6 +1,7 @@
 //! Walks over placed submissions.
 
 use crate::flat::{flat_list, gives};
+use crate::layers;
 use crate::random::Random;
 use crate::seen::agree;
 use anyhow::{Result, bail};
@@ -86,7 +87,8 @@ fn told(shelf: &Shelf, roots: &[Root]) -> usize {
     count
 }
 
-/// Walks over a random shelf, and tells how many shapes it shows, or none where the flat list, or a number of seen shapes, differs.
+/// Walks over a random shelf, and tells how many shapes it shows, or none where the flat list, a number of seen shapes, or what nodes
+/// tell of layers differs.
 fn compared_one(alloc: Global, random: &mut Random) -> Result<Option<usize>> {
     let shelf = random.shelf(alloc)?;
     let roots = random.roots(alloc, &shelf)?;
@@ -97,14 +99,15 @@ fn compared_one(alloc: Global, random: &mut Random) -> Result<Option<usize>> {
     let seen = random.flags(alloc, shelf.submissions().len())?;
     let mut again = Walk::new(&shelf, &roots);
     let seen_agree = agree(alloc, &shelf, &roots, &mut again, &seen)?;
+    let layers_agree = layers::agree(alloc, &shelf, &roots, &list)?;
     let mut walk = Walk::new(&shelf, &roots);
-    if seen_agree && gives(&mut walk, &list) && list.len() == told(&shelf, &roots) {
+    if seen_agree && layers_agree && gives(&mut walk, &list) && list.len() == told(&shelf, &roots) {
         return Ok(Some(list.len()));
     }
     Ok(None)
 }
 
-/// Compares walks over so many random shelves with a plain flattening, and numbers of seen shapes with walks.
+/// Compares walks over so many random shelves, and what nodes tell of layers, with a plain flattening, and numbers of seen shapes with walks.
 pub fn compared(rt: &(impl Print + AllocGlobal), word: &str) -> Result<()> {
     let Ok(shelves) = word.parse::<u32>() else {
         bail!("a number");
