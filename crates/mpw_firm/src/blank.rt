@@ -53,6 +53,9 @@ pub fn blank_layout(alloc: Global, deck: Deck, top: &Name) -> Result<Snapshot, C
     ensures drawn { IfOk result (IsDrawnFrom deck top.now (blank_text top.now)) }
     ensures faults { IfErr result (IsOfText top.now (blank_text top.now)) }
 {
-    let text = Arc::new(alloc, blank_text(alloc, top)?)?;
+    let text = match Arc::new(alloc, blank_text(alloc, top)?) {
+        Ok(text) => text,
+        Err(error) => return Err(AllocError::from(error).into()),
+    };
     read_layout(alloc, deck, top, &text)
 }
