@@ -152,9 +152,9 @@ module _ (l : Layout) (w : IsLayout l) where
           })).items
 
       shapes_are : (t : Placing) → structure_shapes t (slice_get l.structures.now node.structure)
-          node.shapes.items ≡ map (placed_item t) (own_items 0 is_node.structure.elements)
+          node.shapes ≡ map (placed_item t) (own_items 0 is_node.structure.elements)
       shapes_are t =
-          ap (λ o. structure_shapes t o node.shapes.items) structure_is
+          ap (λ o. structure_shapes t o node.shapes) structure_is
           ∙ ap (shapes_shown t is_node.structure.elements) is_node.shapes
           ∙ shapes_all t [] is_node.structure.elements
 
@@ -184,7 +184,7 @@ module _ (l : Layout) (w : IsLayout l) where
           same_child (Some (elements.Reference r)) = ap (placed_items r) (named_is r.name)
 
       pub node_opens : (t : Placing) → structure_shapes t
-          (slice_get l.structures.now node.structure) node.shapes.items
+          (slice_get l.structures.now node.structure) node.shapes
           ++ structure_children t (name_shown l.shelf.now)
           (slice_get l.structures.now node.structure) node.children.items
           ≡ map (placed_item t) (place_shown l.shelf.now node.structure)

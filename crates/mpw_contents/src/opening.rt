@@ -170,12 +170,12 @@ impl<'a> Layout<'a> {
     fn put_shapes(&self, node: &Node, placing: Placing, things: &mut Vec<Thing>) -> Result<(), Stop>
         requires layout { IsLayout self.now }
         requires near { IsInPlane placing.by }
-        ensures { OnOk result (Adds self.now (structure_shapes placing (slice_get self.now.structures.now node.now.structure) node.now.shapes.items) things.old.items things.new.items) }
+        ensures { OnOk result (Adds self.now (structure_shapes placing (slice_get self.now.structures.now node.now.structure) node.now.shapes) things.old.items things.new.items) }
     {
-        for place in &node.shapes {
+        for index in 0..node.shapes.len() {
             let shape = Shape {
                 structure: node.structure,
-                element: *place,
+                element: node.shapes.at(index),
                 placing,
             };
             self.put_shape(shape, things)?;

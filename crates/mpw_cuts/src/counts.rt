@@ -94,8 +94,8 @@ impl Counts {
             return self.add(reach, placed.times.saturating_mul(node.size.count));
         }
         let elements = structure.elements.as_slice();
-        for place in node.shapes.iter() {
-            self.add_shape(elements, *place, placed);
+        for index in 0..node.shapes.len() {
+            self.add_shape(elements, node.shapes.at(index), placed);
         }
         for child in node.children.iter() {
             if let Some(array) = array_of(elements, child.element, child.target, placed) {

@@ -168,7 +168,7 @@ module _ {ss : List Submission} {s : Submission} {table : BTreeMap (List ℕ) �
     }
 
     module _ (node : Node) (at : node.structure ≡ place)
-        (shapes : node.shapes.items ≡ shape_places 0 structure.elements)
+        (shapes : node.shapes ≡ shape_places 0 structure.elements)
         (children : AreChildren s (flats ss) nodes 0 structure.elements node.children.items)
         (size : IsSizeHere ss s structure.name node.size) where
       added_node : IsNode (flats ss) (heights ss) s nodes node

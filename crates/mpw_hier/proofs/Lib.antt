@@ -31,3 +31,4 @@ pub mod Origins
 pub mod Stays
 pub mod Holding
 pub mod Named
+pub mod Runs

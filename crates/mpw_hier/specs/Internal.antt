@@ -5,5 +5,6 @@ pub mod Graph
 pub mod Indexed
 pub mod Limits
 pub mod Outside
+pub mod Places
 pub mod SizeParts
 pub mod Sizes

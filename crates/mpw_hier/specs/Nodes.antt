@@ -69,7 +69,7 @@ pub record IsNode (before : List (List Item)) (levels : List ℕ) (s : Submissio
   pub named : place_of s.library structure.name ≡ Some node.structure
   pub below : (name : List ℕ) → contains_name (referenced_names structure.elements) name ≡ true
       → (target : Target) × IsTarget s (length before) earlier name target
-  pub shapes : node.shapes.items ≡ shape_places 0 structure.elements
+  pub shapes : node.shapes ≡ shape_places 0 structure.elements
   pub children : AreChildren s before earlier 0 structure.elements node.children.items
   pub size : IsSizeOf (structure_items before s structure.name)
       (structure_levels levels s structure.name) node.size

@@ -19,6 +19,7 @@ use crate::bindings::Binding;
 use crate::fault::HierFault;
 use crate::node::{Child, Node, Target};
 use crate::outline::Outline;
+use crate::places::Places;
 use crate::size::{Size, size_of};
 use crate::submission::Submission;
 use crate::table::Table;
@@ -74,7 +75,7 @@ impl Drop for Parts {
 impl Parts {
     /// The node of the structure at a place, which has these parts and a size.
     fn into_node(self, place: usize, size: Size) -> Node
-        ensures { result ≡ record { structure = place; shapes = self.shapes; children = self.children; size = size } }
+        ensures { result ≡ record { structure = place; shapes = self.shapes.items; children = self.children; size = size } }
     {
         let Parts {
             shapes,
@@ -84,7 +85,7 @@ impl Parts {
         drop(below);
         Node {
             structure: place,
-            shapes,
+            shapes: Places::of(shapes),
             children,
             size,
         }

@@ -19,6 +19,7 @@ mod node;
 mod order;
 mod outline;
 mod outside;
+mod places;
 mod shelf;
 mod size;
 mod size_array;
@@ -35,6 +36,7 @@ pub use laws::{
 };
 pub use node::{Child, Node, Nodes, Target};
 pub use outline::Outline;
+pub use places::Places;
 pub use shelf::Shelf;
 pub use size::{MAX_SHAPES, Size};
 pub use size_box::{hull, is_box_near};

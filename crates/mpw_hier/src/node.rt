@@ -1,5 +1,6 @@
 //! The hierarchy of a submission: the structures that its top reaches, from below.
 
+use crate::places::Places;
 use crate::size::Size;
 use mpw_lists::SharedList;
 
@@ -26,7 +27,7 @@ pub struct Node {
     /// Where the structure stands in the library.
     pub structure: usize,
     /// Where its own shapes stand among its elements, in file order.
-    pub shapes: Vec<usize>,
+    pub shapes: Places,
     /// Its references that show something, in file order.
     pub children: Vec<Child>,
     /// How much the structure shows with all that it places.

@@ -14,7 +14,7 @@ use Rattle.mpw_structures.specs.declared.coordinates.Text.{Text}
 use Rattle.mpw_structures.specs.declared.coordinates.Coordinates.{Coordinates}
 use Rattle.mpw_structures.specs.declared.coordinates.Coordinates.TheVariants.{Shared}
 use Rattle.mpw_structures.specs.Coordinates.{scaled, point_from, no_point}
-use Rattle.mpw_structures.specs.Internal.Coordinates.{points_from, points_in, Fits, IsWithin, HasUnit}
+use Rattle.mpw_structures.specs.Internal.Coordinates.{points_from, points_in, Fits, IsWithin}
 
 narrow : (n : ℕ) → unsigned_abs (cast_signed w32 n) ≤ 2 ^ 31
 narrow n = grind (arith, nat_tests, ints)
@@ -96,7 +96,3 @@ shared_point source text at count i ps e view h =
     let less : i < count = omega (arith, h, shared_length source text at count ps e view) in
     ap (λ xs. get_or xs i no_point) (sym same)
     ∙ point_of text.unit text.bytes.value.items at count i less
-
-pub shared_unit : (source : Coordinates) (text : Text) → source ≡ Shared text → HasUnit source
-    → text.unit ≤ 1000
-shared_unit source text e h = subst HasUnit e h

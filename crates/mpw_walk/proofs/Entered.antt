@@ -132,14 +132,14 @@ module _ (ss : List Submission) (n : ℕ) (s : Submission) (is : slice_get ss n 
   pub node_turns : (nodes : List Node) (k : ℕ) (node : Node) (structure : Structure)
       → AreNodesOf before levels s nodes → slice_get nodes k ≡ Some node
       → slice_get s.library node.structure ≡ Some structure
-      → turns_of_shapes n structure.elements node.shapes.items
+      → turns_of_shapes n structure.elements node.shapes
       ++ turns_of_children (named_turns ss n) structure.elements 0 0 node.children.items
       ≡ shown_turns n structure (named_turns ss n)
   node_turns nodes k node structure w at here =
       let m = w.each k node at in
       let same = one (slice_get s.library node.structure) m.structure structure m.is here in
       let es = structure.elements in
-      let shapes : turns_of_shapes n es node.shapes.items ≡ map give (own_items n es) =
+      let shapes : turns_of_shapes n es node.shapes ≡ map give (own_items n es) =
       ap (turns_of_shapes n es) m.shapes
       ∙ ap (λ (x : Structure). turns_of_shapes n es (shape_places 0 x.elements)) same
       ∙ shapes_all n [] es in

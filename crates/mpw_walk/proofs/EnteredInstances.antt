@@ -25,7 +25,7 @@ use Rattle.mpw_walk.specs.Internal.Named.{NamesAreWalked}
 use Rattle.mpw_walk.specs.Internal.Skips.{Skips}
 use Rattle.mpw_walk.specs.Internal.Stack.{Stack}
 use Rattle.mpw_walk.specs.Near.{IsCloseItem}
-use Rattle.mpw_walk.specs.Window.{is_in, taken}
+use Rattle.mpw_walk.specs.Window.{is_in}
 use Rattle.mpw_walk.specs.Way.{IsWay}
 use Rattle.mpw_walk.proofs.Placings.{then_is}
 use Rattle.mpw_walk.proofs.Given.{given_append, given_placed}
@@ -95,7 +95,7 @@ module _ (law : NamesAreWalked) (v : Way) (f : Frame) (w : IsWay v (v.frames.ite
     pub near : IsExtentNear g.node.now.size.extent
     near = (shown (last_frame v f w).submission (last_frame v f w).is).size.near
 
-    module _ (over : length f.node.now.shapes.items ≤ f.shape) where
+    module _ (over : length f.node.now.shapes ≤ f.shape) where
       abbrev behind : List Frame
       behind = v.frames.items ++ behind_instance f r ∷ []
 

@@ -33,7 +33,7 @@ abbrev pub behind_shape : Frame → Frame
 behind_shape f = record f { shape = f.shape + 1 }
 
 module _ (law : NamesAreWalked) (v : Way) (f : Frame) (w : IsWay v (v.frames.items ++ f ∷ []))
-    (h : f.shape < length f.node.now.shapes.items) (placed : Placed) (shape : IsShape f placed) where
+    (h : f.shape < length f.node.now.shapes) (placed : Placed) (shape : IsShape f placed) where
   -- what its test asks for
   pub given_near : IsExtentNear (element_box placed.element.now)
   given_near =
@@ -51,11 +51,11 @@ module _ (law : NamesAreWalked) (v : Way) (f : Frame) (w : IsWay v (v.frames.ite
       let structure : IsStructure frame.structure =
       at_all IsStructure frame.submission.library f.node.now.structure frame.structure read
       frame.named in
-      let at : slice_get frame.structure.elements (slice_index f.node.now.shapes.items f.shape)
+      let at : slice_get frame.structure.elements (slice_index f.node.now.shapes f.shape)
       ≡ Some placed.element.now = rw (← frame.elements_are) shape.element in
       record {
         element =
-            at_all IsElement frame.structure.elements (slice_index f.node.now.shapes.items f.shape)
+            at_all IsElement frame.structure.elements (slice_index f.node.now.shapes f.shape)
             placed.element.now structure.elements at;
         displacement = in_plane placed.placing.by given_short;
       }

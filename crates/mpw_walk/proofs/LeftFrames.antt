@@ -11,7 +11,7 @@ use Rattle.mpw_walk.proofs.FrameStacks.{left_more, each_front}
 use Rattle.mpw_walk.proofs.Steps.{Comes, ahead, passes}
 
 pub leaves : (v : Way) (f : Frame) → IsWay v (v.frames.items ++ f ∷ [])
-    → length f.node.now.shapes.items ≤ f.shape
+    → length f.node.now.shapes ≤ f.shape
     → slice_get f.node.now.children.items f.child ≡ None
     → Comes steps.On v (v.frames.items ++ f ∷ []) v
 leaves v f w over none =

@@ -59,8 +59,8 @@ places_within (e ∷ es) i =
     go false rest = rest
 
 pub shape_within : (ss : List Submission) (f : Frame) → IsFrame ss f
-    → f.shape < length f.node.now.shapes.items
-    → slice_index f.node.now.shapes.items f.shape < length f.elements.now
+    → f.shape < length f.node.now.shapes
+    → slice_index f.node.now.shapes f.shape < length f.elements.now
 shape_within ss f q h =
     let m = q.nodes.each q.place f.node.now q.at in
     let same = one (slice_get q.submission.library f.node.now.structure) m.structure q.structure
@@ -72,18 +72,18 @@ shape_within ss f q h =
     lt in
     let same_length : length es ≡ length f.elements.now = ap (λ x. length x.elements) same
     ∙ ap length (sym q.elements_are) in
-    let here : get_or f.node.now.shapes.items f.shape 0 ≡ get_or (shape_places 0 es) f.shape 0 =
+    let here : get_or f.node.now.shapes f.shape 0 ≡ get_or (shape_places 0 es) f.shape 0 =
     ap (λ ps. get_or ps f.shape 0) places in
     omega (arith, w, same_length, here)
 
 pub shape_next : (ss : List Submission) (f : Frame) (e : Element)
-    → f.shape < length f.node.now.shapes.items
-    → slice_get f.elements.now (slice_index f.node.now.shapes.items f.shape) ≡ Some e
+    → f.shape < length f.node.now.shapes
+    → slice_get f.elements.now (slice_index f.node.now.shapes f.shape) ≡ Some e
     → turns_to_come ss f ≡ give (record { origin = f.submission; placing = f.placing; element = e })
     ∷ turns_to_come ss (record f { shape = f.shape + 1 })
 unfolding turns_to_come turns_within
 shape_next ss f e h is =
-    let places = f.node.now.shapes.items in
+    let places = f.node.now.shapes in
     let next = drop_more places f.shape 0 h in
     rw (next, is, placed_here f.placing) refl
 
@@ -204,12 +204,12 @@ child_next ss f q target r x =
     (λ i t e. let z = rows_read ss f q i t e in omega (arith, z.rows.least))
     (drop (f.child + 1) cs))))
 
-pub shapes_over : (ss : List Submission) (f : Frame) → length f.node.now.shapes.items ≤ f.shape
+pub shapes_over : (ss : List Submission) (f : Frame) → length f.node.now.shapes ≤ f.shape
     → turns_to_come ss f ≡ map (placed_turn f.placing) (children_of ss f)
 unfolding turns_to_come turns_within
-shapes_over ss f h = rw (drop_all f.shape f.node.now.shapes.items h) refl
+shapes_over ss f h = rw (drop_all f.shape f.node.now.shapes h) refl
 
-pub frame_over : (ss : List Submission) (f : Frame) → length f.node.now.shapes.items ≤ f.shape
+pub frame_over : (ss : List Submission) (f : Frame) → length f.node.now.shapes ≤ f.shape
     → slice_get f.node.now.children.items f.child ≡ None → turns_to_come ss f ≡ []
 frame_over ss f h none =
     shapes_over ss f h ∙ rw (drop_all f.child f.node.now.children.items
@@ -218,7 +218,7 @@ frame_over ss f h none =
 -- an instance is entered that shows something
 pub instance_next : (again : BoxesArePlacedAgain) (ss : List Submission) (f : Frame)
     (q : IsFrame ss f) (target : Target) (r : Reference) → IsNext f target r
-    → length f.node.now.shapes.items ≤ f.shape
+    → length f.node.now.shapes ≤ f.shape
     → 0 < length (named_turns ss f.submission r.name)
     → turns_to_come ss f ≡ enter (option_map
     (placed_box (placed_again f.placing (instance r f.row f.column)))

@@ -85,7 +85,7 @@ module _ (law : ExtentsAreWalked) (ss : List Submission) (window : Option Box2) 
   pub record IsAt (f : Frame) : Type 0 where
     pub frame : IsFrame ss f
     pub next : IsNext f target r
-    pub over : length f.node.now.shapes.items ≤ f.shape
+    pub over : length f.node.now.shapes ≤ f.shape
     pub some : 0 < length (named_turns ss f.submission r.name)
 
   abbrev MissedAt : Frame → (row column : ℕ) → Type 0

@@ -69,15 +69,15 @@ flat_part P g (x ∷ xs) (suc k) h all =
     flat_part P g xs k (omega (arith, h)) (all_right P (g x) (flat_map g xs) all)
 
 pub shape_near : (law : NamesAreWalked) (ss : List Submission) (f : Frame) → IsFrame ss f
-    → (e : Element) → f.shape < length f.node.now.shapes.items
-    → slice_get f.elements.now (slice_index f.node.now.shapes.items f.shape) ≡ Some e
+    → (e : Element) → f.shape < length f.node.now.shapes
+    → slice_get f.elements.now (slice_index f.node.now.shapes f.shape) ≡ Some e
     → IsExtentNear (element_box e)
 shape_near law ss f q e h is =
     let n = f.submission in
     let m = q.nodes.each q.place f.node.now q.at in
     let name = m.structure.name in
     let es = q.structure.elements in
-    let places = f.node.now.shapes.items in
+    let places = f.node.now.shapes in
     let turns = named_turns ss n name in
     let outer = extent_of (given turns) in
     let In : Turn → Type 0 = IsTurnIn outer in

@@ -25,10 +25,10 @@ front_turns : (law : NamesAreWalked) (ss : List Submission) (g : Frame) (q : IsF
 unfolding turns_within
 front_turns law ss g q name shape child row column place =
     let n = g.submission in
-    let start : turns_of_shapes n g.elements.now (drop g.shape g.node.now.shapes.items)
+    let start : turns_of_shapes n g.elements.now (drop g.shape g.node.now.shapes)
     ++ turns_of_children (named_turns ss n) g.elements.now g.row g.column
     (drop g.child g.node.now.children.items)
-    ≡ turns_of_shapes n q.structure.elements g.node.now.shapes.items
+    ≡ turns_of_shapes n q.structure.elements g.node.now.shapes
     ++ turns_of_children (named_turns ss n) q.structure.elements 0 0
     g.node.now.children.items =
     rw (shape, child, row, column, q.elements_are) refl in

@@ -73,7 +73,7 @@ turns_of_children below es row column (c ∷ cs) =
 -- What is still to come of a frame's structure, in the structure's own coordinates, and as it is placed.
 unfoldable pub turns_within : List Submission → Frame → List Turn
 turns_within ss f =
-    turns_of_shapes f.submission f.elements.now (drop f.shape f.node.now.shapes.items)
+    turns_of_shapes f.submission f.elements.now (drop f.shape f.node.now.shapes)
     ++ turns_of_children (named_turns ss f.submission) f.elements.now f.row f.column
     (drop f.child f.node.now.children.items)
 

@@ -132,14 +132,14 @@ impl<'a> Frame<'a> {
 
     /// The next shape, placed.
     pub fn placed_element(&self) -> Placed<'a>
-        requires shape { self.now.shape < length self.now.node.now.shapes.items }
-        requires place { slice_index self.now.node.now.shapes.items self.now.shape < length self.now.elements.now }
+        requires shape { self.now.shape < length self.now.node.now.shapes }
+        requires place { slice_index self.now.node.now.shapes self.now.shape < length self.now.elements.now }
         ensures { IsShape self.now result }
     {
         Placed {
             origin: self.submission,
             placing: self.placing,
-            element: self.elements.get(self.node.shapes[self.shape]).unwrap(),
+            element: self.elements.get(self.node.shapes.at(self.shape)).unwrap(),
         }
     }
 

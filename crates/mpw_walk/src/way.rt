@@ -5,7 +5,7 @@
 //! turns. Each structure has fewer levels than the one that places it, so there are never more frames than
 //! levels.
 
-ghost use Rattle.std.specs.Prelude.{◌≡◌, ◌≤◌, ◌<◌, ◌+◌, [], ◌∷◌, ◌++◌, length, slice_get, Some, IfSome, IfNone};
+ghost use Rattle.std.specs.Prelude.{◌≡◌, ◌≤◌, ◌<◌, ◌+◌, ◌^◌, [], ◌∷◌, ◌++◌, length, slice_get, Some, IfSome, IfNone};
 ghost use Rattle.mpw_walk.specs.Internal.Frames.{IsNext, ShowsName};
 ghost use Rattle.mpw_walk.specs.Turns.{given, behind_first};
 ghost use Rattle.mpw_walk.specs.Way.{IsWay, IsPlaceable, left, item_of};
@@ -67,7 +67,7 @@ impl<'a> Way<'a> {
     fn enter(&mut self, frame: &Frame<'a>, target: Target, reference: &Reference)
         requires way { IsWay self.old (self.old.frames.items ++ frame.now ∷ []) }
         requires next { IsNext frame.now target reference.now }
-        requires shapes { length frame.now.node.now.shapes.items ≤ frame.now.shape }
+        requires shapes { length frame.now.node.now.shapes ≤ frame.now.shape }
         ensures way { IsWay self.new self.new.frames.items }
         ensures does { Does steps.On self.old (self.old.frames.items ++ frame.now ∷ []) self.new }
     {
@@ -88,7 +88,8 @@ impl<'a> Way<'a> {
     /// Takes the next shape of a frame that was the last.
     fn give(&mut self, frame: &Frame<'a>) -> Step<'a>
         requires way { IsWay self.old (self.old.frames.items ++ frame.now ∷ []) }
-        requires shape { frame.now.shape < length frame.now.node.now.shapes.items }
+        requires shape { frame.now.shape < length frame.now.node.now.shapes }
+        requires next { frame.now.shape + 1 < 2 ^ 64 }
         ensures way { IsWay self.new self.new.frames.items }
         ensures does { Does result self.old (self.old.frames.items ++ frame.now ∷ []) self.new }
     {

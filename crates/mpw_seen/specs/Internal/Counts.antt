@@ -35,7 +35,7 @@ child_number es own outer c =
 
 -- Its own shapes, where they are seen, and those of its children.
 abbrev pub own_number : Bool → Node → ℕ
-own_number seen node = if seen then length node.shapes.items else 0
+own_number seen node = if seen then length node.shapes else 0
 
 abbrev pub node_number : List Element → List ℕ → List ℕ → Bool → Node → ℕ
 node_number es own outer seen node =

@@ -60,7 +60,7 @@ IsNearArray r =
 pub record IsShape (f : Frame) (placed : Placed) : Type 0 where
   pub origin : placed.origin ≡ f.submission
   pub placing : placed.placing ≡ f.placing
-  pub element : slice_get f.elements.now (slice_index f.node.now.shapes.items f.shape)
+  pub element : slice_get f.elements.now (slice_index f.node.now.shapes f.shape)
       ≡ Some placed.element.now
 
 -- The frame behind the next instance: the next column, the next row, or the next child.

@@ -1,4 +1,4 @@
-use Rattle.std.proofs.Common.{◌≡◌, ◌≤◌, ◌∙◌, length, sym, ap, arith}
+use Rattle.std.proofs.Common.{◌≤◌, ◌∙◌, length, sym, ap, arith}
 use Rattle.mpw_hier.specs.Boxes.{hull_of_points}
 use Rattle.mpw_hier.proofs.ElementBoxes.{boxed_none, boxed_more, boxed_all, boxed_reach}
 use Rattle.mpw_hier.proofs.size_shape.path_box.Goals as goal

@@ -25,7 +25,7 @@ returns c =
     let l = c.args.self.now in
     let node = c.args.node.now in
     let structure = slice_get l.structures.now node.structure in
-    let shapes = structure_shapes c.args.placing structure node.shapes.items in
+    let shapes = structure_shapes c.args.placing structure node.shapes in
     let children =
     structure_children c.args.placing (name_shown l.shelf.now) structure node.children.items in
     on_ok_weaker c.put_children.result

@@ -4,7 +4,7 @@ use Rattle.mpw_contents.specs.Internal.Making.{Adds}
 use Rattle.mpw_contents.specs.Internal.Opening.{structure_shapes}
 use Rattle.mpw_contents.proofs.layout.Layout.put_shapes.Given as goal
 
-abbrev pub invariant-loop-place : goal.invariant-loop-place
-invariant-loop-place l =
+abbrev pub invariant-loop-index : goal.invariant-loop-index
+invariant-loop-index l =
     Adds l.self (structure_shapes l.placing (slice_get l.self.structures.now l.node.structure)
-    (take l.place-index l.node.shapes.items)) l.fn.things.items l.things.items
+    (take l.index l.node.shapes)) l.fn.things.items l.things.items

@@ -71,7 +71,7 @@ returns-clause-linked c =
     parts.children.items) c.as_slice.ensures c.in_ok-parts.ensures.children in
     let node : Node = record {
       structure = c.args.place;
-      shapes = parts.shapes;
+      shapes = parts.shapes.items;
       children = parts.children;
       size = c.in-Some.size;
     } in

@@ -1,5 +1,4 @@
-use Rattle.std.proofs.Common.{◌∙◌, ◌≡◌, ◌+◌, ◌*◌, ◌<◌, ◌≤◌, sym, arith}
-use Rattle.std.proofs.lemmas.Int.{ints}
+use Rattle.std.proofs.Common.{◌∙◌, ◌<◌, sym, arith}
 use Rattle.mpw_structures.specs.Internal.Coordinates.{IsWithin}
 use Rattle.mpw_structures.proofs.TextPoints.{shared_length, shared_within, shared_point}
 use Rattle.mpw_structures.proofs.points.Points.at.Goals as goal

@@ -26,8 +26,8 @@ returns c =
       })
       | in_default w ↦ let none = none_next c.reference.result _ c.reference.ensures.none
           w.in_default.is in
-          let over : length f.node.now.shapes.items ≤ f.shape =
-          omega (arith, c.if-frame-len.false, c.len.ensures, f.node.now.shapes.ok.0) in
+          let over : length f.node.now.shapes ≤ f.shape =
+          omega (arith, c.if-frame-len.false, c.len.ensures) in
           let left = leaves v f c.requires over none in
           rw w.self-is (record { way = left.way; does = left.does })
     ]
