@@ -6,8 +6,8 @@
 //! layout of that top alone, whatever the tiles' side ([`markers_are_the_librarys`]). A [`Progress`] is told how many tiles or
 //! columns are checked.
 //!
-//! [`check_tiles`] finds the markers of some tiles, so that the tiles can be spread over machines: the lists of all tiles, stitched, are
-//! the layout's markers again ([`tiles_make_the_layout`]).
+//! [`check_tiles`] finds the markers of some tiles: the lists of all tiles, stitched, are the layout's markers again
+//! ([`tiles_make_the_layout`]).
 #![tactic(auto)]
 
 mod check;

@@ -1,7 +1,7 @@
 -- Each pair step of a layout lies in a column of its axis, and columns follow on one another.
-use Rattle.std.proofs.Common.{◌≡◌, ℕ, ℤ, pos, ◌+ℤ◌, ◌-ℤ◌, ◌≤ℤ◌, ◌<ℤ◌, true, List, [], ◌∷◌, ◌++◌, inl, inr, refl, sym, subst, ◌∙◌, arith}
+use Rattle.std.proofs.Common.{◌≡◌, ℕ, ◌+◌, ◌-◌, ◌^◌, ◌<◌, ℤ, pos, ◌+ℤ◌, ◌-ℤ◌, ◌≤ℤ◌, ◌<ℤ◌, true, List, [], ◌∷◌, ◌++◌, inl, inr, refl, sym, subst, ◌∙◌, arith}
 use Rattle.std.specs.Prelude.{Contains}
-use Rattle.std.proofs.lemmas.Bool.{false≢true}
+use Rattle.std.proofs.lemmas.Bool.{false≢true, cases_lt}
 use Rattle.std.proofs.lemmas.Int.{ints, by_lt_z}
 use Rattle.std.proofs.lemmas.List.Elements.{Contains-append_right, Contains-append_cases, Contains-push_cases}
 use Rattle.mpw_geom.specs.declared.plane.Box2.{Box2}
@@ -15,9 +15,10 @@ use Rattle.mpw_edges.specs.Edges.{Squares}
 use Rattle.mpw_edges.specs.Steps.{IsPairStep}
 use Rattle.mpw_tiles.specs.Laws.{LieIn}
 use Rattle.mpw_job.specs.Layers.{Coverage, first_squares, second_squares}
-use Rattle.mpw_columns.specs.declared.column.Column.{Column}
-use Rattle.mpw_columns.specs.Seen.{seen_box, seen_on}
-use Rattle.mpw_columns.specs.Columns.{AreColumns}
+use Rattle.mpw_keys.specs.declared.column.Column.{Column}
+use Rattle.mpw_keys.specs.Columns.{seen_box, AreColumns}
+use Rattle.mpw_columns.specs.Seen.{seen_on}
+use Rattle.mpw_columns.specs.Internal.Found.{AreFew}
 use Rattle.mpw_columns.proofs.Showing.{seen_has}
 
 -- ---- columns that follow on one another
@@ -108,6 +109,29 @@ pub moved : (a b : Axis) (low x y : ℤ) (cs : List Column) → a ≡ b → x �
     → AreColumns a low x cs → AreColumns b low y cs
 moved a b low x y cs e f h =
     subst (λ (d : Axis). AreColumns d low y cs) e (subst (λ (z : ℤ). AreColumns a low z cs) f h)
+
+-- ---- how many columns there are
+
+-- one more behind others
+pub one_behind : (depth before now : ℕ) → now ≡ before + 1 → AreFew depth before now
+one_behind depth before now e = record {
+  early = λ less. omega (arith, less, e);
+  late = λ more. omega (arith, e);
+}
+
+-- those of the left half, and behind them those of the right one, where not too many stand before them
+pub few_behind : (depth before mid now : ℕ) → 0 < depth → before < 2 ^ 20
+    → AreFew (depth - 1) before mid → AreFew (depth - 1) mid now → AreFew depth before now
+few_behind depth before mid now some few first second = record {
+  early = λ less. elim (cases_lt mid (2 ^ 20)) [
+    | inl little ↦ let bound = second.early little in omega (arith, bound)
+    | inr much ↦
+        let bound = first.early few in
+        let one = second.late much in
+        omega (arith, some, bound, one)
+  ];
+  late = λ more. absurd (omega (arith, few, more));
+}
 
 -- ---- where the first edge of a step stands
 

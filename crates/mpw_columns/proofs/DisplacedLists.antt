@@ -18,17 +18,18 @@ use Rattle.mpw_markers.specs.Markers.{line_of_key}
 use Rattle.mpw_job.specs.Computed.{shown_on}
 use Rattle.mpw_job.specs.Layers.{Coverage}
 use Rattle.mpw_job.proofs.Tests.{get_contains, rule_of}
-use Rattle.mpw_columns.specs.declared.column.Column.{Column}
-use Rattle.mpw_columns.specs.Seen.{seen_box, seen_on}
-use Rattle.mpw_columns.specs.Columns.{upright}
-use Rattle.mpw_columns.specs.Displaced.{displaced, displaced_key, IsDisplaced}
+use Rattle.mpw_keys.specs.declared.column.Column.{Column}
+use Rattle.mpw_keys.specs.Columns.{seen_box, upright}
+use Rattle.mpw_keys.specs.Keys.{displaced_key, HasNearEdges}
+use Rattle.mpw_keys.proofs.KeyOrder.{order_kept}
+use Rattle.mpw_columns.specs.Seen.{seen_on}
+use Rattle.mpw_columns.specs.Displaced.{displaced, IsDisplaced}
 use Rattle.mpw_columns.specs.Found.{IsFound}
 use Rattle.mpw_columns.specs.Laws.{ColumnsHaveWholeRuns, DisplacedColumnsFindDisplacedRuns, DisplacedColumnsHaveDisplacedLists}
 use Rattle.mpw_columns.specs.Runs.{IsRunOf, IsRunWithin}
-use Rattle.mpw_columns.specs.Together.{IsColumnList}
-use Rattle.mpw_columns.specs.Internal.Found.{IsLook, IsUpright, HasNearEdges}
+use Rattle.mpw_columns.specs.Lists.{IsColumnList}
+use Rattle.mpw_columns.specs.Internal.Found.{IsLook, IsUpright}
 use Rattle.mpw_columns.proofs.SeenSteps.{found_maximal, maximal_found, step_on_seen}
-use Rattle.mpw_columns.proofs.KeyOrder.{order_kept}
 use Rattle.mpw_columns.proofs.Telling.{of_map, to_map}
 
 -- ---- the core of a displaced column

@@ -13,8 +13,9 @@ use Rattle.mpw_edges.specs.Steps.{IsPair}
 use Rattle.mpw_edges.specs.Pieces.{HasVerticalStep}
 use Rattle.mpw_markers.specs.declared.marker.Key.{Key}
 use Rattle.mpw_job.specs.Layers.{Coverage, first_squares, second_squares}
-use Rattle.mpw_columns.specs.Columns.{across}
-use Rattle.mpw_columns.specs.Displaced.{displaced, displaced_key, AreDisplacedOn}
+use Rattle.mpw_keys.specs.Columns.{across}
+use Rattle.mpw_keys.specs.Keys.{displaced_key}
+use Rattle.mpw_columns.specs.Displaced.{displaced, AreDisplacedOn}
 use Rattle.mpw_columns.specs.Found.{HasStepAt, IsFound}
 use Rattle.mpw_columns.specs.Laws.{DisplacedColumnsFindDisplacedRuns}
 use Rattle.mpw_columns.specs.Internal.Found.{AgreeIn}

@@ -16,8 +16,6 @@ pub mod Telling
 pub mod DisplacedLists
 pub mod BookMade
 pub mod Looking
-pub mod Added
-pub mod KeyOrder
 pub mod OneLine
 pub mod Sorted
 pub mod Collected
@@ -25,3 +23,5 @@ pub mod Following
 pub mod Liked
 pub mod Moved
 pub mod Alike
+pub mod Planned
+pub mod LayoutMade

@@ -1,8 +1,8 @@
 -- What is looked at of a layout, and how far it lies.
-use Rattle.std.proofs.Common.{◌≡◌, ℕ, ◌+◌, ◌<◌, ◌≤◌, ◌^◌, pos, ◌+ℤ◌, true, List, [], ◌++◌, length, get_or, inl, inr, sym, subst, ap, ◌∙◌, arith}
+use Rattle.std.proofs.Common.{◌≡◌, ℕ, ◌+◌, ◌<◌, ◌≤◌, ◌^◌, pos, ◌+ℤ◌, ◌≤ℤ◌, true, Option, Some, List, [], length, get_or, inl, inr, sym, subst, ap, ◌∙◌, arith}
 use Rattle.std.specs.Prelude.{All, Contains, ◌↔◌}
 use Rattle.std.proofs.lemmas.Int.{ints}
-use Rattle.std.proofs.lemmas.List.Elements.{Contains-append_cases, Contains-get_or}
+use Rattle.std.proofs.lemmas.List.Elements.{Contains-get_or}
 use Rattle.mpw_geom.specs.declared.plane.Box2.{Box2}
 use Rattle.mpw_geom.specs.Plane.{Square, has_square, IsOrdered}
 use Rattle.mpw_geom.proofs.Tests.{SquareIn-from_test}
@@ -18,19 +18,19 @@ use Rattle.mpw_tiles.specs.declared.listing.Rectangle.{Rectangle}
 use Rattle.mpw_tiles.specs.Laws.{SquaresLieInBoxes}
 use Rattle.mpw_tiles.specs.Placed.{IsSquareInPlane}
 use Rattle.mpw_tiles.specs.Plan.{greatest_distance}
+use Rattle.mpw_tiles.specs.Snapshots.{Snapshot, shown_extent}
 use Rattle.mpw_tiles.proofs.Tiles.{no_greater}
 use Rattle.mpw_markers.specs.declared.marker.Key.{Key}
 use Rattle.mpw_job.specs.Layers.{Coverage}
 use Rattle.mpw_job.specs.Answers.{listed_on}
 use Rattle.mpw_job.specs.Computed.{shown_on}
-use Rattle.mpw_columns.specs.declared.column.Column.{Column}
-use Rattle.mpw_columns.specs.Seen.{seen_box, seen_on}
-use Rattle.mpw_columns.specs.Columns.{across, upright, AreColumnsOf}
+use Rattle.mpw_keys.specs.declared.column.Column.{Column}
+use Rattle.mpw_keys.specs.Columns.{seen_box, across, upright}
+use Rattle.mpw_columns.specs.Seen.{seen_on}
+use Rattle.mpw_columns.specs.Plan.{IsColumnWithin}
 use Rattle.mpw_columns.specs.Found.{IsFound, HasLayers}
 use Rattle.mpw_columns.specs.Internal.Found.{AddsFound, IsLook, AgreeIn, AgreeAll, IsUpright, IsStretch, IsTall, IsWide}
 use Rattle.mpw_columns.specs.Internal.Listed.{ShowSeen}
-use Rattle.mpw_columns.specs.Internal.Checked.{AreColumnsOfBoth}
-use Rattle.mpw_columns.proofs.Covering.{each_between}
 use Rattle.mpw_columns.proofs.Dividing.{added_agree}
 use Rattle.mpw_columns.proofs.Windowed.{agree_listed}
 
@@ -83,33 +83,30 @@ seen_wide H b n o = let h = close_box b n in
     let y0 = h.y0.above in let y1 = h.y1.below in
     record { left = omega (arith, ints, y0); ordered = o.y; right = omega (arith, ints, y1) }
 
-column_upright : (axis : Axis) (extent : Box2) (cs : List Column) (c : Column)
-    → is_box_near extent ≡ true → IsOrdered extent → AreColumnsOf axis extent cs → Contains cs c
-    → IsUpright (upright (seen_box c.axis extent) c)
-column_upright axis extent cs c n o h there =
-    let seen = seen_box axis extent in
-    let b = each_between axis seen.x0 (seen.x1 +ℤ pos 1) cs c h there in
-    let w = seen_wide axis extent n o in
-    let l = b.0.left in let r = b.0.right in let wl = w.left in let wr = w.right in
-    subst (λ (a : Axis). IsUpright (upright (seen_box a extent) c)) (sym b.1)
-    (upright_from seen c (record {
-      left = omega (arith, ints, l, wl);
-      some = b.0.some;
-      right = omega (arith, ints, r, wr);
-    }) (seen_tall axis extent n))
+same_extent : (o : Option Box2) (a b : Box2) → o ≡ Some a → o ≡ Some b → a ≡ b
+same_extent o a b e f = cc
 
-pub columns_upright : (extent : Box2) (count : ℕ) (columns cs : List Column)
-    → is_box_near extent ≡ true → IsOrdered extent → AreColumnsOfBoth extent count columns
-    → cs ≡ columns → All (λ (c : Column). IsUpright (upright (seen_box c.axis extent) c)) cs
-columns_upright extent count columns cs n o h e =
-    subst (All (λ (c : Column). IsUpright (upright (seen_box c.axis extent) c)))
-    (sym h.are ∙ sym e)
-    (λ k d lt. elim (Contains-append_cases h.upright h.across
-    (get_or (h.upright ++ h.across) k d)
-    (Contains-get_or (h.upright ++ h.across) k d lt)) [
-      | inl v ↦ column_upright V extent h.upright _ n o h.on_v v
-      | inr w ↦ column_upright H extent h.across _ n o h.on_h w
-    ])
+column_upright : (s : Snapshot) (extent : Box2) (c : Column) → shown_extent s ≡ Some extent
+    → is_box_near extent ≡ true → IsOrdered extent → IsColumnWithin s c
+    → IsUpright (upright (seen_box c.axis extent) c)
+column_upright s extent c found n o within =
+    let same = same_extent (shown_extent s) within.extent extent within.extent_is found in
+    let l = subst (λ (b : Box2). (seen_box c.axis b).x0 ≤ℤ c.from) same within.left in
+    let r = subst (λ (b : Box2). c.to ≤ℤ ((seen_box c.axis b).x1 +ℤ pos 1)) same within.right in
+    let w = seen_wide c.axis extent n o in
+    let wl = w.left in let wr = w.right in
+    upright_from (seen_box c.axis extent) c (record {
+      left = omega (arith, ints, l, wl);
+      some = within.some;
+      right = omega (arith, ints, r, wr);
+    }) (seen_tall c.axis extent n)
+
+pub columns_upright : (s : Snapshot) (extent : Box2) (columns : List Column)
+    → shown_extent s ≡ Some extent → is_box_near extent ≡ true → IsOrdered extent
+    → All (IsColumnWithin s) columns
+    → All (λ (c : Column). IsUpright (upright (seen_box c.axis extent) c)) columns
+columns_upright s extent columns found n o within = λ k d lt.
+    column_upright s extent (get_or columns k d) found n o (within k d lt)
 
 -- ---- what is listed
 
@@ -119,7 +116,8 @@ pub walked_seen : (layers : List Layer) (axis : Axis) (given items : List Item)
 walked_seen layers axis given items listed e h =
     subst (λ (is : List Item). ShowSeen layers axis is listed) e h
 
-pub rectangles_agree : SquaresLieInBoxes → (layers : List Layer) (axis : Axis) (items given : List Item)
+pub rectangles_agree : SquaresLieInBoxes
+    → (layers : List Layer) (axis : Axis) (items given : List Item)
     (core window : Box2) (distance : ℕ) (listed slice parts made : List Rectangle)
     → IsUpright core → distance < 2 ^ 32
     → given ≡ items_met (seen_box axis (across core (distance + 1))) items
@@ -169,6 +167,7 @@ look_from rules seen layers slice distance e f few g has = record {
   near = λ k d lt. subst (λ (n : ℕ). (get_or rules k d).distance ≤ n)
       (sym (g ∙ ap greatest_distance e)) (no_greater rules (get_or rules k d)
       (Contains-get_or rules k d lt));
-  layered = subst (λ (ls : List Layer). All (λ (rule : Rule). HasLayers ls rule.check) rules) (sym f)
+  layered =
+      subst (λ (ls : List Layer). All (λ (rule : Rule). HasLayers ls rule.check) rules) (sym f)
       (subst (All (λ (rule : Rule). HasLayers layers rule.check)) e has);
 }

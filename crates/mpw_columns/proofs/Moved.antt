@@ -14,7 +14,7 @@ use Rattle.mpw_tiles.specs.Shown.{layer_of}
 use Rattle.mpw_tiles.specs.Laws.{SquaresLieInBoxes}
 use Rattle.mpw_job.specs.Computed.{square_before, item_has, is_layer, shown_on}
 use Rattle.mpw_job.proofs.Shapes.{tests_tell}
-use Rattle.mpw_columns.specs.Seen.{seen_box}
+use Rattle.mpw_keys.specs.Columns.{seen_box}
 use Rattle.mpw_contents.specs.Contents.{AreWhole, AreSound}
 use Rattle.mpw_contents.specs.Displaced.{moved}
 use Rattle.mpw_columns.specs.Displaced.{displaced, across_edges}

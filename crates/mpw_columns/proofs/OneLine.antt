@@ -25,9 +25,10 @@ use Rattle.mpw_markers.specs.Order.{line_cmp}
 use Rattle.mpw_markers.specs.Whole.{IsMaximal}
 use Rattle.mpw_job.specs.Computed.{shown_on}
 use Rattle.mpw_job.proofs.Tests.{rule_of}
+use Rattle.mpw_keys.specs.Keys.{list_number, key_cmp}
+use Rattle.mpw_keys.proofs.SameKey.{same_line}
 use Rattle.mpw_columns.specs.FollowingOn.{ComesFirst}
 use Rattle.mpw_columns.specs.Runs.{IsRunOf}
-use Rattle.mpw_columns.specs.Together.{list_number, key_cmp}
 use Rattle.mpw_columns.proofs.SeenSteps.{step_on_seen}
 
 -- ---- two runs
@@ -131,19 +132,6 @@ first_or_last Equal Equal q e = inr (refl, refl, e)
 first_or_last Equal Greater q e = cc
 first_or_last Greater p q e = cc
 
-pub same_line : (a b : Line) → a.rule ≡ b.rule → a.axis ≡ b.axis → a.side ≡ b.side → a.x1 ≡ b.x1
-    → a.x2 ≡ b.x2 → a ≡ b
-same_line a b e f g h k =
-    ap (λ (p : ℕ × Axis × ℕ × ℤ × ℤ). let l : Line = record {
-      rule = p.0;
-      axis = p.1;
-      side = p.2;
-      x1 = p.3;
-      x2 = p.4;
-    } in l) (let q :
-    (let r : ℕ × Axis × ℕ × ℤ × ℤ = (a.rule, a.axis, a.side, a.x1, a.x2) in r)
-    ≡ (b.rule, b.axis, b.side, b.x1, b.x2) = cc in q)
-
 -- the keys of one list
 pub record IsOneList (k l : Key) : Type 0 where
   pub rule : k.rule ≡ l.rule
@@ -190,20 +178,6 @@ before_by_rule k l h =
     let sides = ordering_then (nat_cmp k.side l.side) edges in
     inl (then_less (nat_cmp k.rule l.rule) (ordering_then (axis_cmp k.axis l.axis) sides)
     (nat_less k.rule l.rule h))
-
--- runs of one place are one
-pub same_key : (k l : Key) → line_of_key k ≡ line_of_key l → k.y0 ≡ l.y0 → k.y1 ≡ l.y1 → k ≡ l
-same_key k l e f g =
-    ap (λ (p : Line × ℤ × ℤ). let x : Key = record {
-      rule = p.0.rule;
-      axis = p.0.axis;
-      side = p.0.side;
-      x1 = p.0.x1;
-      x2 = p.0.x2;
-      y0 = p.1;
-      y1 = p.2;
-    } in x) (let q : (let r : Line × ℤ × ℤ = (line_of_key k, k.y0, k.y1) in r)
-    ≡ (line_of_key l, l.y0, l.y1) = cc in q)
 
 -- what it is that neither key comes first
 pub record IsTied (k l : Key) : Type 0 where

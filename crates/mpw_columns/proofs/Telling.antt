@@ -19,15 +19,16 @@ use Rattle.mpw_tiles.specs.Shown.{HasShown}
 use Rattle.mpw_job.proofs.Edges.{some_met, TellsSeen}
 use Rattle.mpw_job.proofs.Shapes.{tests_tell}
 use Rattle.mpw_job.proofs.Tests.{rule_of, step_on}
-use Rattle.mpw_columns.specs.declared.column.Column.{Column}
-use Rattle.mpw_columns.specs.Seen.{seen_box, seen_on}
-use Rattle.mpw_columns.specs.Columns.{upright}
+use Rattle.mpw_keys.specs.declared.column.Column.{Column}
+use Rattle.mpw_keys.specs.Columns.{seen_box, upright}
+use Rattle.mpw_keys.specs.Keys.{key_cmp, of_first}
+use Rattle.mpw_keys.proofs.SameKey.{same_line, same_key}
+use Rattle.mpw_columns.specs.Seen.{seen_on}
 use Rattle.mpw_columns.specs.Laws.{ColumnsHaveWholeRuns}
 use Rattle.mpw_columns.specs.Runs.{IsRunOf, IsRunWithin}
-use Rattle.mpw_columns.specs.Together.{key_cmp, MeetsShown}
+use Rattle.mpw_columns.specs.Lists.{MeetsShown}
 use Rattle.mpw_columns.specs.Found.{IsFound}
-use Rattle.mpw_columns.specs.Internal.Marked.{of_first}
-use Rattle.mpw_columns.proofs.OneLine.{same_end, ruled, same_line, same_key, is_tied}
+use Rattle.mpw_columns.proofs.OneLine.{same_end, ruled, is_tied}
 use Rattle.mpw_columns.proofs.SeenSteps.{found_maximal, maximal_found}
 
 -- ---- mapped lists

@@ -7,12 +7,11 @@ use Rattle.mpw_edges.specs.declared.run.Axis.{Axis}
 use Rattle.mpw_edges.specs.declared.run.Axis.TheVariants.{V, H}
 use Rattle.mpw_edges.specs.Edges.{Squares}
 use Rattle.mpw_tiles.specs.Snapshots.{Snapshot, shown}
-use Rattle.mpw_markers.specs.declared.marker.Key.{Key}
 use Rattle.mpw_job.specs.Computed.{shown_on}
 use Rattle.mpw_job.specs.Layers.{Coverage}
-use Rattle.mpw_columns.specs.declared.column.Column.{Column}
-use Rattle.mpw_columns.specs.Seen.{seen_box, seen_on}
-use Rattle.mpw_columns.specs.Columns.{upright, across}
+use Rattle.mpw_keys.specs.declared.column.Column.{Column}
+use Rattle.mpw_keys.specs.Columns.{seen_box, upright, across}
+use Rattle.mpw_columns.specs.Seen.{seen_on}
 
 -- The box, displaced.
 abbrev pub displaced : ℤ → Box2 → Box2
@@ -22,18 +21,6 @@ displaced by b = record { x0 = b.x0 +ℤ by; y0 = b.y0; x1 = b.x1 +ℤ by; y1 = 
 abbrev pub across_edges : Axis → ℤ → Point
 across_edges V by = record { x = by; y = pos 0 }
 across_edges H by = record { x = pos 0; y = by }
-
--- The key, displaced.
-abbrev pub displaced_key : ℤ → Key → Key
-displaced_key by k = record {
-  rule = k.rule;
-  axis = k.axis;
-  side = k.side;
-  x1 = k.x1 +ℤ by;
-  x2 = k.x2 +ℤ by;
-  y0 = k.y0;
-  y1 = k.y1;
-}
 
 -- The second column is the first, displaced.
 pub record IsDisplaced (by : ℤ) (c e : Column) : Type 0 where

@@ -4,4 +4,3 @@ pub mod Checked
 pub mod Found
 pub mod Like
 pub mod Listed
-pub mod Marked

@@ -21,13 +21,15 @@ use Rattle.mpw_markers.specs.Whole.{IsMaximal}
 use Rattle.mpw_job.specs.Computed.{steps_of, shown_on}
 use Rattle.mpw_job.specs.Layers.{Coverage}
 use Rattle.mpw_job.specs.Layout.{AreLayoutMarkers}
-use Rattle.mpw_columns.specs.declared.column.Column.{Column}
-use Rattle.mpw_columns.specs.Columns.{across, widened_along, AreColumnsOf}
-use Rattle.mpw_columns.specs.Displaced.{displaced, across_edges, displaced_key, IsDisplaced, AreDisplacedIn, AreDisplacedOn, ShowsDisplaced}
+use Rattle.mpw_keys.specs.declared.column.Column.{Column}
+use Rattle.mpw_keys.specs.Columns.{across, widened_along, AreColumnsOf, seen_box}
+use Rattle.mpw_keys.specs.Keys.{displaced_key, together, of_first}
+use Rattle.mpw_columns.specs.Displaced.{displaced, across_edges, IsDisplaced, AreDisplacedIn, AreDisplacedOn, ShowsDisplaced}
 use Rattle.mpw_columns.specs.Found.{IsFound, HasLayers}
+use Rattle.mpw_columns.specs.Plan.{CoverLayout, AreColumnsOfLayout, IsColumnWithin}
 use Rattle.mpw_columns.specs.Runs.{IsRunWithin}
-use Rattle.mpw_columns.specs.Seen.{seen_box, seen_on}
-use Rattle.mpw_columns.specs.Together.{IsColumnList, MeetsShown, together}
+use Rattle.mpw_columns.specs.Seen.{seen_on}
+use Rattle.mpw_columns.specs.Lists.{IsColumnList, MeetsShown}
 use Rattle.mpw_columns.specs.Within.{is_in_column}
 
 -- Which pair steps of an axis lie in a half-open core depends on the squares of its window along that axis alone: the core, wider by the
@@ -58,6 +60,21 @@ ColumnsMakeTheLayout =
     → AreColumnsOf H extent across → AllZip (IsColumnList s) upright vs
     → AllZip (IsColumnList s) across hs → map key_of book ≡ together (length s.deck.rules) vs hs
     → All (MeetsShown s) book → AreLayoutMarkers s book
+
+-- Each column of a layout lies within it.
+abbrev pub ColumnsLieWithin : Type 0
+ColumnsLieWithin =
+    (s : Snapshot) (columns : List Column) → AreColumnsOfLayout s columns
+    → All (IsColumnWithin s) columns
+
+-- Where the shelf has one submission alone and columns of both axes cover the layout, the markers of the columns' lists, put together, of
+-- which each meets that submission, are the layout's.
+abbrev pub ListsMakeTheLayout : Type 0
+ListsMakeTheLayout =
+    (s : Snapshot) (upright across : List Column) (vs hs : List (List Key)) → length s.shelf ≡ 1
+    → CoverLayout s upright across → AllZip (IsColumnList s) upright vs
+    → AllZip (IsColumnList s) across hs
+    → AreLayoutMarkers s (map of_first (together (length s.deck.rules) vs hs))
 
 -- Two coverages, seen along an axis, of which the second has on the layers that the rules look at, in the window of a core, displaced
 -- across the edges, just what the first has in the window of the core: what is found of the second in the displaced core is what is found of

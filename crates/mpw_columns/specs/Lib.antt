@@ -1,10 +1,10 @@
 pub mod Seen
-pub mod Columns
 pub mod Within
+pub mod Plan
 pub mod Runs
+pub mod Lists
 pub mod Found
 pub mod Displaced
 pub mod FollowingOn
-pub mod Together
 pub mod Laws
 pub mod Internal

@@ -1,7 +1,5 @@
 -- What is seen along an axis: on V the layout as it is, on H with the coordinates exchanged. So the edges are vertical, whatever the axis.
-use Rattle.mpw_geom.specs.declared.plane.Box2.{Box2}
 use Rattle.mpw_geom.specs.Plane.{Square}
-use Rattle.mpw_region.specs.Exchange.{exchanged_box}
 use Rattle.mpw_edges.specs.declared.run.Axis.{Axis}
 use Rattle.mpw_edges.specs.declared.run.Axis.TheVariants.{V, H}
 use Rattle.mpw_edges.specs.Edges.{Squares, exchanged}
@@ -10,10 +8,6 @@ use Rattle.mpw_job.specs.Layers.{Coverage}
 abbrev pub seen : Axis → Squares → Squares
 seen V a = a
 seen H a = exchanged a
-
-abbrev pub seen_box : Axis → Box2 → Box2
-seen_box V b = b
-seen_box H b = exchanged_box b
 
 abbrev pub seen_square : Axis → Square → Square
 seen_square V s = s

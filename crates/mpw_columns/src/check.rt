@@ -1,41 +1,36 @@
 //! Checking by columns.
 
-ghost use Rattle.std.specs.Prelude.{◌≡◌, ◌+◌, ◌≤◌, ◌↔◌, Some, length, take, drop, All, Contains, IfOk, true};
+ghost use Rattle.std.specs.Prelude.{◌≡◌, ◌+◌, ◌≤◌, ◌↔◌, length, take, drop, All, Contains, IfOk};
 ghost use Rattle.std.specs.List.{AllZip};
-ghost use Rattle.mpw_geom.specs.Plane.{IsOrdered};
-ghost use Rattle.mpw_hier.specs.Boxes.{is_box_near};
 ghost use Rattle.mpw_markers.specs.declared.marker.Key.{Key as KeyValue};
-ghost use Rattle.mpw_tiles.specs.Snapshots.{shown, shown_extent};
+ghost use Rattle.mpw_tiles.specs.Snapshots.{shown};
 ghost use Rattle.mpw_job.specs.Answers.{listed_on};
 ghost use Rattle.mpw_job.specs.Computed.{shown_on};
 ghost use Rattle.mpw_job.specs.Layout.{AreLayoutMarkers};
-ghost use Rattle.mpw_columns.specs.Seen.{seen_box, seen_on};
-ghost use Rattle.mpw_columns.specs.Columns.{upright, across, AreColumnsOf};
-ghost use Rattle.mpw_columns.specs.Together.{IsColumnList};
+ghost use Rattle.mpw_keys.specs.Columns.{seen_box, upright, across};
+ghost use Rattle.mpw_columns.specs.Seen.{seen_on};
+ghost use Rattle.mpw_columns.specs.Plan.{IsColumnWithin};
+ghost use Rattle.mpw_columns.specs.Lists.{IsColumnList};
 ghost use Rattle.mpw_columns.specs.Found.{IsFound};
 ghost use Rattle.mpw_columns.specs.Internal.Found.{IsUpright, AgreeIn};
-ghost use Rattle.mpw_columns.specs.Internal.Checked.{IsLayout, AreColumnsOfBoth, HaveLists};
+ghost use Rattle.mpw_columns.specs.Internal.Checked.{IsLayout, HaveLists};
 
-use crate::column::Column;
-use crate::columns::{View, columns_of, upright, walk_within};
+use crate::columns::{upright, walk_within};
 use crate::divide::add_column;
 use crate::earlier::equal_to_earlier;
-use crate::keys::ColumnKeys;
-use crate::laws::{columns_have_whole_runs, columns_make_the_layout};
+use crate::laws::{columns_have_whole_runs, columns_lie_within, lists_make_the_layout};
 use crate::like::{lists_with, own_columns};
 use crate::list::{list_shapes, seen_box};
 use crate::look::{Look, layers_of};
 use crate::part::{parts_in, window_of};
+use crate::plan::counted_columns;
 use crate::progress::Progress;
-use crate::together::together;
-use mpw_cuts::{Counts, lattices_of};
 use mpw_deck::Rule;
 use mpw_edges::{Axis, test_decides_pair_steps};
 use mpw_geom::{Box2, Layer};
-use mpw_job::no_shapes_no_markers;
+use mpw_keys::{Column, ColumnKeys, together};
 use mpw_markers::{Book, Key, Marker};
 use mpw_tiles::{Rectangle, Snapshot, greatest_distance, squares_lie_in_boxes};
-use mpw_walk::shapes_come_from_the_shelf;
 use rayon::current_num_threads;
 use rayon::prelude::*;
 use std::alloc::{AllocError, Global};
@@ -50,15 +45,13 @@ const FOR_EACH: usize = 4;
 /// How many shapes a column may show: with the walks and rectangles of so many a thread stays within some ten megabytes.
 pub const MAX_SHOWN: u32 = 1 << 16;
 
-/// What is checked: a layout with its extent, the layers that its deck's rules look at, the greatest of their distances, and how many
-/// shapes a column may show.
+/// What is checked: a layout with its extent, the layers that its deck's rules look at, and the greatest of their distances.
 #[derive(Clone, Copy)]
 pub(crate) struct Layout<'a> {
     pub(crate) snapshot: &'a Snapshot,
     pub(crate) extent: Box2,
     pub(crate) layers: &'a [Layer],
     pub(crate) distance: u32,
-    pub(crate) most: u32,
 }
 
 /// The layer's place among all layers.
@@ -227,37 +220,43 @@ fn every_list<P: Progress>(
     lists_with(alloc, layout, columns, likes.as_slice(), lists)
 }
 
-/// The columns of an axis.
-fn columns_along(alloc: Global, layout: &Layout<'_>, axis: Axis) -> Result<Vec<Column>, AllocError>
-    requires near { is_box_near layout.now.extent ≡ true }
-    requires ordered { IsOrdered layout.now.extent }
-    ensures { IfOk result (λ v. AreColumnsOf axis layout.now.extent v.items) }
+/// The keys of columns of a layout, a list for each, in their order: those of the layout's maximal runs of the column's axis whose `x1` lies in
+/// the column. The columns may be all of the layout's, or a share of them: what a column finds is the same.
+///
+/// A column whose window shows what that of an earlier one of these does, displaced, as far as a short list of shapes and arrays tells it, has
+/// that one's keys, displaced: for each column a list of at most 4096 of them is made, which costs a look at the top's shapes and
+/// references at least, and at most 2^20 things are kept. The other columns are worked in batches of four for each processor, in at most two
+/// threads for each; progress is told of them, before the first and after each batch. One walk a column gives the shapes whose boxes meet its window,
+/// and the rectangles of those on the rules' layers are listed; so what is held is the rectangles of as many columns as there are threads, and the keys.
+/// A column costs its walk, its rectangles, a sort of them by layer, a pass over them a halving, the bands and pairs of each part, and a sort of its keys; one
+/// that is like an earlier one a pass over that one's keys.
+///
+/// # Errors
+/// Want of memory.
+pub fn lists_of_columns<P: Progress>(
+    rt: &(impl Threads + Sync),
+    alloc: Global,
+    snapshot: &Snapshot,
+    columns: &[Column],
+    progress: &mut P,
+) -> Result<Vec<ColumnKeys>, AllocError>
+    requires alone { length snapshot.now.shelf ≡ 1 }
+    requires within { All (IsColumnWithin snapshot.now) columns.now }
+    ensures { IfOk result (λ v. AllZip (IsColumnList snapshot.now) columns.now v.items) }
 {
-    let seen = seen_box(axis, &layout.extent);
-    let counts = Counts::of(alloc, layout.snapshot, axis, &seen)?;
-    let lattices = lattices_of(alloc, layout.snapshot, axis)?;
-    let view = View {
-        counts: &counts,
-        lattices: lattices.as_slice(),
-        axis,
-        seen,
-        distance: layout.distance,
-        most: layout.most,
+    let Some(extent) = snapshot.extent() else {
+        return Ok(Vec::new(alloc));
     };
-    columns_of(alloc, &view)
-}
-
-/// The columns of both axes, and how many of them are of axis `V`; these come first.
-fn columns_of_both(alloc: Global, layout: &Layout<'_>) -> Result<(Vec<Column>, usize), AllocError>
-    requires near { is_box_near layout.now.extent ≡ true }
-    requires ordered { IsOrdered layout.now.extent }
-    ensures { IfOk result (λ v. AreColumnsOfBoth layout.now.extent v.1 v.0.items) }
-{
-    let mut columns = columns_along(alloc, layout, Axis::V)?;
-    let upright = columns.len();
-    let mut across = columns_along(alloc, layout, Axis::H)?;
-    columns.append(&mut across)?;
-    Ok((columns, upright))
+    snapshot.is_snapshot();
+    let rules = snapshot.deck().rules().as_slice();
+    let layers = layers_of(alloc, rules)?;
+    let layout = Layout {
+        snapshot,
+        extent,
+        layers: layers.as_slice(),
+        distance: greatest_distance(rules),
+    };
+    every_list(rt, alloc, &layout, columns, progress)
 }
 
 /// How many rules there are.
@@ -272,67 +271,25 @@ fn rule_count(rules: &[Rule]) -> u32
 fn markers_of(
     alloc: Global,
     snapshot: &Snapshot,
-    extent: &Box2,
     lists: &[ColumnKeys],
     upright: usize,
 ) -> Result<Vec<Marker>, AllocError>
     requires alone { length snapshot.now.shelf ≡ 1 }
-    requires extent { shown_extent snapshot.now ≡ Some extent.now }
-    requires lists { HaveLists snapshot.now extent.now upright lists.now }
+    requires lists { HaveLists snapshot.now upright lists.now }
     ensures { IfOk result (λ v. AreLayoutMarkers snapshot.now v.items) }
 {
-    columns_make_the_layout();
-    test_decides_pair_steps();
-    squares_lie_in_boxes();
-    shapes_come_from_the_shelf();
+    lists_make_the_layout();
     snapshot.is_snapshot();
     let rules = rule_count(snapshot.deck().rules().as_slice());
     let (vertical, horizontal) = lists.split_at(upright);
     together(alloc, rules, vertical, horizontal)
 }
 
-/// The book of an extent's markers.
-fn check_extent<P: Progress>(
-    rt: &(impl Threads + Sync),
-    alloc: Global,
-    snapshot: &Snapshot,
-    extent: Box2,
-    most: u32,
-    progress: &mut P,
-) -> Result<Book, AllocError>
-    requires alone { length snapshot.now.shelf ≡ 1 }
-    requires extent { shown_extent snapshot.now ≡ Some extent }
-    requires near { is_box_near extent ≡ true }
-    requires ordered { IsOrdered extent }
-    ensures { IfOk result (AreLayoutMarkers snapshot.now) }
-{
-    snapshot.is_snapshot();
-    let rules = snapshot.deck().rules().as_slice();
-    let layers = layers_of(alloc, rules)?;
-    let layout = Layout {
-        snapshot,
-        extent,
-        layers: layers.as_slice(),
-        distance: greatest_distance(rules),
-        most,
-    };
-    let (columns, upright) = columns_of_both(alloc, &layout)?;
-    let lists = every_list(rt, alloc, &layout, columns.as_slice(), progress)?;
-    let markers = markers_of(alloc, snapshot, &extent, lists.as_slice(), upright)?;
-    Book::from_vec(alloc, markers)
-}
-
 /// The markers of the flat layout of a snapshot's roots under its deck, in the order of their keys, where the shelf has one submission
 /// alone, which each marker then meets.
 ///
-/// The extent is halved into columns of which each shows at most `most` shapes in its window, where halving can have that; with
-/// [`MAX_SHOWN`] a column fits some ten megabytes. A column whose window shows what that of an earlier one does, displaced, as far as a short
-/// list of shapes and arrays tells it, has that one's keys, displaced: for each column a list of at most 4096 of them is made, which costs a look
-/// at the top's shapes and references at least, and at most 2^20 things are kept. The other columns are worked in batches of four for each
-/// processor, in at most two threads for each; progress is told of them, before the first and after each. One walk a column gives the shapes whose
-/// boxes meet its window, and the rectangles of those on the rules' layers are listed; so what is held is the rectangles of as many columns
-/// as there are threads, and the markers, once as keys of columns and once as the book's. A column costs its walk, its rectangles, a sort of them by layer, a pass over them a halving,
-/// the bands and pairs of each part, and a sort of its keys; one that is like an earlier one a pass over that one's keys.
+/// It is [`columns_of`](crate::columns_of) the layout, [`lists_of_columns`] of all of them, and these put together ([`together`]). With
+/// [`MAX_SHOWN`] for `most` a column fits some ten megabytes. What is held at last is the markers, once as keys of columns and once as the book's.
 ///
 /// # Errors
 /// Want of memory.
@@ -346,9 +303,9 @@ pub fn check_columns<P: Progress>(
     requires { length snapshot.now.shelf ≡ 1 }
     ensures { IfOk result (AreLayoutMarkers snapshot.now) }
 {
-    no_shapes_no_markers();
-    match snapshot.extent() {
-        Some(extent) => check_extent(rt, alloc, snapshot, extent, most, progress),
-        None => Ok(Book::new()),
-    }
+    columns_lie_within();
+    let (columns, upright) = counted_columns(alloc, snapshot, most)?;
+    let lists = lists_of_columns(rt, alloc, snapshot, columns.as_slice(), progress)?;
+    let markers = markers_of(alloc, snapshot, lists.as_slice(), upright)?;
+    Book::from_vec(alloc, markers)
 }

@@ -1,28 +1,30 @@
-//! The columns of a layout.
+//! The columns of an axis.
 //!
 //! The extent is cut in two across, again and again, until a column shows few shapes: in its middle, or where an array repeats. Left comes
 //! before right, so the columns come in order.
 
-ghost use Rattle.std.specs.Prelude.{◌≡◌, ◌+◌, ◌≤ℤ◌, ◌<ℤ◌, ◌+ℤ◌, pos, ℤ, IfOk, IfSome, OnOk};
+ghost use Rattle.std.specs.Prelude.{◌≡◌, ◌+◌, ◌≤◌, ◌^◌, length, ◌≤ℤ◌, ◌<ℤ◌, ◌+ℤ◌, pos, ℤ, IfOk, IfSome, OnOk};
 ghost use Rattle.mpw_walk.specs.Turns.{given};
 ghost use Rattle.mpw_walk.specs.Window.{items_met};
 ghost use Rattle.mpw_tiles.specs.Snapshots.{shown};
-ghost use Rattle.mpw_columns.specs.Seen.{seen_box};
-ghost use Rattle.mpw_columns.specs.Columns.{upright, across, AreColumns};
-ghost use Rattle.mpw_columns.specs.Internal.Found.{IsUpright, IsStretch, IsWide, AreHalvesOf};
+ghost use Rattle.mpw_keys.specs.Columns.{seen_box, upright, across, AreColumns};
+ghost use Rattle.mpw_columns.specs.Internal.Found.{IsUpright, IsStretch, IsWide, AreHalvesOf, AreFew};
 
-use crate::column::Column;
 use crate::list::seen_box;
 use crate::part::window_of;
-use mpw_cuts::{Counts, Lattice, line_between};
+use mpw_cuts::{Counts, Lattice, is_within_cell, line_between};
 use mpw_edges::Axis;
 use mpw_geom::{Box2, Point};
+use mpw_keys::Column;
 use mpw_tiles::Snapshot;
 use mpw_walk::Walk;
 use std::alloc::{AllocError, Global};
 
 /// Halvings of an extent.
 const MAX_DEPTH: u32 = 32;
+
+/// Where there are so many columns of an axis, no further one is halved.
+const MAX_COLUMNS: usize = 1 << 20;
 
 /// How many shapes a layout shows where, on which lines its arrays repeat, its extent as it is seen along an axis, how far windows reach beyond columns, and how many shapes
 /// a column may show.
@@ -87,6 +89,17 @@ fn cut_of(lattices: &[Lattice], column: &Column) -> Point
     }
 }
 
+/// How many shapes a column so wide may show: within a cell of the finest array four times as many, since narrower columns would be like no
+/// other, and each instance would be looked at by itself.
+fn most_of(view: &View<'_>, width: u64) -> u64 {
+    let most = u64::from(view.most);
+    if is_within_cell(view.lattices, width) {
+        most.saturating_mul(4)
+    } else {
+        most
+    }
+}
+
 /// Whether the column shows more shapes than wanted, and its halves fewer together than one and a half times as many: of wires that go
 /// on over all columns halves would show as many again. None is narrower than four of the margins of its window.
 fn is_crowded(view: &View<'_>, column: &Column) -> bool
@@ -102,7 +115,7 @@ fn is_crowded(view: &View<'_>, column: &Column) -> bool
     let shown = view.counts.shown(from, to);
     let left = view.counts.shown(from, at.x + margin);
     let right = view.counts.shown(at.x - margin, to);
-    shown > u64::from(view.most) && left.saturating_add(right) < shown.saturating_add(shown / 2)
+    shown > most_of(view, width) && left.saturating_add(right) < shown.saturating_add(shown / 2)
 }
 
 /// The column left of where it is cut, and the one right of it; none where it has one place alone.
@@ -130,14 +143,16 @@ fn halves(lattices: &[Lattice], column: &Column) -> Option<(Column, Column)>
 /// Adds a column behind others.
 fn add_one(columns: &mut Vec<Column>, column: &Column) -> Result<(), AllocError>
     requires { column.now.from <ℤ column.now.to }
-    ensures { (low : ℤ) → AreColumns column.now.axis low column.now.from columns.old.items →
+    ensures columns { (low : ℤ) → AreColumns column.now.axis low column.now.from columns.old.items →
         OnOk result (AreColumns column.now.axis low column.now.to columns.new.items) }
+    ensures one { OnOk result (length columns.new.items ≡ length columns.old.items + 1) }
 {
     columns.push(*column)?;
     Ok(())
 }
 
-/// Adds the columns into which a column is halved, at most `depth` times. An error is want of memory.
+/// Adds the columns into which a column is halved, at most `depth` times, and no further once there are [`MAX_COLUMNS`]. An error is want of
+/// memory.
 fn add_columns(
     columns: &mut Vec<Column>,
     view: &View<'_>,
@@ -145,10 +160,11 @@ fn add_columns(
     depth: u32,
 ) -> Result<(), AllocError>
     requires { IsStretch column.now }
-    ensures { (low : ℤ) → AreColumns column.now.axis low column.now.from columns.old.items →
+    ensures columns { (low : ℤ) → AreColumns column.now.axis low column.now.from columns.old.items →
         OnOk result (AreColumns column.now.axis low column.now.to columns.new.items) }
+    ensures few { OnOk result (AreFew depth (length columns.old.items) (length columns.new.items)) }
 {
-    if depth == 0 || !is_crowded(view, column) {
+    if depth == 0 || columns.len() >= MAX_COLUMNS || !is_crowded(view, column) {
         return add_one(columns, column);
     }
     let Some((left, right)) = halves(view.lattices, column) else {
@@ -173,9 +189,10 @@ fn whole(axis: Axis, seen: &Box2) -> Column
 }
 
 /// The columns of the view, each of which shows at most so many shapes in its window where that can be had by halving.
-pub(crate) fn columns_of(alloc: Global, view: &View<'_>) -> Result<Vec<Column>, AllocError>
+pub(crate) fn columns_in(alloc: Global, view: &View<'_>) -> Result<Vec<Column>, AllocError>
     requires { IsWide view.now.seen }
-    ensures { IfOk result (λ v. AreColumns view.now.axis view.now.seen.x0 (view.now.seen.x1 +ℤ pos 1) v.items) }
+    ensures columns { IfOk result (λ v. AreColumns view.now.axis view.now.seen.x0 (view.now.seen.x1 +ℤ pos 1) v.items) }
+    ensures few { IfOk result (λ v. length v.items ≤ 2 ^ 20 + 32) }
 {
     let whole = whole(view.axis, &view.seen);
     let mut columns = Vec::new(alloc);

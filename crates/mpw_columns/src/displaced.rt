@@ -1,18 +1,16 @@
 //! The list of a column from that of an earlier one whose window shows the same, displaced.
 
 ghost use Rattle.std.specs.Prelude.{◌-ℤ◌, IfOk};
-ghost use Rattle.mpw_columns.specs.Seen.{seen_box};
-ghost use Rattle.mpw_columns.specs.Columns.{upright};
+ghost use Rattle.mpw_keys.specs.Columns.{seen_box, upright};
 ghost use Rattle.mpw_columns.specs.Displaced.{IsDisplaced, ShowsDisplaced};
-ghost use Rattle.mpw_columns.specs.Together.{IsColumnList};
+ghost use Rattle.mpw_columns.specs.Lists.{IsColumnList};
 ghost use Rattle.mpw_columns.specs.Internal.Checked.{IsLayout};
 ghost use Rattle.mpw_columns.specs.Internal.Found.{IsUpright};
 
 use crate::check::Layout;
-use crate::column::Column;
-use crate::keys::ColumnKeys;
 use crate::laws::displaced_columns_have_displaced_lists;
 use mpw_edges::test_decides_pair_steps;
+use mpw_keys::{Column, ColumnKeys};
 use std::alloc::{AllocError, Global};
 
 /// The keys of a column from those of an earlier one, of which it is a displacement and whose window shows what its own shows, displaced.

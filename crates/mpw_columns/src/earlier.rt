@@ -5,24 +5,23 @@
 
 ghost use Rattle.std.specs.Prelude.{◌≡◌, ◌<◌, ◌+◌, ◌∷◌, [], length, get_or, All, IfOk, OnOk};
 ghost use Rattle.mpw_walk.specs.Roots.{root_at_origin};
-ghost use Rattle.mpw_columns.specs.declared.column.Column.{Column as ColumnValue};
-ghost use Rattle.mpw_columns.specs.Seen.{seen_box};
-ghost use Rattle.mpw_columns.specs.Columns.{upright};
+ghost use Rattle.mpw_keys.specs.declared.column.Column.{Column as ColumnValue};
+ghost use Rattle.mpw_keys.specs.Columns.{seen_box, upright};
 ghost use Rattle.mpw_columns.specs.Internal.Checked.{IsLayout};
 ghost use Rattle.mpw_columns.specs.Internal.Found.{IsUpright};
 ghost use Rattle.mpw_columns.specs.Internal.Like.{AreLikes, AreContentsOf, IsLikeAt, IsKept, MayAdd};
 
 use crate::check::Layout;
-use crate::column::Column;
 use crate::equal::{contents_of, is_first_alone, is_like};
 use mpw_contents::{Contents, code};
+use mpw_keys::Column;
 use std::alloc::{AllocError, Global};
 use std::collections::BTreeMap;
 
 /// The most things of all contents that are kept.
 const MOST_KEPT: usize = 1 << 20;
 
-/// The most columns times the top's own shapes and references: where there are more, no contents are made.
+/// The most columns times the shapes and references of all structures, each once: where there are more, no contents are made.
 const MOST_LOOKED_AT: u64 = 1 << 26;
 
 /// A column's place, and its contents.
@@ -159,15 +158,16 @@ fn likes_of(
     Ok(likes)
 }
 
-/// Whether contents of so many columns are made: of a top with many shapes of its own they would cost more than they save.
+/// Whether contents of so many columns are made: of structures with many shapes of their own they would cost more than they save.
 fn are_few(layout: &Layout<'_>, columns: usize) -> bool {
     let Some(nodes) = layout.snapshot.shelf().nodes(0) else {
         return false;
     };
-    let Some(top) = nodes.last() else {
-        return false;
-    };
-    let drawn = (top.shapes.len() as u64).saturating_add(top.children.len() as u64);
+    let mut drawn = 0u64;
+    for node in nodes {
+        let own = (node.shapes.len() as u64).saturating_add(node.children.len() as u64);
+        drawn = drawn.saturating_add(own);
+    }
     drawn.saturating_mul(columns as u64) <= MOST_LOOKED_AT
 }
 

@@ -1,9 +1,11 @@
 //! Laws of the definitions alone. Each function calls at most the laws on which its own rests: its contract is the law.
 
-ghost use Rattle.mpw_columns.specs.Laws.{WindowDecidesAlong, ColumnsHaveWholeRuns, ColumnsMakeTheLayout, DisplacedColumnsFindDisplacedRuns, DisplacedColumnsHaveDisplacedLists, MovedItemsShowDisplaced};
+ghost use Rattle.mpw_columns.specs.Laws.{WindowDecidesAlong, ColumnsHaveWholeRuns, ColumnsMakeTheLayout, ColumnsLieWithin, ListsMakeTheLayout, DisplacedColumnsFindDisplacedRuns, DisplacedColumnsHaveDisplacedLists, MovedItemsShowDisplaced};
 
 use mpw_edges::test_decides_pair_steps;
+use mpw_job::no_shapes_no_markers;
 use mpw_tiles::squares_lie_in_boxes;
+use mpw_walk::shapes_come_from_the_shelf;
 
 /// Which pair steps of an axis lie in a half-open core depends on the squares of its window along that axis alone: wider than the core
 /// by the greatest distance plus 1 across the edges, and no wider along them.
@@ -24,6 +26,23 @@ pub fn columns_have_whole_runs()
 pub fn columns_make_the_layout()
     ensures { ColumnsMakeTheLayout }
 {
+    test_decides_pair_steps();
+    squares_lie_in_boxes();
+}
+
+/// Each column of a layout has some place, and lies within the layout's extent.
+pub fn columns_lie_within()
+    ensures { ColumnsLieWithin }
+{}
+
+/// Where all shapes are of one submission and columns of both axes cover the layout, the markers of their lists, put together, are the
+/// layout's, also where nothing is shown.
+pub fn lists_make_the_layout()
+    ensures { ListsMakeTheLayout }
+{
+    columns_make_the_layout();
+    no_shapes_no_markers();
+    shapes_come_from_the_shelf();
     test_decides_pair_steps();
     squares_lie_in_boxes();
 }

@@ -3,9 +3,10 @@
 //!
 //! A pair step of row `j` asks of row `j` alone, so a column's window is wider than the column to the left and to the right, and no
 //! wider up or down ([`window_decides_along`]). What a column finds is whole, and no other column has it
-//! ([`columns_have_whole_runs`]): so no flat list is held, and only the rectangles of the columns at work are. [`check_columns`] takes a
-//! snapshot apart into columns, checks each by itself, and puts their lists together, which are the flat layout's book then
-//! ([`columns_make_the_layout`]): a list goes on where the column before ends ([`columns_follow_on`]), so nothing is sorted as a whole.
+//! ([`columns_have_whole_runs`]): so no flat list is held, and only the rectangles of the columns at work are. [`columns_of`] cuts the layout
+//! of a snapshot into columns, [`lists_of_columns`] finds the keys of each of them, or of a share of them ([`columns_lie_within`]), and the lists
+//! of all, put together ([`mpw_keys::together`]), are the flat layout's book ([`lists_make_the_layout`]): a list goes on where the column before
+//! ends ([`columns_follow_on`]), so nothing is sorted as a whole. [`check_columns`] is these three, one after another.
 //!
 //! Columns of a regular layout show the same, displaced: these are found once (`earlier`, `equal`), and their lists displaced (`like`).
 //!
@@ -14,14 +15,12 @@
 #![tactic(auto)]
 
 mod check;
-mod column;
 mod columns;
 mod displaced;
 mod divide;
 mod earlier;
 mod equal;
 mod follow;
-mod keys;
 mod laws;
 mod leaf;
 mod like;
@@ -29,14 +28,15 @@ mod list;
 mod load;
 mod look;
 mod part;
+mod plan;
 mod progress;
-mod together;
 
-pub use check::{MAX_SHOWN, check_columns};
-pub use column::Column;
+pub use check::{MAX_SHOWN, check_columns, lists_of_columns};
 pub use follow::columns_follow_on;
 pub use laws::{
-    columns_have_whole_runs, columns_make_the_layout, displaced_columns_find_displaced_runs,
-    displaced_columns_have_displaced_lists, moved_items_show_displaced, window_decides_along,
+    columns_have_whole_runs, columns_lie_within, columns_make_the_layout,
+    displaced_columns_find_displaced_runs, displaced_columns_have_displaced_lists,
+    lists_make_the_layout, moved_items_show_displaced, window_decides_along,
 };
+pub use plan::columns_of;
 pub use progress::{Progress, Silent};

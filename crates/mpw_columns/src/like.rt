@@ -2,17 +2,15 @@
 
 ghost use Rattle.std.specs.Prelude.{◌≡◌, length, All, IfOk};
 ghost use Rattle.std.specs.List.{AllZip};
-ghost use Rattle.mpw_columns.specs.Seen.{seen_box};
-ghost use Rattle.mpw_columns.specs.Columns.{upright};
-ghost use Rattle.mpw_columns.specs.Together.{IsColumnList};
+ghost use Rattle.mpw_keys.specs.Columns.{seen_box, upright};
+ghost use Rattle.mpw_columns.specs.Lists.{IsColumnList};
 ghost use Rattle.mpw_columns.specs.Internal.Checked.{IsLayout};
 ghost use Rattle.mpw_columns.specs.Internal.Found.{IsUpright};
 ghost use Rattle.mpw_columns.specs.Internal.Like.{AreLikes, own_columns};
 
 use crate::check::Layout;
-use crate::column::Column;
 use crate::displaced::list_from;
-use crate::keys::ColumnKeys;
+use mpw_keys::{Column, ColumnKeys};
 use std::alloc::{AllocError, Global};
 
 /// The columns that are like no earlier one, in their order. One pass; an error is want of memory.

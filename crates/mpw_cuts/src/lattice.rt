@@ -136,6 +136,14 @@ pub fn lattices_of(
     Ok(lattices)
 }
 
+/// Whether places so far apart lie within a cell of the finest lattice.
+pub fn is_within_cell(lattices: &[Lattice], width: u64) -> bool {
+    match lattices.last() {
+        Some(finest) => width <= u64::from(finest.pitch),
+        None => false,
+    }
+}
+
 /// How far a place lies behind a line, below the pitch.
 fn past_line(at: i64, line: i64, pitch: u32) -> i64 {
     let pitch = i64::from(pitch.max(1));

@@ -9,4 +9,4 @@ mod lattice;
 mod line;
 
 pub use counts::Counts;
-pub use lattice::{Lattice, lattices_of, line_between};
+pub use lattice::{Lattice, is_within_cell, lattices_of, line_between};

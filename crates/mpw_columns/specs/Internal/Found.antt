@@ -1,5 +1,5 @@
 -- What a column finds, step by step; all is seen along the column's axis.
-use Rattle.std.specs.Prelude.{◌≡◌, ◌≤◌, ◌<◌, ◌^◌, ℕ, ℤ, pos, neg_ℤ, ◌≤ℤ◌, ◌<ℤ◌, List, length, All, Contains, ◌⊎◌, ◌↔◌}
+use Rattle.std.specs.Prelude.{◌≡◌, ◌+◌, ◌≤◌, ◌<◌, ◌^◌, ℕ, ℤ, pos, neg_ℤ, ◌≤ℤ◌, ◌<ℤ◌, List, length, All, Contains, ◌⊎◌, ◌↔◌}
 use Rattle.mpw_geom.specs.declared.plane.Box2.{Box2}
 use Rattle.mpw_geom.specs.declared.plane.Layer.{Layer}
 use Rattle.mpw_deck.specs.declared.rule.Rule.{Rule}
@@ -8,7 +8,7 @@ use Rattle.mpw_edges.specs.Laws.{AreSameIn}
 use Rattle.mpw_region.specs.declared.runs.Run.{Run}
 use Rattle.mpw_markers.specs.declared.marker.Key.{Key}
 use Rattle.mpw_job.specs.Layers.{Coverage}
-use Rattle.mpw_columns.specs.declared.column.Column.{Column}
+use Rattle.mpw_keys.specs.declared.column.Column.{Column}
 use Rattle.mpw_columns.specs.Found.{IsFound, HasLayers}
 
 -- To the keys were added those that are found, and no others; of those of the first n rules alone.
@@ -93,12 +93,7 @@ pub record AreHalvesOf (c left right : Column) : Type 0 where
   pub some_left : left.from <ℤ left.to
   pub some_right : right.from <ℤ right.to
 
--- The number is not far off: an edge that a column finds, or how far apart two columns are.
-pub record IsNear (x : ℤ) : Type 0 where
-  pub low : neg_ℤ (pos (2 ^ 41)) ≤ℤ x
-  pub high : x ≤ℤ pos (2 ^ 41)
-
--- Neither of the key's edges is far off.
-pub record HasNearEdges (k : Key) : Type 0 where
-  pub first : IsNear k.x1
-  pub second : IsNear k.x2
+-- How many columns there are once a column was halved at most so many times behind so many others: halving ends where there are 2^20.
+pub record AreFew (depth before now : ℕ) : Type 0 where
+  pub early : before < 2 ^ 20 → now ≤ 2 ^ 20 + depth
+  pub late : 2 ^ 20 ≤ before → now ≤ before + 1

@@ -5,11 +5,10 @@ use Rattle.mpw_contents.specs.declared.thing.Thing.{Thing}
 use Rattle.mpw_contents.specs.Contents.{AreWhole, AreSound}
 use Rattle.mpw_contents.specs.Things.{things_items}
 use Rattle.mpw_tiles.specs.Snapshots.{shown}
+use Rattle.mpw_keys.specs.declared.column.Column.{Column}
+use Rattle.mpw_keys.specs.Columns.{seen_box, upright, across}
 use Rattle.mpw_columns.specs.declared.check.Layout.{Layout}
-use Rattle.mpw_columns.specs.declared.column.Column.{Column}
 use Rattle.mpw_columns.specs.declared.earlier.Kept.{Kept}
-use Rattle.mpw_columns.specs.Seen.{seen_box}
-use Rattle.mpw_columns.specs.Columns.{upright, across}
 use Rattle.mpw_columns.specs.Displaced.{IsDisplaced, ShowsDisplaced}
 
 -- The column is the earlier one, displaced, and their windows show the same, displaced.

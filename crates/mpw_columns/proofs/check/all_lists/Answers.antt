@@ -1,7 +1,7 @@
 use Rattle.std.proofs.Common.{◌+◌, ◌++◌, List, take, drop, take-add, sym, subst, arith}
 use Rattle.std.specs.List.{AllZip}
-use Rattle.mpw_columns.specs.declared.column.Column.{Column}
-use Rattle.mpw_columns.specs.Together.{IsColumnList}
+use Rattle.mpw_keys.specs.declared.column.Column.{Column}
+use Rattle.mpw_columns.specs.Lists.{IsColumnList}
 use Rattle.mpw_columns.proofs.Zipped.{zip_append}
 use Rattle.mpw_columns.proofs.check.all_lists.Goals as goal
 

@@ -1,6 +1,6 @@
 use Rattle.std.proofs.Common.{◌≤◌, ◌-◌, length, take}
 use Rattle.std.specs.List.{AllZip}
-use Rattle.mpw_columns.specs.Together.{IsColumnList}
+use Rattle.mpw_columns.specs.Lists.{IsColumnList}
 use Rattle.mpw_columns.proofs.check.all_lists.Given as goal
 
 abbrev pub invariant-loop-reached : goal.invariant-loop-reached

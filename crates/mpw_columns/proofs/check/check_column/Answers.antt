@@ -1,7 +1,7 @@
 use Rattle.std.proofs.Common.{◌∙◌, ap, sym, subst}
 use Rattle.mpw_geom.specs.declared.plane.Box2.{Box2}
+use Rattle.mpw_keys.specs.Columns.{upright}
 use Rattle.mpw_columns.specs.Internal.Found.{IsUpright}
-use Rattle.mpw_columns.specs.Columns.{upright}
 use Rattle.mpw_columns.proofs.Telling.{keys_of_core, runs_within, one_place}
 use Rattle.mpw_columns.proofs.check.check_column.Goals as goal
 

@@ -3,7 +3,7 @@ use Rattle.std.proofs.Common.{ap, ◌∙◌, sym, subst}
 use Rattle.std.specs.List.{AllZip}
 use Rattle.std.proofs.lemmas.Result.{MatchResult-weaker}
 use Rattle.rayon.proofs.ToStd.{slice-AllZip}
-use Rattle.mpw_columns.specs.Together.{IsColumnList}
+use Rattle.mpw_columns.specs.Lists.{IsColumnList}
 use Rattle.mpw_columns.proofs.Collected.{IsFor, all_zipped}
 use Rattle.mpw_columns.proofs.check.lists_of.Goals as goal
 

@@ -1,7 +1,7 @@
 use Rattle.std.proofs.Common.{take, drop}
 use Rattle.std.specs.List.{AllZip}
 use Rattle.std.specs.Vec.Iter.{into_iter_items}
-use Rattle.mpw_columns.specs.Together.{IsColumnList}
+use Rattle.mpw_columns.specs.Lists.{IsColumnList}
 use Rattle.mpw_columns.specs.Internal.Like.{own_columns}
 use Rattle.mpw_columns.proofs.like.lists_with.Given as goal
 

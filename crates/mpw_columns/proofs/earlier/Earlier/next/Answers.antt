@@ -2,7 +2,7 @@ use Rattle.std.proofs.Common.{pos, List, Option, get_or, subst, arith, IfSome}
 use Rattle.std.proofs.lemmas.List.{get_or_default}
 use Rattle.mpw_contents.specs.declared.thing.Thing.{Thing}
 use Rattle.mpw_edges.specs.declared.run.Axis.TheVariants.{V}
-use Rattle.mpw_columns.specs.declared.column.Column.{Column}
+use Rattle.mpw_keys.specs.declared.column.Column.{Column}
 use Rattle.mpw_columns.specs.Internal.Like.{AreContentsOf}
 use Rattle.mpw_columns.proofs.Alike.{kept_longer, kept_more}
 use Rattle.mpw_columns.proofs.earlier.Earlier.next.Goals as goal

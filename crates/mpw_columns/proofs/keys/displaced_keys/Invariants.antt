@@ -1,6 +1,0 @@
-use Rattle.std.proofs.Common.{◌≡◌, map, take}
-use Rattle.mpw_columns.specs.Displaced.{displaced_key}
-use Rattle.mpw_columns.proofs.keys.displaced_keys.Given as goal
-
-abbrev pub invariant-loop-key : goal.invariant-loop-key
-invariant-loop-key l = l.displaced.items ≡ map (displaced_key l.by) (take l.key-index l.keys)

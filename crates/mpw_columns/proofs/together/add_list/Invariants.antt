@@ -1,8 +1,0 @@
-use Rattle.std.proofs.Common.{◌≡◌, ◌++◌, map, take}
-use Rattle.mpw_columns.specs.Internal.Marked.{of_first}
-use Rattle.mpw_columns.specs.Together.{list_of}
-use Rattle.mpw_columns.proofs.together.add_list.Given as goal
-
-abbrev pub invariant-loop-list : goal.invariant-loop-list
-invariant-loop-list l = l.markers.items
-    ≡ l.initial.markers.items ++ map of_first (list_of l.fn.number (take l.list-index l.lists))

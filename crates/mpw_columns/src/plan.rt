@@ -1,0 +1,97 @@
+//! The columns into which a layout is cut.
+
+ghost use Rattle.std.specs.Prelude.{◌≡◌, ◌+◌, ◌≤◌, ◌^◌, true, length, Some, IfOk};
+ghost use Rattle.mpw_geom.specs.Plane.{IsOrdered};
+ghost use Rattle.mpw_hier.specs.Boxes.{is_box_near};
+ghost use Rattle.mpw_tiles.specs.Snapshots.{shown_extent};
+ghost use Rattle.mpw_keys.specs.Columns.{AreColumnsOf};
+ghost use Rattle.mpw_columns.specs.Plan.{AreColumnsOfLayout};
+ghost use Rattle.mpw_columns.specs.Internal.Checked.{IsCounted};
+
+use crate::columns::{View, columns_in};
+use crate::list::seen_box;
+use mpw_cuts::{Counts, lattices_of};
+use mpw_edges::Axis;
+use mpw_geom::Box2;
+use mpw_keys::Column;
+use mpw_tiles::{Snapshot, greatest_distance};
+use std::alloc::{AllocError, Global};
+
+/// The columns of an axis.
+fn columns_along(
+    alloc: Global,
+    snapshot: &Snapshot,
+    extent: &Box2,
+    most: u32,
+    axis: Axis,
+) -> Result<Vec<Column>, AllocError>
+    requires near { is_box_near extent.now ≡ true }
+    requires ordered { IsOrdered extent.now }
+    ensures columns { IfOk result (λ v. AreColumnsOf axis extent.now v.items) }
+    ensures few { IfOk result (λ v. length v.items ≤ 2 ^ 20 + 32) }
+{
+    let seen = seen_box(axis, extent);
+    let counts = Counts::of(alloc, snapshot, axis, &seen)?;
+    let lattices = lattices_of(alloc, snapshot, axis)?;
+    let view = View {
+        counts: &counts,
+        lattices: lattices.as_slice(),
+        axis,
+        seen,
+        distance: greatest_distance(snapshot.deck().rules().as_slice()),
+        most,
+    };
+    columns_in(alloc, &view)
+}
+
+/// The columns of both axes of an extent, and how many of them are of axis `V`; these come first.
+fn columns_of_both(
+    alloc: Global,
+    snapshot: &Snapshot,
+    extent: &Box2,
+    most: u32,
+) -> Result<(Vec<Column>, usize), AllocError>
+    requires extent { shown_extent snapshot.now ≡ Some extent.now }
+    requires near { is_box_near extent.now ≡ true }
+    requires ordered { IsOrdered extent.now }
+    ensures plan { IfOk result (λ v. IsCounted snapshot.now v.1 v.0.items) }
+    ensures few { IfOk result (λ v. length v.0.items ≤ 2 ^ 22) }
+{
+    let mut columns = columns_along(alloc, snapshot, extent, most, Axis::V)?;
+    let upright = columns.len();
+    let mut across = columns_along(alloc, snapshot, extent, most, Axis::H)?;
+    columns.append(&mut across)?;
+    Ok((columns, upright))
+}
+
+/// The columns of a layout, and how many of them are of axis `V`; these come first.
+pub(crate) fn counted_columns(
+    alloc: Global,
+    snapshot: &Snapshot,
+    most: u32,
+) -> Result<(Vec<Column>, usize), AllocError>
+    ensures plan { IfOk result (λ v. IsCounted snapshot.now v.1 v.0.items) }
+    ensures few { IfOk result (λ v. length v.0.items ≤ 2 ^ 22) }
+{
+    match snapshot.extent() {
+        Some(extent) => columns_of_both(alloc, snapshot, &extent, most),
+        None => Ok((Vec::new(alloc), 0)),
+    }
+}
+
+/// The columns into which the layout of a snapshot's roots is cut: those of axis `V` from the left, which cover its extent, and behind them
+/// those of axis `H` from below, which cover it too; none where nothing is shown.
+///
+/// The extent is halved along either axis until a column shows at most `most` shapes in its window, as far as halving can have that and until
+/// there are 2^20 columns of the axis. Where the cuts are depends on the layout, the deck and `most` alone. One count of the structures' shapes
+/// along each axis, and a few look-ups in it for each column.
+///
+/// # Errors
+/// Want of memory.
+pub fn columns_of(alloc: Global, snapshot: &Snapshot, most: u32) -> Result<Vec<Column>, AllocError>
+    ensures plan { IfOk result (λ v. AreColumnsOfLayout snapshot.now v.items) }
+    ensures few { IfOk result (λ v. length v.items ≤ 2 ^ 22) }
+{
+    let (columns, _) = counted_columns(alloc, snapshot, most)?;
+    Ok(columns)
+}

@@ -1,0 +1,4 @@
+pub mod SameKey
+pub mod KeyOrder
+pub mod Ordered
+pub mod Added

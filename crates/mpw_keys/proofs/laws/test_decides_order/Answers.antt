@@ -1,0 +1,5 @@
+use Rattle.mpw_keys.proofs.Ordered.{decides}
+use Rattle.mpw_keys.proofs.laws.test_decides_order.Goals as goal
+
+pub returns : goal.returns
+returns c = decides
