@@ -3,8 +3,7 @@ use Rattle.std.proofs.Common.{◌≡◌, ◌∙◌, ◌<◌, ◌+◌, ℕ, List,
 use Rattle.std.specs.Prelude.{All}
 use Rattle.std.proofs.lemmas.List.{at_drop_more}
 use Rattle.std.proofs.lemmas.List.Elements.{All-head, All-tail}
-use Rattle.mpw_text.specs.Text.{number_of}
-use Rattle.mpw_parts.specs.Reading.{all_of, numbers_from, ◌>>=◌}
+use Rattle.mpw_parts.specs.Reading.{all_of, ◌>>=◌}
 
 -- what was found so far, and what is left
 abbrev pub with_front : {A : Type 0} → List A → Option (List A) → Option (List A)
@@ -51,34 +50,3 @@ all_read f text Is each (y ∷ ys) all =
     ap (λ o. o >>= λ n. option_map (λ ns. n ∷ ns) (all_of f (map text ys)))
     (each y (All-head Is y ys all))
     ∙ ap (option_map (λ ns. y ∷ ns)) (all_read f text Is each ys (All-tail Is y ys all))
-
--- ---- numbers, each greater than the one before
-
-pub next_number : (low : ℕ) (front : List ℕ) (words : List (List ℕ)) (i : ℕ) (d word : List ℕ)
-    (n : ℕ) → i < length words → get_or words i d ≡ word → number_of low 4294967295 word ≡ Some n
-    → with_front (front ++ n ∷ []) (numbers_from (n + 1) (drop (i + 1) words)) ≡ with_front front
-    (numbers_from low (drop i words))
-unfolding numbers_from
-next_number low front words i d word n lt at told =
-    let more = at_drop_more (numbers_from low) words i d lt in
-    let here : numbers_from low (get_or words i d ∷ drop (i + 1) words) ≡ option_map (λ ns. n ∷ ns)
-    (numbers_from (n + 1) (drop (i + 1) words)) =
-    ap (λ w. number_of low 4294967295 w
-    >>= λ m. option_map (λ ns. m ∷ ns) (numbers_from (m + 1) (drop (i + 1) words))) at
-    ∙ ap (λ o. o >>= λ m. option_map (λ ns. m ∷ ns) (numbers_from (m + 1) (drop (i + 1) words)))
-    told in
-    pushed front n (numbers_from (n + 1) (drop (i + 1) words))
-    ∙ sym (ap (with_front front) (more ∙ here))
-
-pub no_number : (low : ℕ) (front : List ℕ) (words : List (List ℕ)) (i : ℕ) (d word : List ℕ)
-    → i < length words → get_or words i d ≡ word → number_of low 4294967295 word ≡ None
-    → with_front front (numbers_from low (drop i words)) ≡ None
-unfolding numbers_from
-no_number low front words i d word lt at told =
-    let more = at_drop_more (numbers_from low) words i d lt in
-    let here : numbers_from low (get_or words i d ∷ drop (i + 1) words) ≡ None =
-    ap (λ w. number_of low 4294967295 w
-    >>= λ m. option_map (λ ns. m ∷ ns) (numbers_from (m + 1) (drop (i + 1) words))) at
-    ∙ ap (λ o. o >>= λ m. option_map (λ ns. m ∷ ns) (numbers_from (m + 1) (drop (i + 1) words)))
-    told in
-    ap (with_front front) (more ∙ here)

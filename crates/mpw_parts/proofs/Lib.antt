@@ -1,10 +1,16 @@
 mod WordLemmas
+mod KeyLemmas
 mod AllOf
 mod Splitting
 mod Words
 mod ReadBack
 mod PartLemmas
+mod Lists
 mod Following
 mod Ending
 mod Subjects
 mod Faults
+mod Covered
+mod Texts
+mod Bound
+mod Joining

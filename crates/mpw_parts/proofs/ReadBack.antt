@@ -1,161 +1,196 @@
--- A marker and a tile, read again.
-use Rattle.std.proofs.Common.{◌≡◌, ◌≤◌, ◌<◌, ◌+◌, ◌^◌, ◌==◌, ◌<ℤ◌, ℕ, suc, zero, true, false, cond, Some, None, option_map, List, [], ◌∷◌, ◌++◌, map, refl, ap, sym, ◌∙◌, subst, arith, codes, append_assoc}
-use Rattle.std.specs.Prelude.{All, int_lt}
-use Rattle.std.specs.List.{flat_map}
+-- A key and a column's line, read again.
+use Rattle.std.proofs.Common.{◌≡◌, ◌==◌, ◌<ℤ◌, ℕ, true, false, cond, Some, None, List, [], ◌∷◌, ◌++◌, map, refl, ap, sym, ◌∙◌, subst, arith}
+use Rattle.std.specs.Prelude.{All, int_lt, int_le}
 use Rattle.std.specs.Fmt.{decimal, signed_decimal}
+use Rattle.std.proofs.lemmas.Bool.{and_from}
 use Rattle.std.proofs.lemmas.Int.{ints}
-use Rattle.std.proofs.lemmas.List.Concat.{flat_map-append}
 use Rattle.std.proofs.lemmas.List.Folds.{flat_map-map}
-use Rattle.std.proofs.lemmas.List.Elements.{All-head, All-tail, All-append, All-map, All-weaker, All-from_recursion}
+use Rattle.std.proofs.lemmas.List.Elements.{All-append, All-map, All-weaker, All-from_recursion}
 use Rattle.mpw_text.proofs.Decimals.{number_read}
 use Rattle.mpw_text.specs.Text.{words_of}
 use Rattle.mpw_markers.specs.declared.marker.Key.{Key}
-use Rattle.mpw_markers.specs.declared.marker.Marker.{Marker}
-use Rattle.mpw_markers.specs.Markers.{key_of}
-use Rattle.mpw_markers.specs.Met.{IsAscending}
-use Rattle.mpw_parts.specs.Parts.{IsNumber, IsMarker, AreMarkers}
-use Rattle.mpw_parts.specs.Reading.{filled_key, key_by, numbers_from, marker_with, marker_by, marker_of, fields_of, tile_by, tile_of, ◌>>=◌}
-use Rattle.mpw_parts.specs.Text.{axis_text, coloned, spaced, key_fields, key_text, met_text, marker_text, tile_line}
+use Rattle.mpw_keys.specs.declared.column.Column.{Column}
+use Rattle.mpw_keys.specs.Keys.{AreInOrder}
+use Rattle.mpw_keys.proofs.Ordered.{decides}
+use Rattle.mpw_parts.specs.declared.line.Listed.{Listed}
+use Rattle.mpw_parts.specs.Parts.{IsKeyOf, IsListOf, IsKey, IsColumn, AreKeys}
+use Rattle.mpw_parts.specs.Reading.{all_of, edges_by, key_with, key_in, key_from, key_by, column_key, fields_of, some_column, column_by, with_keys, column_words, column_of, ◌>>=◌}
+use Rattle.mpw_parts.specs.Text.{axis_text, spaced, key_fields, key_text, column_fields, column_text, column_line}
 use Rattle.mpw_parts.proofs.AllOf.{all_read}
 use Rattle.mpw_parts.proofs.Splitting.{IsGlyph, IsPlain, IsOne, each_behind, parts_again, one_word, one_line, one_field, glyphs, all_flat}
 use Rattle.mpw_parts.proofs.Words.{number_plain, integer_read, integer_plain, axis_read, axis_plain}
 
--- ---- the submissions that a marker meets
+-- ---- a key
 
-pub numbers_read : (low : ℕ) (ns : List ℕ) → IsAscending ns → All (λ n. low ≤ n) ns
-    → All IsNumber ns → numbers_from low (map decimal ns) ≡ Some ns
-unfolding numbers_from
-numbers_read low [] up least small = refl
-numbers_read low (n ∷ ns) up least small =
-    let narrow : n < 2 ^ 32 = All-head IsNumber n ns small in
-    let here = number_read low n 4294967295 (omega (arith, narrow))
-    (All-head (λ m. low ≤ m) n ns least) (omega (arith, narrow)) in
-    let behind : All (λ m. n + 1 ≤ m) ns = λ k d lt. let less = up zero (suc k) d (omega arith)
-    (omega (arith, lt)) in omega (arith, less) in
-    let rest = numbers_read (n + 1) ns
-    (λ i j d lt within. up (suc i) (suc j) d (omega (arith, lt)) (omega (arith, within))) behind
-    (All-tail IsNumber n ns small) in
-    ap (λ o. o >>= λ m. option_map (λ ms. m ∷ ms) (numbers_from (m + 1) (map decimal ns))) here
-    ∙ ap (option_map (λ ms. n ∷ ms)) rest
+edges_read : (k : Key) → IsKey k → edges_by (signed_decimal k.x1 ∷ signed_decimal k.x2
+    ∷ signed_decimal k.y0 ∷ signed_decimal k.y1 ∷ [])
+    ≡ Some (record { x1 = k.x1; x2 = k.x2; y0 = k.y0; y1 = k.y1 })
+unfolding edges_by
+edges_read k h =
+    rw (
+      integer_read k.x1 h.x1,
+      integer_read k.x2 h.x2,
+      integer_read k.y0 h.y0,
+      integer_read k.y1 h.y1,
+    ) refl
 
--- ---- a marker
+in_read : (c : Column) (k : Key) → IsKeyOf c k → key_in c k ≡ Some k
+unfolding key_in
+in_read c k h =
+    let left = h.left in
+    let right = h.right in
+    let filled = h.filled in
+    let first : int_le c.from k.x1 ≡ true = grind (arith, ints, left) in
+    let second : int_lt k.x1 c.to ≡ true = grind (arith, ints, right) in
+    let third : int_lt k.y0 k.y1 ≡ true = grind (arith, ints, filled) in
+    ap (λ b. cond b (Some k) None) (and_from _ _ first (and_from _ _ second third))
 
-has_row : (k : Key) → k.y0 <ℤ k.y1 → filled_key k ≡ Some k
-has_row k h = let test : int_lt k.y0 k.y1 ≡ true = grind (arith, ints, h) in
-    ap (λ b. cond b (Some k) None) test
-
-key_read : (m : Marker) → IsMarker m
-    → key_by (decimal m.rule) (axis_text m.axis) (decimal m.side) (signed_decimal m.x1)
-    (signed_decimal m.x2) (signed_decimal m.y0) (signed_decimal m.y1) ≡ Some (key_of m)
-unfolding key_by
-key_read m h =
+fields_read : (c : Column) (k : Key) → IsKey k → IsKeyOf c k
+    → key_by c (decimal k.rule ∷ key_fields k) ≡ Some k
+unfolding key_by key_from
+fields_read c k h of =
     let narrow = h.rule in
     let short = h.side in
     rw (
-      number_read 0 m.rule 4294967295 (omega (arith, narrow)) (omega arith)
+      number_read 0 k.rule 4294967295 (omega (arith, narrow)) (omega arith)
           (omega (arith, narrow)),
-      axis_read m.axis,
-      number_read 0 m.side 255 (omega (arith, short))
+      number_read 0 k.side 255 (omega (arith, short))
           (omega arith) (omega (arith, short)),
-      integer_read m.x1 h.x1,
-      integer_read m.x2 h.x2,
-      integer_read m.y0 h.y0,
-      integer_read m.y1 h.y1,
+      edges_read k h,
     )
-    (has_row (key_of m) h.filled)
+    (ap (λ a. key_in c (key_with a k.rule k.side
+    (record { x1 = k.x1; x2 = k.x2; y0 = k.y0; y1 = k.y1 }))) (sym of.on_axis)
+    ∙ in_read c k of)
 
-marker_text_is : (m : Marker) → marker_text m ≡ decimal m.rule
-    ++ each_behind 58 (key_fields m ++ map decimal m.met)
-unfolding marker_text key_text
-marker_text_is m =
-    append_assoc (decimal m.rule) (flat_map coloned (key_fields m)) (flat_map met_text m.met)
-    ∙ ap (λ t. decimal m.rule ++ t)
-    (ap (λ t. flat_map coloned (key_fields m) ++ t) (sym (flat_map-map coloned decimal m.met))
-    ∙ sym (flat_map-append coloned (key_fields m) (map decimal m.met)))
-
-narrow_plain : (n : ℕ) → IsNumber n → All IsPlain (decimal n)
-narrow_plain n h = number_plain n (omega (arith, h))
-
-fields_plain : (m : Marker) → IsMarker m → All (All IsPlain) (key_fields m ++ map decimal m.met)
-fields_plain m h =
+fields_plain : (k : Key) → IsKey k → All (All IsPlain) (key_fields k)
+fields_plain k h =
     let short = h.side in
-    All-append (All IsPlain) (key_fields m) (map decimal m.met)
-    (All-from_recursion (All IsPlain) (key_fields m) (
-      axis_plain m.axis,
+    All-from_recursion (All IsPlain) (key_fields k) (
+      number_plain k.side (omega (arith, short)),
       (
-        number_plain m.side (omega (arith, short)),
+        integer_plain k.x1 h.x1,
         (
-          integer_plain m.x1 h.x1,
-          (
-            integer_plain m.x2 h.x2,
-            (integer_plain m.y0 h.y0, (integer_plain m.y1 h.y1, tt)),
-          ),
+          integer_plain k.x2 h.x2,
+          (integer_plain k.y0 h.y0, (integer_plain k.y1 h.y1, tt)),
         ),
       ),
-    ))
-    (All-map (All IsPlain) decimal m.met
-    (All-weaker IsNumber (λ n. All IsPlain (decimal n)) narrow_plain m.met h.met))
+    )
 
-marker_fields : (m : Marker) → IsMarker m → fields_of (marker_text m) ≡ decimal m.rule
-    ∷ (key_fields m ++ map decimal m.met)
-marker_fields m h =
-    let narrow = h.rule in
-    ap fields_of (marker_text_is m)
-    ∙ parts_again 58 (decimal m.rule) (key_fields m ++ map decimal m.met)
-    (one_field (decimal m.rule) (number_plain m.rule (omega (arith, narrow))))
-    (All-weaker (All IsPlain) (IsOne 58) one_field (key_fields m ++ map decimal m.met)
-    (fields_plain m h))
+rule_plain : (k : Key) → IsKey k → All IsPlain (decimal k.rule)
+rule_plain k h = let narrow = h.rule in number_plain k.rule (omega (arith, narrow))
 
-pub marker_read : (m : Marker) → IsMarker m → marker_of (marker_text m) ≡ Some m
-unfolding marker_by
-marker_read m h =
-    ap marker_by (marker_fields m h)
-    ∙ ap (λ o. o >>= λ key. option_map (marker_with key) (numbers_from 0 (map decimal m.met)))
-    (key_read m h)
-    ∙ ap (option_map (marker_with (key_of m)))
-    (numbers_read 0 m.met h.ascending (λ k d lt. omega arith) h.met)
+key_parts : (k : Key) → IsKey k → fields_of (key_text k) ≡ decimal k.rule ∷ key_fields k
+unfolding key_text
+key_parts k h =
+    parts_again 58 (decimal k.rule) (key_fields k) (one_field (decimal k.rule) (rule_plain k h))
+    (All-weaker (All IsPlain) (IsOne 58) one_field (key_fields k) (fields_plain k h))
 
-pub marker_glyphs : (m : Marker) → IsMarker m → All IsGlyph (marker_text m)
-marker_glyphs m h =
-    let narrow = h.rule in
-    subst (All IsGlyph) (sym (marker_text_is m))
-    (All-append IsGlyph (decimal m.rule) (each_behind 58 (key_fields m ++ map decimal m.met))
-    (glyphs (decimal m.rule) (number_plain m.rule (omega (arith, narrow))))
-    (all_flat IsGlyph 58 (key_fields m ++ map decimal m.met) (omega arith)
-    (All-weaker (All IsPlain) (All IsGlyph) glyphs (key_fields m ++ map decimal m.met)
-    (fields_plain m h))))
+key_glyphs : (k : Key) → IsKey k → All IsGlyph (key_text k)
+unfolding key_text
+key_glyphs k h =
+    All-append IsGlyph (decimal k.rule) (each_behind 58 (key_fields k))
+    (glyphs (decimal k.rule) (rule_plain k h))
+    (all_flat IsGlyph 58 (key_fields k) (omega arith)
+    (All-weaker (All IsPlain) (All IsGlyph) glyphs (key_fields k) (fields_plain k h)))
 
--- ---- a tile
+-- a key with what its fields have, of a column
+record IsKeyIn (c : Column) (k : Key) : Type 0 where
+  key : IsKey k
+  of : IsKeyOf c k
 
-abbrev Tile : List ℕ
-Tile = codes "tile"
+key_read : (c : Column) (k : Key) → IsKeyIn c k → column_key c (key_text k) ≡ Some k
+key_read c k h = ap (key_by c) (key_parts k h.key) ∙ fields_read c k h.key h.of
 
-tile_line_is : (ms : List Marker) → tile_line ms ≡ Tile ++ each_behind 32 (map marker_text ms)
-unfolding tile_line
-tile_line_is ms = ap (λ t. Tile ++ t) (sym (flat_map-map spaced marker_text ms))
+-- ---- a column
 
-markers_glyphs : (ms : List Marker) → AreMarkers ms → All (All IsGlyph) (map marker_text ms)
-markers_glyphs ms all = All-map (All IsGlyph) marker_text ms
-    (All-weaker IsMarker (λ m. All IsGlyph (marker_text m)) marker_glyphs ms all)
+some_read : (c : Column) → c.from <ℤ c.to → some_column c ≡ Some c
+unfolding some_column
+some_read c h = let test : int_lt c.from c.to ≡ true = grind (arith, ints, h) in
+    ap (λ b. cond b (Some c) None) test
 
-tile_words : (ms : List Marker) → AreMarkers ms → words_of (tile_line ms) ≡ Tile
-    ∷ map marker_text ms
-tile_words ms all =
-    ap words_of (tile_line_is ms)
-    ∙ parts_again 32 Tile (map marker_text ms)
-    (All-from_recursion (λ byte. (byte == 32) ≡ false) Tile (refl, (refl, (refl, (refl, tt)))))
-    (All-weaker (All IsGlyph) (IsOne 32) one_word (map marker_text ms) (markers_glyphs ms all))
+sides_read : (c : Column) → IsColumn c → c.from <ℤ c.to
+    → column_by (axis_text c.axis ∷ column_fields c) ≡ Some c
+unfolding column_by
+sides_read c h some =
+    rw (axis_read c.axis, integer_read c.from h.from, integer_read c.to h.to) (some_read c some)
 
-pub tile_read : (ms : List Marker) → AreMarkers ms → tile_of (tile_line ms) ≡ Some ms
-unfolding tile_by
-tile_read ms all =
-    ap tile_by (tile_words ms all) ∙ all_read marker_of marker_text IsMarker marker_read ms all
+sides_plain : (c : Column) → IsColumn c → All (All IsPlain) (column_fields c)
+sides_plain c h = All-from_recursion (All IsPlain) (column_fields c)
+    (integer_plain c.from h.from, (integer_plain c.to h.to, tt))
 
-pub tile_one_line : (ms : List Marker) → AreMarkers ms → IsOne 10 (tile_line ms)
-tile_one_line ms all =
-    subst (IsOne 10) (sym (tile_line_is ms))
-    (All-append (λ byte. (byte == 10) ≡ false) Tile (each_behind 32 (map marker_text ms))
-    (All-from_recursion (λ byte. (byte == 10) ≡ false) Tile (refl, (refl, (refl, (refl, tt)))))
-    (all_flat (λ byte. (byte == 10) ≡ false) 32 (map marker_text ms) refl
-    (All-weaker (All IsGlyph) (IsOne 10) one_line (map marker_text ms)
-    (markers_glyphs ms all))))
+column_parts : (c : Column) → IsColumn c
+    → fields_of (column_text c) ≡ axis_text c.axis ∷ column_fields c
+unfolding column_text
+column_parts c h =
+    parts_again 58 (axis_text c.axis) (column_fields c)
+    (one_field (axis_text c.axis) (axis_plain c.axis))
+    (All-weaker (All IsPlain) (IsOne 58) one_field (column_fields c) (sides_plain c h))
+
+column_glyphs : (c : Column) → IsColumn c → All IsGlyph (column_text c)
+unfolding column_text
+column_glyphs c h =
+    All-append IsGlyph (axis_text c.axis) (each_behind 58 (column_fields c))
+    (glyphs (axis_text c.axis) (axis_plain c.axis))
+    (all_flat IsGlyph 58 (column_fields c) (omega arith)
+    (All-weaker (All IsPlain) (All IsGlyph) glyphs (column_fields c) (sides_plain c h)))
+
+column_read : (c : Column) → IsColumn c → c.from <ℤ c.to
+    → column_by (fields_of (column_text c)) ≡ Some c
+column_read c h some = ap column_by (column_parts c h) ∙ sides_read c h some
+
+-- ---- its line
+
+-- a column with its keys, with what the fields of each have
+pub record IsLine (l : Listed) : Type 0 where
+  pub column : IsColumn l.column
+  pub of : IsListOf l.column l.keys
+  pub own : AreKeys l.keys
+
+abbrev pub line_of : Listed → List ℕ
+line_of l = column_line l.column l.keys
+
+line_is : (c : Column) (keys : List Key)
+    → column_line c keys ≡ column_text c ++ each_behind 32 (map key_text keys)
+unfolding column_line
+line_is c keys = ap (λ t. column_text c ++ t) (sym (flat_map-map spaced key_text keys))
+
+keys_glyphs : (keys : List Key) → All IsKey keys → All (All IsGlyph) (map key_text keys)
+keys_glyphs keys all = All-map (All IsGlyph) key_text keys
+    (All-weaker IsKey (λ k. All IsGlyph (key_text k)) key_glyphs keys all)
+
+line_words : (l : Listed) → IsLine l
+    → words_of (line_of l) ≡ column_text l.column ∷ map key_text l.keys
+line_words l h =
+    ap words_of (line_is l.column l.keys)
+    ∙ parts_again 32 (column_text l.column) (map key_text l.keys)
+    (one_word (column_text l.column) (column_glyphs l.column h.column))
+    (All-weaker (All IsGlyph) (IsOne 32) one_word (map key_text l.keys)
+    (keys_glyphs l.keys h.own.all))
+
+ordered_read : (l : Listed) → AreInOrder l.keys → with_keys l.column l.keys ≡ Some l
+unfolding with_keys
+ordered_read l h = ap (λ b. cond b (Some l) None) ((decides l.keys).1 h)
+
+words_read : (l : Listed) → IsLine l
+    → column_words (column_text l.column ∷ map key_text l.keys) ≡ Some l
+unfolding column_words
+words_read l h =
+    ap (λ o. o >>= λ c. all_of (column_key c) (map key_text l.keys) >>= λ keys. with_keys c keys)
+    (column_read l.column h.column h.of.some)
+    ∙ ap (λ o. o >>= λ keys. with_keys l.column keys)
+    (all_read (column_key l.column) key_text (IsKeyIn l.column) (key_read l.column) l.keys
+    (λ i d less. record { key = h.own.all i d less; of = h.of.all i d less }))
+    ∙ ordered_read l h.own.ordered
+
+pub line_read : (l : Listed) → IsLine l → column_of (line_of l) ≡ Some l
+line_read l h = ap column_words (line_words l h) ∙ words_read l h
+
+pub line_one_line : (l : Listed) → IsLine l → IsOne 10 (line_of l)
+line_one_line l h =
+    subst (IsOne 10) (sym (line_is l.column l.keys))
+    (All-append (λ byte. (byte == 10) ≡ false) (column_text l.column)
+    (each_behind 32 (map key_text l.keys))
+    (one_line (column_text l.column) (column_glyphs l.column h.column))
+    (all_flat (λ byte. (byte == 10) ≡ false) 32 (map key_text l.keys) refl
+    (All-weaker (All IsGlyph) (IsOne 10) one_line (map key_text l.keys)
+    (keys_glyphs l.keys h.own.all))))

@@ -1,2 +1,3 @@
 -- What private functions and proofs alone need: no public contract speaks of it.
+pub mod Reading
 pub mod Stitching

@@ -1,63 +1,88 @@
--- Parts of a check: what was checked, and the markers of some tiles of its plan.
-use Rattle.std.specs.Prelude.{◌≡◌, ◌≤◌, ◌<◌, ◌^◌, ◌+◌, FitsSigned, ℕ, ℤ, List, length, All}
+-- Parts of a check: what was checked, and the keys of some of the columns into which the layout is cut.
+use Rattle.std.specs.Prelude.{◌≡◌, ◌≤◌, ◌<◌, ◌≤ℤ◌, ◌<ℤ◌, ◌^◌, ◌+◌, FitsSigned, ℕ, ℤ, List, length, All, Option, IfSome}
+use Rattle.std.specs.List.{AllZip}
 use Rattle.std.specs.Int.{w64}
 use Rattle.hex.specs.Hex.{IsBytes}
+use Rattle.mpw_geom.specs.declared.plane.Box2.{Box2}
 use Rattle.mpw_geom.specs.Name.{IsName}
-use Rattle.mpw_markers.specs.declared.marker.Marker.{Marker}
-use Rattle.mpw_markers.specs.Markers.{IsFilled}
-use Rattle.mpw_markers.specs.Met.{IsAscending}
+use Rattle.mpw_markers.specs.declared.marker.Key.{Key}
+use Rattle.mpw_keys.specs.declared.column.Column.{Column}
+use Rattle.mpw_keys.specs.Keys.{AreInOrder}
 
--- What is checked: the SHA-256 of the library's text, the deck's text, the structure's name, and how many tiles the plan has.
+-- What is checked: the SHA-256 of the library's text, the deck's text, the structure's name, the extent of what is checked where there
+-- are shapes, and into how many columns it is cut.
 pub record Checked : Type 0 where
   pub library : List ℕ
   pub deck : List ℕ
   pub top : List ℕ
-  pub tiles : ℕ
+  pub extent : Option Box2
+  pub columns : ℕ
 
--- The markers of tiles of its plan, one list a tile, from the first of them on.
+-- Columns that stand one behind another among those, from the first of them on, and the keys of each.
 pub record Found : Type 0 where
   pub subject : Checked
   pub first : ℕ
-  pub lists : List (List Marker)
+  pub columns : List Column
+  pub lists : List (List Key)
 
--- A plan has at most 4096 tiles.
+-- There are at most 2^22 columns.
 abbrev pub IsFew : Checked → Type 0
-IsFew subject = subject.tiles ≤ 4096
+IsFew subject = subject.columns ≤ 4194304
 
--- The tiles are of the plan.
-abbrev pub IsWithin : Found → Type 0
-IsWithin part = part.first + length part.lists ≤ part.subject.tiles
+-- The key is on the column's axis, its first edge lies in the column, and it has a row.
+pub record IsKeyOf (c : Column) (k : Key) : Type 0 where
+  pub on_axis : k.axis ≡ c.axis
+  pub left : c.from ≤ℤ k.x1
+  pub right : k.x1 <ℤ c.to
+  pub filled : k.y0 <ℤ k.y1
+
+-- The column has a place, and the keys are of it.
+pub record IsListOf (c : Column) (keys : List Key) : Type 0 where
+  pub some : c.from <ℤ c.to
+  pub all : All (IsKeyOf c) keys
+
+-- There is a list for each column, which is of it, and the columns are among those of the whole.
+pub record IsWithin (part : Found) : Type 0 where
+  pub few : part.first + length part.lists ≤ part.subject.columns
+  pub lists : AllZip IsListOf part.columns part.lists
 
 -- ---- what the fields of a part's types can have
 
 abbrev pub IsSigned : ℤ → Type 0
 IsSigned z = FitsSigned w64 z
 
-abbrev pub IsNumber : ℕ → Type 0
-IsNumber n = n < 2 ^ 32
+pub record IsKey (k : Key) : Type 0 where
+  pub rule : k.rule < 2 ^ 32
+  pub side : k.side < 2 ^ 8
+  pub x1 : IsSigned k.x1
+  pub x2 : IsSigned k.x2
+  pub y0 : IsSigned k.y0
+  pub y1 : IsSigned k.y1
 
-pub record IsMarker (m : Marker) : Type 0 where
-  pub rule : m.rule < 2 ^ 32
-  pub side : m.side < 2 ^ 8
-  pub x1 : IsSigned m.x1
-  pub x2 : IsSigned m.x2
-  pub y0 : IsSigned m.y0
-  pub y1 : IsSigned m.y1
-  pub filled : IsFilled m
-  pub ascending : IsAscending m.met
-  pub met : All IsNumber m.met
+pub record IsColumn (c : Column) : Type 0 where
+  pub from : IsSigned c.from
+  pub to : IsSigned c.to
 
-abbrev pub AreMarkers : List Marker → Type 0
-AreMarkers markers = All IsMarker markers
+pub record IsBox (b : Box2) : Type 0 where
+  pub x0 : IsSigned b.x0
+  pub y0 : IsSigned b.y0
+  pub x1 : IsSigned b.x1
+  pub y1 : IsSigned b.y1
+
+pub record AreKeys (keys : List Key) : Type 0 where
+  pub ordered : AreInOrder keys
+  pub all : All IsKey keys
 
 pub record IsChecked (subject : Checked) : Type 0 where
   pub digest : length subject.library ≡ 32
   pub library : IsBytes subject.library
   pub deck : IsBytes subject.deck
   pub top : IsName subject.top
+  pub extent : IfSome subject.extent IsBox
   pub few : IsFew subject
 
 pub record IsPart (part : Found) : Type 0 where
   pub subject : IsChecked part.subject
   pub within : IsWithin part
-  pub lists : All AreMarkers part.lists
+  pub columns : All IsColumn part.columns
+  pub lists : All AreKeys part.lists

@@ -1,16 +1,20 @@
 -- What a text says as a part, if it is one.
-use Rattle.std.specs.Prelude.{◌==◌, ◌+◌, ◌-◌, ℕ, ℤ, pos, neg_ℤ, int_lt, Bool, false, nat_le, List, [], ◌∷◌, codes, length, take, Option, None, Some, option_map, option_and_then, if◌then◌else◌}
+use Rattle.std.specs.Prelude.{◌==◌, ◌&&◌, ◌||◌, ◌+◌, ◌-◌, ℕ, ℤ, pos, neg_ℤ, int_lt, int_le, Bool, true, false, nat_le, List, [], ◌∷◌, codes, length, map, take, drop, Option, None, Some, option_map, option_and_then, if◌then◌else◌}
 use Rattle.std.specs.List.{slice_split}
 use Rattle.std.specs.Result.{result_ok}
 use Rattle.hex.specs.Hex.{decode_of, decode_sized}
+use Rattle.mpw_geom.specs.declared.plane.Box2.{Box2}
 use Rattle.mpw_geom.specs.Name.{is_visible_word}
 use Rattle.mpw_geom.specs.Names.{name_eq}
 use Rattle.mpw_text.specs.Text.{lines_of, words_of, number_of}
 use Rattle.mpw_edges.specs.declared.run.Axis.{Axis}
 use Rattle.mpw_edges.specs.declared.run.Axis.TheVariants.{V, H}
 use Rattle.mpw_markers.specs.declared.marker.Key.{Key}
-use Rattle.mpw_markers.specs.declared.marker.Marker.{Marker}
+use Rattle.mpw_keys.specs.declared.column.Column.{Column}
+use Rattle.mpw_keys.specs.Keys.{are_in_order}
 use Rattle.mpw_parts.specs.declared.head.Heading.{Heading}
+use Rattle.mpw_parts.specs.declared.key.Edges.{Edges}
+use Rattle.mpw_parts.specs.declared.line.Listed.{Listed}
 use Rattle.mpw_parts.specs.Parts.{Found}
 
 -- a part, and then the next where there is one
@@ -52,78 +56,119 @@ bytes_of word = result_ok (decode_of word)
 unfoldable pub digest_of : List ℕ → Option (List ℕ)
 digest_of word = result_ok (decode_sized word 32)
 
--- ---- a marker
-
--- the numbers of 32 bits that words spell, each greater than the one before and the first from a least one on
-unfoldable pub numbers_from : ℕ → List (List ℕ) → Option (List ℕ)
-numbers_from low [] = Some []
-numbers_from low (word ∷ words) =
-    number_of low 4294967295 word >>= λ n. option_map (λ ns. n ∷ ns) (numbers_from (n + 1) words)
-
--- a key with a row
-abbrev pub filled_key : Key → Option Key
-filled_key key = if int_lt key.y0 key.y1 then Some key else None
-
-unfoldable pub key_by : (rule axis side x1 x2 y0 y1 : List ℕ) → Option Key
-key_by rule axis side x1 x2 y0 y1 = do
-  r ← number_of 0 4294967295 rule
-  a ← axis_of axis
-  s ← number_of 0 255 side
-  left ← integer_of x1
-  right ← integer_of x2
-  low ← integer_of y0
-  high ← integer_of y1
-  filled_key (record { rule = r; axis = a; side = s; x1 = left; x2 = right; y0 = low; y1 = high })
-
--- the marker of a key, which meets these submissions
-abbrev pub marker_with : Key → List ℕ → Marker
-marker_with k met = record {
-  rule = k.rule;
-  axis = k.axis;
-  side = k.side;
-  x1 = k.x1;
-  x2 = k.x2;
-  y0 = k.y0;
-  y1 = k.y1;
-  met = met;
-}
-
-unfoldable pub marker_by : List (List ℕ) → Option Marker
-marker_by (rule ∷ axis ∷ side ∷ x1 ∷ x2 ∷ y0 ∷ y1 ∷ met) =
-    key_by rule axis side x1 x2 y0 y1 >>= λ key. option_map (marker_with key) (numbers_from 0 met)
-marker_by _ = None
-
 -- the parts of a word between colons
 abbrev pub fields_of : List ℕ → List (List ℕ)
 fields_of word = slice_split (λ b. b == 58) word
 
-abbrev pub marker_of : List ℕ → Option Marker
-marker_of word = marker_by (fields_of word)
+-- a box by its sides: left, lower, right and upper
+unfoldable pub box_by : List (List ℕ) → Option Box2
+box_by (x0 ∷ y0 ∷ x1 ∷ y1 ∷ []) = do
+  left ← integer_of x0
+  low ← integer_of y0
+  right ← integer_of x1
+  high ← integer_of y1
+  Some (record { x0 = left; y0 = low; x1 = right; y1 = high })
+box_by _ = None
 
--- ---- lines
+-- an extent, or that there is none
+unfoldable pub extent_of : List ℕ → Option (Option Box2)
+extent_of word =
+    if name_eq word (codes "-") then Some None
+    else option_map (λ b. Some b) (box_by (fields_of word))
 
--- the markers of a tile's line, by its words
-unfoldable pub tile_by : List (List ℕ) → Option (List Marker)
-tile_by [] = None
-tile_by (kind ∷ words) = if name_eq kind (codes "tile") then all_of marker_of words else None
+-- ---- a column's line
 
-abbrev pub tile_of : List ℕ → Option (List Marker)
-tile_of line = tile_by (words_of line)
+-- a column with a place
+unfoldable pub some_column : Column → Option Column
+some_column c = if int_lt c.from c.to then Some c else None
 
--- what was checked, with the first tile, by the words of the first line
-unfoldable pub head_from : (library deck top tiles first : List ℕ) → Option Heading
-head_from library deck top tiles first = do
+unfoldable pub column_by : List (List ℕ) → Option Column
+column_by (axis ∷ from ∷ to ∷ []) = do
+  a ← axis_of axis
+  first ← integer_of from
+  end ← integer_of to
+  some_column (record { axis = a; from = first; to = end })
+column_by _ = None
+
+-- a key with a row whose first edge lies in the column
+abbrev pub is_in_column : Column → Key → Bool
+is_in_column c k = int_le c.from k.x1 && (int_lt k.x1 c.to && int_lt k.y0 k.y1)
+
+unfoldable pub key_in : Column → Key → Option Key
+key_in c k = if is_in_column c k then Some k else None
+
+-- where a key's edges and rows lie
+unfoldable pub edges_by : List (List ℕ) → Option Edges
+edges_by (x1 ∷ x2 ∷ y0 ∷ y1 ∷ []) = do
+  left ← integer_of x1
+  right ← integer_of x2
+  low ← integer_of y0
+  high ← integer_of y1
+  Some (record { x1 = left; x2 = right; y0 = low; y1 = high })
+edges_by _ = None
+
+-- a key on an axis
+abbrev pub key_with : Axis → (rule side : ℕ) → Edges → Key
+key_with axis rule side e = record {
+  rule = rule;
+  axis = axis;
+  side = side;
+  x1 = e.x1;
+  x2 = e.x2;
+  y0 = e.y0;
+  y1 = e.y1;
+}
+
+-- the key that fields tell, on the column's axis
+unfoldable pub key_from : Column → (rule side : List ℕ) → List (List ℕ) → Option Key
+key_from c rule side words = do
+  r ← number_of 0 4294967295 rule
+  s ← number_of 0 255 side
+  e ← edges_by words
+  key_in c (key_with c.axis r s e)
+
+unfoldable pub key_by : Column → List (List ℕ) → Option Key
+key_by c (rule ∷ side ∷ words) = key_from c rule side words
+key_by c _ = None
+
+abbrev pub column_key : Column → List ℕ → Option Key
+column_key c word = key_by c (fields_of word)
+
+-- a column with its keys, which are in order
+unfoldable pub with_keys : Column → List Key → Option Listed
+with_keys c keys = if are_in_order keys then Some (record { column = c; keys = keys }) else None
+
+-- by the words of its line
+unfoldable pub column_words : List (List ℕ) → Option Listed
+column_words [] = None
+column_words (word ∷ words) = do
+  c ← column_by (fields_of word)
+  keys ← all_of (column_key c) words
+  with_keys c keys
+
+abbrev pub column_of : List ℕ → Option Listed
+column_of line = column_words (words_of line)
+
+-- ---- the other lines
+
+-- what was checked, with the first column, by the words of the first line
+unfoldable pub head_from : List (List ℕ) → Option Heading
+head_from (library ∷ deck ∷ top ∷ extent ∷ columns ∷ first ∷ []) = do
   l ← digest_of library
-  t ← number_of 0 4096 tiles
-  f ← number_of 0 4096 first
+  c ← number_of 0 4194304 columns
+  f ← number_of 0 4194304 first
+  e ← extent_of extent
   n ← name_of top
   d ← bytes_of deck
-  Some (record { subject = record { library = l; deck = d; top = n; tiles = t }; first = f })
+  Some (record {
+    subject = record { library = l; deck = d; top = n; extent = e; columns = c };
+    first = f;
+  })
+head_from _ = None
 
 unfoldable pub head_by : List (List ℕ) → Option Heading
-head_by (kind ∷ library ∷ deck ∷ top ∷ tiles ∷ first ∷ []) =
-    if name_eq kind (codes "mpw-part-1") then head_from library deck top tiles first else None
-head_by _ = None
+head_by [] = None
+head_by (kind ∷ words) = if name_eq kind (codes "mpw-part-2") then head_from words else None
 
 abbrev pub head_of : List ℕ → Option Heading
 head_of line = head_by (words_of line)
@@ -134,23 +179,40 @@ is_ended [] = false
 is_ended (line ∷ []) = name_eq line (codes "end")
 is_ended (line ∷ next ∷ lines) = is_ended (next ∷ lines)
 
--- the tiles of the lines before it
-unfoldable pub tiles_of : List (List ℕ) → Option (List (List Marker))
-tiles_of lines = if is_ended lines then all_of tile_of (take (length lines - 1) lines) else None
+-- the columns of the lines before it
+unfoldable pub listed_of : List (List ℕ) → Option (List Listed)
+listed_of lines =
+    if is_ended lines then all_of column_of (take (length lines - 1) lines) else None
 
--- a part whose tiles are of its plan
-unfoldable pub within : Heading → List (List Marker) → Option Found
-within head lists =
-    if nat_le (head.first + length lists) head.subject.tiles
-    then Some (record { subject = head.subject; first = head.first; lists = lists }) else None
+-- a part whose columns are among those of the whole
+unfoldable pub within : Heading → List Column → List (List Key) → Option Found
+within head columns lists =
+    if nat_le (head.first + length lists) head.subject.columns
+    then Some (record {
+      subject = head.subject;
+      first = head.first;
+      columns = columns;
+      lists = lists;
+    }) else None
 
 unfoldable pub part_by : List (List ℕ) → Option Found
 part_by [] = None
 part_by (first ∷ lines) = do
   head ← head_of first
-  lists ← tiles_of lines
-  within head lists
+  found ← listed_of lines
+  within head (map (λ (l : Listed). l.column) found) (map (λ (l : Listed). l.keys) found)
 
 -- the part that a text is
 abbrev pub part_of : List ℕ → Option Found
 part_of text = part_by (lines_of text)
+
+-- ---- parts that were written before parts were of columns
+
+-- whether a word ends there
+abbrev pub ends_word : List ℕ → Bool
+ends_word [] = true
+ends_word (byte ∷ bytes) = byte == 32 || byte == 10
+
+-- the first word of the text's first line is that of a part of tiles
+abbrev pub is_older : List ℕ → Bool
+is_older text = name_eq (take 10 text) (codes "mpw-part-1") && ends_word (drop 10 text)

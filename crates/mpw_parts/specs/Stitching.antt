@@ -1,25 +1,35 @@
 -- Parts put together.
-use Rattle.std.specs.Prelude.{◌≡◌, ◌<◌, ◌≤◌, ◌+◌, ◌==◌, ◌&&◌, ◌⊎◌, not, nat_le, nat_lt, ℕ, Bool, List, [], ◌∷◌, codes, length, slice_get, slice_index_or, take, All, Contains, Option, None, Some, if◌then◌else◌}
-use Rattle.std.specs.List.{flat_map, count_by}
+use Rattle.std.specs.Prelude.{◌≡◌, ◌<◌, ◌≤◌, ◌+◌, ◌==◌, ◌&&◌, ◌⊎◌, not, nat_le, nat_lt, ℕ, Bool, true, false, List, [], ◌∷◌, ◌++◌, codes, length, map, slice_get, take, All, Contains, Option, None, Some, if◌then◌else◌}
+use Rattle.std.specs.List.{flat_map, count_by, AllZip}
 use Rattle.std.specs.List.Sorted.{IsPermutation}
+use Rattle.std.specs.Ordering.{int_eq}
+use Rattle.mpw_geom.specs.declared.plane.Box2.{Box2}
 use Rattle.mpw_geom.specs.Names.{name_eq}
+use Rattle.mpw_edges.specs.declared.run.Axis.TheVariants.{V, H}
+use Rattle.mpw_markers.specs.declared.marker.Key.{Key}
 use Rattle.mpw_markers.specs.declared.marker.Marker.{Marker}
-use Rattle.mpw_markers.specs.Stitched.{IsStitched}
+use Rattle.mpw_markers.specs.Book.{IsBook}
+use Rattle.mpw_keys.specs.declared.column.Column.{Column}
+use Rattle.mpw_keys.specs.Columns.{AreColumnsOf}
+use Rattle.mpw_keys.specs.Keys.{together, of_first}
 use Rattle.mpw_parts.specs.declared.fault.Difference.{Difference}
 use Rattle.mpw_parts.specs.declared.fault.Difference.TheVariants as other
 use Rattle.mpw_parts.specs.declared.fault.PartsFault.{PartsFault}
 use Rattle.mpw_parts.specs.declared.fault.PartsFault.TheVariants as faults
 use Rattle.mpw_parts.specs.Parts.{Checked, Found}
 
--- the lists of parts, one behind another
-abbrev pub lists_of : List Found → List (List Marker)
+-- the columns of parts and their lists, those of one part behind those of another
+abbrev pub columns_of : List Found → List Column
+columns_of parts = flat_map (λ (part : Found). part.columns) parts
+
+abbrev pub lists_of : List Found → List (List Key)
 lists_of parts = flat_map (λ (part : Found). part.lists) parts
 
--- the part begins at the tile, or it has no tile
+-- the part begins at the column, or it has no column
 abbrev pub BeginsAt : ℕ → Found → Type 0
-BeginsAt tile part = (part.first ≡ tile) ⊎ (part.lists ≡ [])
+BeginsAt column part = (part.first ≡ column) ⊎ (part.lists ≡ [])
 
--- of the parts that have tiles the first begins at a tile, each other one where the one before ends, and the last ends at another
+-- of the parts that have columns the first begins at a column, each other one where the one before ends, and the last ends at another
 abbrev pub FollowOn : ℕ → List Found → ℕ → Type 0
 FollowOn from [] end = from ≡ end
 FollowOn from (part ∷ parts) end =
@@ -29,25 +39,76 @@ FollowOn from (part ∷ parts) end =
 abbrev pub AreAllOf : Checked → List Found → Type 0
 AreAllOf subject parts = All (λ (part : Found). part.subject ≡ subject) parts
 
--- They are parts of one check, and in that order they have each tile of its plan once.
+-- They are parts of one check, and in that order they have each of its columns once.
 pub record ArePartsOf (subject : Checked) (parts ordered : List Found) : Type 0 where
   pub same : AreAllOf subject parts
   pub reordered : IsPermutation parts ordered
-  pub once : FollowOn 0 ordered subject.tiles
+  pub once : FollowOn 0 ordered subject.columns
 
--- There is a part, and the book is stitched from the lists of all tiles, in order.
-abbrev pub IsBookOf : List Found → List Marker → Type 0
-IsBookOf parts book =
-    (first : Found) × (slice_get parts 0 ≡ Some first) × (ordered : List Found)
-    × ArePartsOf first.subject parts ordered × IsStitched (lists_of ordered) book
+-- Each key of the part is of one of so many rules, and of side 0 or 1.
+abbrev pub IsRuled : ℕ → Key → Type 0
+IsRuled rules k = (k.rule < rules) × (k.side < 2)
 
--- What the first of two checks doesn't share with the second: the library, the deck, the structure or the number of tiles.
+abbrev pub AreRuledLists : ℕ → List (List Key) → Type 0
+AreRuledLists rules lists = All (λ (keys : List Key). All (IsRuled rules) keys) lists
+
+abbrev pub HasRules : ℕ → Found → Type 0
+HasRules rules part = AreRuledLists rules part.lists
+
+abbrev pub HaveRules : ℕ → List Found → Type 0
+HaveRules rules parts = All (HasRules rules) parts
+
+-- Columns of axis V, and columns of axis H, follow on one another over the extent; where there is none, there is no column.
+abbrev pub CoverExtent : Option Box2 → (upright across : List Column) → Type 0
+CoverExtent None upright across = (upright ≡ []) × (across ≡ [])
+CoverExtent (Some extent) upright across =
+    AreColumnsOf V extent upright × AreColumnsOf H extent across
+
+-- Parts in an order: their columns are those of axis V and those of axis H over the extent, and their lists those of these.
+pub record AreOfBoth (extent : Option Box2) (ordered : List Found) (upright across : List Column)
+    (vs hs : List (List Key)) : Type 0 where
+  pub columns : columns_of ordered ≡ upright ++ across
+  pub lists : lists_of ordered ≡ vs ++ hs
+  pub counted : length vs ≡ length upright
+  pub cover : CoverExtent extent upright across
+
+-- The parts are of one check, of so many rules; in some order they have each column once, and these follow on one another over the
+-- extent, so the lists are those of columns of axis V, and of axis H.
+pub record AreWhole (rules : ℕ) (parts : List Found) (vs hs : List (List Key)) : Type 0 where
+  pub first : Found
+  pub at : slice_get parts 0 ≡ Some first
+  pub ruled : HaveRules rules parts
+  pub ordered : List Found
+  pub of : ArePartsOf first.subject parts ordered
+  pub upright : List Column
+  pub across : List Column
+  pub both : AreOfBoth first.subject.extent ordered upright across vs hs
+
+-- The book has the markers of these lists, put together.
+pub record IsBookOf (rules : ℕ) (parts : List Found) (book : List Marker) : Type 0 where
+  pub vs : List (List Key)
+  pub hs : List (List Key)
+  pub whole : AreWhole rules parts vs hs
+  pub made : book ≡ map of_first (together rules vs hs)
+
+-- Whether two boxes are one, and two extents.
+abbrev pub box_eq : Box2 → Box2 → Bool
+box_eq a b = (int_eq a.x0 b.x0 && int_eq a.y0 b.y0) && (int_eq a.x1 b.x1 && int_eq a.y1 b.y1)
+
+abbrev pub extent_eq : Option Box2 → Option Box2 → Bool
+extent_eq None None = true
+extent_eq None (Some b) = false
+extent_eq (Some a) None = false
+extent_eq (Some a) (Some b) = box_eq a b
+
+-- What the first of two checks doesn't share with the second: the library, the deck, the structure, or the columns, by the extent and how
+-- many there are.
 unfoldable pub difference_of : Checked → Checked → Option Difference
 difference_of a b =
     if not (name_eq a.library b.library) then Some other.Library
     else if not (name_eq a.deck b.deck) then Some other.Deck
     else if not (name_eq a.top b.top) then Some other.Top
-    else if not (a.tiles == b.tiles) then Some other.Plan
+    else if not (extent_eq a.extent b.extent && (a.columns == b.columns)) then Some other.Plan
     else None
 
 -- The word of that.
@@ -55,52 +116,73 @@ unfoldable pub word_of : Difference → List ℕ
 word_of other.Library = codes "library"
 word_of other.Deck = codes "deck"
 word_of other.Top = codes "structure"
-word_of other.Plan = codes "plan of tiles"
+word_of other.Plan = codes "plan of columns"
 
 -- The part at a place is of another check than this one, and those before it are of this one.
-abbrev pub IsOther : Checked → List Found → PartsFault → Type 0
-IsOther first parts (faults.Other place what) = (part : Found) × (slice_get parts place ≡ Some part)
+abbrev pub IsOther : Checked → List Found → ℕ → Difference → Type 0
+IsOther first parts place what = (part : Found) × (slice_get parts place ≡ Some part)
     × (difference_of first part.subject ≡ Some what) × AreAllOf first (take place parts)
-IsOther first parts fault = ⊥
 
--- How many of the parts have the tile.
-abbrev pub has_tile : ℕ → Found → Bool
-has_tile tile part = nat_le part.first tile && nat_lt tile (part.first + length part.lists)
+-- The part at a place has a key of another rule or side, and those before it have none.
+abbrev pub IsUnruled : ℕ → List Found → ℕ → Type 0
+IsUnruled rules parts place = (part : Found) × (slice_get parts place ≡ Some part)
+    × (HasRules rules part → ⊥) × HaveRules rules (take place parts)
+
+-- How many of the parts have the column.
+abbrev pub has_column : ℕ → Found → Bool
+has_column column part =
+    nat_le part.first column && nat_lt column (part.first + length part.lists)
 
 abbrev pub holders : ℕ → List Found → ℕ
-holders tile parts = count_by (has_tile tile) parts
+holders column parts = count_by (has_column column) parts
 
--- Of a plan with so many tiles, no part has the one that is missing, and more than one has the one that is doubled; or there is no
--- room.
-abbrev pub IsOfTiles : ℕ → List Found → PartsFault → Type 0
-IsOfTiles tiles parts (faults.Missing tile) = (tile < tiles) × (holders tile parts ≡ 0)
-IsOfTiles tiles parts (faults.Doubled tile) = 2 ≤ holders tile parts
-IsOfTiles tiles parts faults.Memory = Unit {0}
-IsOfTiles tiles parts (faults.Other place what) = ⊥
-IsOfTiles tiles parts faults.NoPart = ⊥
+-- Of so many columns, no part has the one that is missing, and more than one has the one that is doubled.
+abbrev pub IsOfColumns : ℕ → List Found → PartsFault → Type 0
+IsOfColumns columns parts (faults.Missing column) =
+    (column < columns) × (holders column parts ≡ 0)
+IsOfColumns columns parts (faults.Doubled column) = 2 ≤ holders column parts
+IsOfColumns columns parts fault = ⊥
 
--- Why parts aren't stitched: there are none; one is of another check than the first; all are of one check, and a tile of the plan is in
--- none of them, or in more than one; or there is no room.
-abbrev pub IsFaultOf : List Found → PartsFault → Type 0
-IsFaultOf parts faults.Memory = Unit {0}
-IsFaultOf parts faults.NoPart = parts ≡ []
-IsFaultOf parts (faults.Other place what) = (first : Found) × (slice_get parts 0 ≡ Some first)
-    × IsOther first.subject parts (faults.Other place what)
-IsFaultOf parts (faults.Missing tile) = (first : Found) × (slice_get parts 0 ≡ Some first)
-    × AreAllOf first.subject parts × IsOfTiles first.subject.tiles parts (faults.Missing tile)
-IsFaultOf parts (faults.Doubled tile) = (first : Found) × (slice_get parts 0 ≡ Some first)
-    × AreAllOf first.subject parts × IsOfTiles first.subject.tiles parts (faults.Doubled tile)
+-- Parts in an order have each of so many columns once, but these don't follow on one another over the extent.
+pub record AreApart (extent : Option Box2) (columns : ℕ) (parts : List Found) : Type 0 where
+  pub ordered : List Found
+  pub reordered : IsPermutation parts ordered
+  pub once : FollowOn 0 ordered columns
+  pub apart : (upright across : List Column) → columns_of ordered ≡ upright ++ across
+      → CoverExtent extent upright across → ⊥
 
--- The list is that of the tile in one of the parts.
-abbrev pub IsListOf : List Found → ℕ → List Marker → Type 0
-IsListOf parts tile list =
-    (part : Found) × (k : ℕ) × Contains parts part × (k < length part.lists)
-    × (part.first + k ≡ tile) × (slice_index_or part.lists k [] ≡ list)
+-- Why parts aren't stitched: there are none; one is of another check than the first; all are of one check, and one has a key of a rule
+-- or a side that there isn't; none has, and a column is in none of them, or in more than one, or each is in one and they don't follow on
+-- one another over the extent; they do, and what is put together is no book, as where two runs on one line overlap or touch; or
+-- there is no room.
+abbrev pub IsFaultOf : ℕ → List Found → PartsFault → Type 0
+IsFaultOf rules parts faults.Memory = Unit {0}
+IsFaultOf rules parts faults.NoPart = parts ≡ []
+IsFaultOf rules parts (faults.Other place what) = (first : Found)
+    × (slice_get parts 0 ≡ Some first) × IsOther first.subject parts place what
+IsFaultOf rules parts (faults.NoRule place) = (first : Found) × (slice_get parts 0 ≡ Some first)
+    × AreAllOf first.subject parts × IsUnruled rules parts place
+IsFaultOf rules parts (faults.Missing column) = (first : Found) × (slice_get parts 0 ≡ Some first)
+    × AreAllOf first.subject parts × HaveRules rules parts
+    × IsOfColumns first.subject.columns parts (faults.Missing column)
+IsFaultOf rules parts (faults.Doubled column) = (first : Found) × (slice_get parts 0 ≡ Some first)
+    × AreAllOf first.subject parts × HaveRules rules parts
+    × IsOfColumns first.subject.columns parts (faults.Doubled column)
+IsFaultOf rules parts faults.Apart = (first : Found) × (slice_get parts 0 ≡ Some first)
+    × AreAllOf first.subject parts × HaveRules rules parts
+    × AreApart first.subject.extent first.subject.columns parts
+IsFaultOf rules parts faults.NoBook = (vs hs : List (List Key)) × AreWhole rules parts vs hs
+    × (IsBook (map of_first (together rules vs hs)) → ⊥)
 
--- Where parts have each tile once, there is a list for each tile, and it is that of the tile in one of the parts.
-abbrev pub EachTileHasItsList : Type 0
-EachTileHasItsList =
-    (subject : Checked) (parts ordered : List Found) → ArePartsOf subject parts ordered
-    → (length (lists_of ordered) ≡ subject.tiles)
-    × ((tile : ℕ) → tile < subject.tiles
-    → IsListOf parts tile (slice_index_or (lists_of ordered) tile []))
+-- The column and its list are one part's, at one place.
+abbrev pub IsFrom : List Found → Column → List Key → Type 0
+IsFrom parts c keys = (part : Found) × (k : ℕ) × Contains parts part
+    × (slice_get part.columns k ≡ Some c) × (slice_get part.lists k ≡ Some keys)
+
+-- Where parts have each column once, there are as many lists, and each column of either axis has the list that it has in one of the parts.
+abbrev pub EachColumnHasItsList : Type 0
+EachColumnHasItsList =
+    (rules : ℕ) (parts : List Found) (vs hs : List (List Key)) (whole : AreWhole rules parts vs hs)
+    → All (λ (part : Found). length part.columns ≡ length part.lists) parts
+    → (length vs + length hs ≡ whole.first.subject.columns)
+    × AllZip (IsFrom parts) whole.upright vs × AllZip (IsFrom parts) whole.across hs

@@ -1,21 +1,20 @@
--- The text of a part: a line that tells what was checked and which tile is the first, a line for each tile with its markers, and a last
+-- The text of a part: a line that tells what was checked and which column is the first, a line for each column with its keys, and a last
 -- line `end`.
-use Rattle.std.specs.Prelude.{ℕ, List, [], ◌∷◌, ◌++◌, codes}
+use Rattle.std.specs.Prelude.{ℕ, List, [], ◌∷◌, ◌++◌, codes, Option, None, Some}
 use Rattle.std.specs.List.{flat_map}
 use Rattle.std.specs.Fmt.{decimal, signed_decimal}
 use Rattle.hex.specs.Hex.{encode_lower}
+use Rattle.mpw_geom.specs.declared.plane.Box2.{Box2}
 use Rattle.mpw_text.specs.Writing.{with_colons}
 use Rattle.mpw_edges.specs.declared.run.Axis.{Axis}
 use Rattle.mpw_edges.specs.declared.run.Axis.TheVariants.{V, H}
-use Rattle.mpw_markers.specs.declared.marker.Marker.{Marker}
+use Rattle.mpw_markers.specs.declared.marker.Key.{Key}
+use Rattle.mpw_keys.specs.declared.column.Column.{Column}
 use Rattle.mpw_parts.specs.Parts.{Checked, Found}
 
--- a word behind a space, a field behind a colon, and a line with its line feed
+-- a word behind a space, and a line with its line feed
 abbrev pub spaced : List ℕ → List ℕ
 spaced word = 32 ∷ word
-
-abbrev pub coloned : List ℕ → List ℕ
-coloned field = 58 ∷ field
 
 abbrev pub ended : List ℕ → List ℕ
 ended line = line ++ 10 ∷ []
@@ -25,41 +24,52 @@ unfoldable pub axis_text : Axis → List ℕ
 axis_text V = codes "V"
 axis_text H = codes "H"
 
--- a marker: the rule's place in the deck, the axis, the side, where the edges lie, which rows there are
-abbrev pub key_fields : Marker → List (List ℕ)
-key_fields m = axis_text m.axis ∷ decimal m.side ∷ signed_decimal m.x1 ∷ signed_decimal m.x2
-    ∷ signed_decimal m.y0 ∷ signed_decimal m.y1 ∷ []
+-- a key, whose axis is its column's: the rule's place in the deck, the side, where the edges lie, which rows there are
+abbrev pub key_fields : Key → List (List ℕ)
+key_fields k = decimal k.side ∷ signed_decimal k.x1 ∷ signed_decimal k.x2 ∷ signed_decimal k.y0
+    ∷ signed_decimal k.y1 ∷ []
 
-unfoldable pub key_text : Marker → List ℕ
-key_text m = with_colons (decimal m.rule ∷ key_fields m)
+unfoldable pub key_text : Key → List ℕ
+key_text k = with_colons (decimal k.rule ∷ key_fields k)
 
--- and the numbers of the submissions that it meets
-abbrev pub met_text : ℕ → List ℕ
-met_text number = coloned (decimal number)
+abbrev pub key_part : Key → List ℕ
+key_part k = spaced (key_text k)
 
-unfoldable pub marker_text : Marker → List ℕ
-marker_text m = key_text m ++ flat_map met_text m.met
+-- a column: its axis, its first place, and the place behind its last one
+abbrev pub column_fields : Column → List (List ℕ)
+column_fields c = signed_decimal c.from ∷ signed_decimal c.to ∷ []
 
-abbrev pub marker_part : Marker → List ℕ
-marker_part m = spaced (marker_text m)
+unfoldable pub column_text : Column → List ℕ
+column_text c = with_colons (axis_text c.axis ∷ column_fields c)
 
--- the line of a tile
-unfoldable pub tile_line : List Marker → List ℕ
-tile_line markers = codes "tile" ++ flat_map marker_part markers
+-- the line of a column
+unfoldable pub column_line : Column → List Key → List ℕ
+column_line c keys = column_text c ++ flat_map key_part keys
 
-abbrev pub tile_text : List Marker → List ℕ
-tile_text markers = ended (tile_line markers)
+-- the lines of columns
+unfoldable pub columns_text : List Column → List (List Key) → List ℕ
+columns_text [] lists = []
+columns_text (c ∷ cs) [] = []
+columns_text (c ∷ cs) (keys ∷ lists) = ended (column_line c keys) ++ columns_text cs lists
 
--- the first line
-abbrev pub head_words : Checked → ℕ → List (List ℕ)
-head_words subject first =
-    encode_lower subject.library ∷ encode_lower subject.deck ∷ subject.top ∷ decimal subject.tiles
-    ∷ decimal first ∷ []
+-- the extent: its sides, or a sign that there is none
+abbrev pub box_fields : Box2 → List (List ℕ)
+box_fields b = signed_decimal b.y0 ∷ signed_decimal b.x1 ∷ signed_decimal b.y1 ∷ []
+
+unfoldable pub extent_text : Option Box2 → List ℕ
+extent_text None = codes "-"
+extent_text (Some b) = with_colons (signed_decimal b.x0 ∷ box_fields b)
+
+-- the first line: what names the check, its columns, and the first of them
+unfoldable pub head_names : Checked → List ℕ
+head_names subject = codes "mpw-part-2" ++ spaced (encode_lower subject.library)
+    ++ spaced (encode_lower subject.deck) ++ spaced subject.top ++ codes " "
 
 unfoldable pub head_line : Checked → ℕ → List ℕ
-head_line subject first = codes "mpw-part-1" ++ flat_map spaced (head_words subject first)
+head_line subject first = head_names subject ++ extent_text subject.extent
+    ++ spaced (decimal subject.columns) ++ spaced (decimal first)
 
 -- the whole
 unfoldable pub part_text : Found → List ℕ
-part_text part = ended (head_line part.subject part.first) ++ flat_map tile_text part.lists
+part_text part = ended (head_line part.subject part.first) ++ columns_text part.columns part.lists
     ++ ended (codes "end")

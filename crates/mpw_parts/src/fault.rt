@@ -16,12 +16,12 @@ pub enum Difference {
     Deck,
     /// The structure's name.
     Top,
-    /// The number of tiles.
+    /// The extent, or the number of columns.
     Plan,
 }
 
 impl Difference {
-    /// What the part has another one of: `library`, `deck`, `structure` or `plan of tiles`.
+    /// What the part has another one of: `library`, `deck`, `structure` or `plan of columns`.
     #[tactic(auto, unfolding(crate::specs::Stitching::word_of))]
     pub fn word(self) -> &'static str
         ensures { result.now ≡ word_of self }
@@ -30,7 +30,7 @@ impl Difference {
             Difference::Library => "library",
             Difference::Deck => "deck",
             Difference::Top => "structure",
-            Difference::Plan => "plan of tiles",
+            Difference::Plan => "plan of columns",
         }
     }
 }
@@ -55,12 +55,21 @@ pub enum PartsFault {
     /// The part at that place, counted from 0, is of another check.
     #[error("part {0} has another {1}")]
     Other(usize, Difference),
-    /// No part has that tile.
-    #[error("tile {0} is in no part")]
+    /// The part at that place, counted from 0, has a marker of a rule that the deck hasn't, or of a side other than 0 and 1.
+    #[error("part {0} has a marker of no rule of the deck")]
+    NoRule(usize),
+    /// No part has that column.
+    #[error("column {0} is in no part")]
     Missing(usize),
-    /// More than one part has that tile.
-    #[error("tile {0} is in more than one part")]
+    /// More than one part has that column.
+    #[error("column {0} is in more than one part")]
     Doubled(usize),
+    /// The columns don't follow on one another over the extent.
+    #[error("the columns of the parts don't follow on one another over the extent")]
+    Apart,
+    /// The markers, put together, are no book, as where two on one line overlap or touch.
+    #[error("the markers of the parts make no book")]
+    NoBook,
 }
 
 impl From<AllocError> for PartsFault {

@@ -1,24 +1,26 @@
-//! Parts of a check: the markers of some tiles of a plan, as a text that another machine reads.
+//! Parts of a check: the keys of some of the columns into which a layout is cut, as a text that another machine reads.
 //!
-//! A [`Part`] has what was checked, its [`Subject`], and the markers of neighbouring tiles. [`write_part`] writes it, and
-//! [`read_part`] reads what was written as that part again ([`parts_are_read_back`]). [`stitch_parts`] makes one book of parts
-//! that have each tile once.
+//! A [`Part`] has what was checked, its [`Subject`], and columns that stand one behind another with the keys of each. [`write_part`]
+//! writes it, and [`read_part`] reads what was written as that part again ([`parts_are_read_back`]). [`stitch_parts`] makes one
+//! book of parts that have each column once: no run goes on in another column, so their lists are put one behind another.
 #![tactic(auto)]
 
+mod book;
 mod fault;
 mod head;
+mod key;
 mod laws;
-mod marker;
+mod line;
 mod part;
 mod read;
 mod stitch;
-mod tile;
+mod whole;
 mod word;
 mod write;
 
 pub use fault::{Difference, PartsFault};
-pub use laws::{each_tile_has_its_list, parts_are_read_back};
+pub use laws::{each_column_has_its_list, parts_are_read_back};
 pub use part::{Part, Subject};
-pub use read::read_part;
+pub use read::{is_older_part, read_part};
 pub use stitch::stitch_parts;
 pub use write::write_part;

@@ -1,18 +1,20 @@
 //! Parts, and what they are parts of.
 ghost use Rattle.std.specs.Prelude.{◌≡◌, ◌≤◌, ◌+◌, length};
-ghost use Rattle.mpw_parts.specs.Parts.{IsFew, IsWithin};
+ghost use Rattle.std.specs.List.{AllZip};
+ghost use Rattle.mpw_parts.specs.Parts.{IsFew, IsListOf, IsWithin};
 
-use mpw_geom::Name;
-use mpw_markers::TileMarkers;
+use mpw_geom::{Box2, Name};
+use mpw_keys::{Column, ColumnKeys};
 use std::marker::Model;
 
-/// What is checked: a library by the SHA-256 of its text, a deck by its text, the structure by its name, and how many tiles
-/// the plan has, at most 4096. Contracts see these.
+/// What is checked: a library by the SHA-256 of its text, a deck by its text, the structure by its name, the extent of what is
+/// checked where there are shapes, and into how many columns it is cut, at most 2^22. Contracts see these.
 pub struct Subject {
     library: [u8; 32],
     deck: Vec<u8>,
     top: Name,
-    tiles: u32,
+    extent: Option<Box2>,
+    columns: u32,
 }
 
 impl Drop for Subject {
@@ -21,7 +23,8 @@ impl Drop for Subject {
             library: _,
             deck,
             top,
-            tiles: _,
+            extent: _,
+            columns: _,
         } = self;
         drop(deck);
         drop(top);
@@ -33,22 +36,29 @@ impl Model for Subject {
 
     ghost Value = { Checked };
 
-    ghost view = { λ s. record { library = s.library; deck = s.deck.items; top = s.top; tiles = s.tiles } };
+    ghost view = { λ s. record { library = s.library; deck = s.deck.items; top = s.top; extent = s.extent; columns = s.columns } };
 
-    ghost invariant = { λ s. IsFew (record { library = s.library; deck = s.deck.items; top = s.top; tiles = s.tiles }) };
+    ghost invariant = { λ s. IsFew (record { library = s.library; deck = s.deck.items; top = s.top; extent = s.extent; columns = s.columns }) };
 }
 
 impl Subject {
-    /// A structure of a library under a deck, whose plan has that many tiles.
-    pub fn new(library: [u8; 32], deck: Vec<u8>, top: Name, tiles: u32) -> Subject
-        requires { tiles ≤ 4096 }
-        ensures { result ≡ record { library = library; deck = deck.items; top = top; tiles = tiles } }
+    /// A structure of a library under a deck, with that extent in nm, which is cut into that many columns.
+    pub fn new(
+        library: [u8; 32],
+        deck: Vec<u8>,
+        top: Name,
+        extent: Option<Box2>,
+        columns: u32,
+    ) -> Subject
+        requires { columns ≤ 4194304 }
+        ensures { result ≡ record { library = library; deck = deck.items; top = top; extent = extent; columns = columns } }
     {
         Subject {
             library,
             deck,
             top,
-            tiles,
+            extent,
+            columns,
         }
     }
 
@@ -73,21 +83,36 @@ impl Subject {
         &self.top
     }
 
-    /// How many tiles the plan has.
-    pub fn tiles(&self) -> u32
-        ensures tiles { result ≡ self.now.tiles }
+    /// The extent of what is checked, in nm; none without shapes.
+    pub fn extent(&self) -> Option<Box2>
+        ensures { result ≡ self.now.extent }
+    {
+        self.extent
+    }
+
+    /// Into how many columns it is cut.
+    pub fn columns(&self) -> u32
+        ensures columns { result ≡ self.now.columns }
         ensures few { IsFew self.now }
     {
-        self.tiles
+        self.columns
     }
 }
 
-/// The markers of neighbouring tiles of a plan, a list for each, from the first of them on. Contracts see these, and what was
-/// checked.
+/// Columns, and the keys of each.
+#[derive(Drop)]
+pub(crate) struct Lists {
+    pub columns: Vec<Column>,
+    pub lists: Vec<ColumnKeys>,
+}
+
+/// Columns that stand one behind another among those of a check, from the first of them on, with the keys of each. Contracts see these,
+/// and what was checked.
 pub struct Part {
     subject: Subject,
     first: u32,
-    lists: Vec<TileMarkers>,
+    columns: Vec<Column>,
+    lists: Vec<ColumnKeys>,
 }
 
 impl Drop for Part {
@@ -95,9 +120,11 @@ impl Drop for Part {
         let Part {
             subject,
             first: _,
+            columns,
             lists,
         } = self;
         drop(subject);
+        drop(columns);
         drop(lists);
     }
 }
@@ -107,20 +134,22 @@ impl Model for Part {
 
     ghost Value = { Found };
 
-    ghost view = { λ p. record { subject = p.subject; first = p.first; lists = p.lists.items } };
+    ghost view = { λ p. record { subject = p.subject; first = p.first; columns = p.columns.items; lists = p.lists.items } };
 
-    ghost invariant = { λ p. IsWithin (record { subject = p.subject; first = p.first; lists = p.lists.items }) };
+    ghost invariant = { λ p. IsWithin (record { subject = p.subject; first = p.first; columns = p.columns.items; lists = p.lists.items }) };
 }
 
 impl Part {
-    /// The markers of tiles from `first` on.
-    pub fn new(subject: Subject, first: u32, lists: Vec<TileMarkers>) -> Part
-        requires { first + length lists.items ≤ subject.tiles }
-        ensures { result ≡ record { subject = subject; first = first; lists = lists.items } }
+    /// The columns from `first` on, and the keys of each.
+    pub fn new(subject: Subject, first: u32, columns: Vec<Column>, lists: Vec<ColumnKeys>) -> Part
+        requires few { first + length lists.items ≤ subject.columns }
+        requires lists { AllZip IsListOf columns.items lists.items }
+        ensures { result ≡ record { subject = subject; first = first; columns = columns.items; lists = lists.items } }
     {
         Part {
             subject,
             first,
+            columns,
             lists,
         }
     }
@@ -132,18 +161,42 @@ impl Part {
         &self.subject
     }
 
-    /// The first tile, counted from 0.
+    /// The place of the first column among all, counted from 0.
     pub fn first(&self) -> u32
         ensures { result ≡ self.now.first }
     {
         self.first
     }
 
-    /// The markers of each tile, from the first on.
-    pub fn lists(&self) -> &[TileMarkers]
+    /// The columns, from the first on.
+    pub fn columns(&self) -> &[Column]
+        ensures columns { result.now ≡ self.now.columns }
+        ensures within { IsWithin self.now }
+    {
+        &self.columns
+    }
+
+    /// The keys of each column, from the first on.
+    pub fn lists(&self) -> &[ColumnKeys]
         ensures lists { result.now ≡ self.now.lists }
         ensures within { IsWithin self.now }
     {
         &self.lists
+    }
+
+    /// The columns and the keys of each.
+    pub(crate) fn into_lists(self) -> Lists
+        ensures columns { result.columns.items ≡ self.columns }
+        ensures lists { result.lists.items ≡ self.lists }
+        ensures within { IsWithin self }
+    {
+        let Part {
+            subject,
+            first: _,
+            columns,
+            lists,
+        } = self;
+        drop(subject);
+        Lists { columns, lists }
     }
 }

@@ -2,12 +2,12 @@
 //!
 //! Each line is repeated, with the answer below. A line that begins with `#` outside a part, and an empty one, says nothing.
 //! - `part` begins the text of a part, whose lines follow up to a line `.`; `part N` is the same without the last N bytes. It is
-//!   read, and where it is a part the text that is written of it is compared with what was read;
-//! - `stitch` stitches the parts, prints the book, a marker a line, or why there is none, and begins anew.
+//!   read, and where it is a part the text that is written of it is compared with what was read; else it is told whether it is an older one;
+//! - `stitch N` stitches the parts under a deck of N rules, prints the book, a marker a line, or why there is none, and begins anew.
 #![tactic(auto)]
 
 use anyhow::{Result, bail};
-use mpw_parts::{Part, read_part, stitch_parts, write_part};
+use mpw_parts::{Part, is_older_part, read_part, stitch_parts, write_part};
 use mpw_words::print_marker;
 use std::alloc::Global;
 use std::mem;
@@ -52,16 +52,20 @@ impl Parts {
         let end = self.text.len().saturating_sub(self.cut);
         let text = &self.text.as_slice()[..end];
         let Some(part) = read_part(rt.alloc(), text)? else {
-            return Ok(println!(rt; "    no part")?);
+            return if is_older_part(text) {
+                Ok(println!(rt; "    no part, but one of tiles")?)
+            } else {
+                Ok(println!(rt; "    no part")?)
+            };
         };
         let mut written = Vec::new(rt.alloc());
         write_part(rt.alloc(), &mut written, &part)?;
         let is_same = written.as_slice() == text;
         println!(rt;
-            "    tiles {} to {} of {}",
+            "    columns {} to {} of {}",
             part.first(),
             part.first() as usize + part.lists().len(),
-            part.subject().tiles()
+            part.subject().columns()
         )?;
         println!(rt;
             "    {}",
@@ -75,10 +79,10 @@ impl Parts {
         Ok(())
     }
 
-    /// Stitches the parts, and begins anew.
-    fn stitch(&mut self, rt: &(impl Print + AllocGlobal)) -> Result<()> {
+    /// Stitches the parts under a deck of so many rules, and begins anew.
+    fn stitch(&mut self, rt: &(impl Print + AllocGlobal), rules: u32) -> Result<()> {
         let parts = mem::replace(&mut self.parts, Vec::new(rt.alloc()));
-        match stitch_parts(rt.alloc(), parts) {
+        match stitch_parts(rt.alloc(), parts, rules) {
             Ok(book) => {
                 for marker in book.as_slice() {
                     print_marker(rt, marker)?;
@@ -109,7 +113,10 @@ impl Parts {
                 Ok(cut) => self.begin(rt.alloc(), cut),
                 Err(_) => bail!("a number"),
             },
-            ["stitch"] => self.stitch(rt),
+            ["stitch", rules] => match rules.parse::<u32>() {
+                Ok(rules) => self.stitch(rt, rules),
+                Err(_) => bail!("a number"),
+            },
             _ => bail!("a command"),
         }
     }

@@ -1,0 +1,7 @@
+use Rattle.std.proofs.Common.{take}
+use Rattle.std.specs.Prelude.{All}
+use Rattle.mpw_markers.specs.Markers.{IsFilled}
+use Rattle.mpw_parts.proofs.book.are_filled.Given as goal
+
+abbrev pub invariant-loop-marker : goal.invariant-loop-marker
+invariant-loop-marker l = All IsFilled (take l.marker-index l.fn.markers)
