@@ -1,2 +1,4 @@
+mod Listed
 mod Made
 mod Shares
+mod Zipped

@@ -1,15 +1,22 @@
 -- Parts that are stitched are of one layout, and make its markers.
-use Rattle.std.proofs.Common.{◌≡◌, ◌∙◌, ◌+◌, ap, sym, subst, length, ℕ, List, [], Result, Ok, Some, arith, get_or}
+use Rattle.std.proofs.Common.{◌≡◌, ◌∙◌, ap, sym, subst, length, get_or, ℕ, List, Result, Ok, Option, Some, None}
 use Rattle.std.specs.Prelude.{All}
+use Rattle.std.specs.List.{AllZip}
 use Rattle.std.proofs.lemmas.List.Elements.{All-contains}
 use Rattle.sha2.specs.Sha256.{sha256}
+use Rattle.mpw_geom.specs.declared.plane.Box2.{Box2}
 use Rattle.mpw_check.specs.Drawn.{drawn}
-use Rattle.mpw_check.specs.Lists.{IsOfTile, AreOfTiles, TilesMakeTheLayout}
-use Rattle.mpw_markers.specs.declared.marker.Marker.{Marker}
+use Rattle.mpw_columns.specs.Laws.{ListsMakeTheLayout}
+use Rattle.mpw_columns.specs.Lists.{IsColumnList}
+use Rattle.mpw_columns.specs.Plan.{Cover, CoverLayout}
+use Rattle.mpw_job.specs.Layout.{AreLayoutMarkers}
+use Rattle.mpw_keys.specs.declared.column.Column.{Column}
+use Rattle.mpw_markers.specs.declared.marker.Key.{Key}
 use Rattle.mpw_parts.specs.Parts.{Checked, Found}
-use Rattle.mpw_parts.specs.Stitching.{lists_of, ArePartsOf, IsListOf, EachTileHasItsList}
-use Rattle.mpw_tiles.specs.Snapshots.{Snapshot}
+use Rattle.mpw_parts.specs.Stitching.{CoverExtent, IsFrom, EachColumnHasItsList}
+use Rattle.mpw_tiles.specs.Snapshots.{Snapshot, shown_extent}
 use Rattle.mpw_spread.specs.Spread.{Texts, subject_of, AreOf, IsPartOf, IsPartBeside, PartsMakeTheLayout}
+use Rattle.mpw_spread.proofs.Zipped.{zip_at, zip_length, zip_map}
 
 -- What is read is one.
 read_once : {A E : Type 0} (r : Result A E) (x y : A) → r ≡ Ok x → r ≡ Ok y → y ≡ x
@@ -27,10 +34,11 @@ same_snapshot texts s t a b x y =
     ∙ sym x.drawn.drawn.snapshot_is
 
 -- Texts of which the same is told are the same, where the libraries are.
-same_texts : (texts others : Texts) (n m : ℕ) → subject_of others m ≡ subject_of texts n
+same_texts : (texts others : Texts) (x y : Option Box2) (n m : ℕ)
+    → subject_of others y m ≡ subject_of texts x n
     → (sha256 others.library ≡ sha256 texts.library → others.library ≡ texts.library)
     → others ≡ texts
-same_texts texts others n m e one =
+same_texts texts others x y n m e one =
     ap (λ d. record { deck = d; top = others.top; library = others.library })
     (ap (λ (c : Checked). c.deck) e)
     ∙ ap (λ t. record { deck = texts.deck; top = t; library = others.library })
@@ -41,44 +49,64 @@ same_texts texts others n m e one =
 -- A part that is told the same as the first has lists of the first one's layout.
 own_lists : (texts : Texts) (first part : Found) (made : IsPartOf texts first)
     → IsPartBeside texts part → part.subject ≡ first.subject
-    → AreOfTiles made.snapshot part.first (part.first + length part.lists) part.lists
+    → AllZip (IsColumnList made.snapshot) part.columns part.lists
 own_lists texts first part made beside same =
-    let told : subject_of beside.others part.subject.tiles
-    ≡ subject_of texts first.subject.tiles =
+    let told : subject_of beside.others (shown_extent beside.of_others.snapshot)
+    part.subject.columns ≡ subject_of texts (shown_extent made.snapshot) first.subject.columns =
     sym beside.of_others.made.told ∙ same ∙ made.made.told in
-    let one = same_texts texts beside.others first.subject.tiles part.subject.tiles told
+    let one = same_texts texts beside.others _ _ first.subject.columns part.subject.columns told
     beside.one in
     let of : IsPartOf texts part = subst (λ t. IsPartOf t part) one beside.of_others in
     let snapshots = same_snapshot texts made.snapshot of.snapshot first.subject part.subject
     made.made of.made in
-    subst (λ s. AreOfTiles s part.first (part.first + length part.lists) part.lists) snapshots
-    of.own
+    subst (λ s. AllZip (IsColumnList s) part.columns part.lists) snapshots of.own
 
--- A list in one of the parts is that of its tile.
+-- A list in one of the parts is that of its column.
 own_list : (texts : Texts) (first : Found) (parts : List Found) (made : IsPartOf texts first)
-    (tile : ℕ) (list : List Marker) → All (IsPartBeside texts) parts
-    → All (λ (part : Found). part.subject ≡ first.subject) parts → IsListOf parts tile list
-    → IsOfTile made.snapshot tile list
-own_list texts first parts made tile list beside same of =
-    let own = own_lists texts first of.0 made
-    (All-contains (IsPartBeside texts) parts of.0 beside of.2)
-    (All-contains (λ (part : Found). part.subject ≡ first.subject) parts of.0 same of.2) in
-    subst (IsOfTile made.snapshot tile) of.5
-    (subst (λ t. IsOfTile made.snapshot t (get_or of.0.lists of.1 [])) of.4 (own.own of.1 of.3))
+    → All (IsPartBeside texts) parts
+    → All (λ (part : Found). part.subject ≡ first.subject) parts
+    → (c : Column) (keys : List Key) → IsFrom parts c keys → IsColumnList made.snapshot c keys
+own_list texts first parts made beside same c keys from =
+    let part = from.0 in
+    zip_at (IsColumnList made.snapshot) part.columns part.lists from.1 c keys
+    (own_lists texts first part made
+    (All-contains (IsPartBeside texts) parts part beside from.2)
+    (All-contains (λ (p : Found). p.subject ≡ first.subject) parts part same from.2))
+    from.3 from.4
 
-pub parts_make : EachTileHasItsList → TilesMakeTheLayout → PartsMakeTheLayout
-parts_make each tiles texts first parts book at made beside of =
-    let e : Some of.0 ≡ Some first = sym of.1 ∙ at in
-    let same : of.0 ≡ first = cc in
-    let together : ArePartsOf first.subject parts of.2 =
-    subst (λ (p : Found). ArePartsOf p.subject parts of.2) same of.3 in
-    let found = each first.subject parts of.2 together in
-    let counted = found.0 in
-    tiles made.snapshot first.subject.tiles (lists_of of.2) book made.sound made.made.counted
-    (record {
-      count = omega (arith, counted);
-      own = λ k less. (let here : k ≡ 0 + k = omega arith in
-          subst (λ t. IsOfTile made.snapshot t (get_or (lists_of of.2) k [])) here
-          (own_list texts first parts made k (get_or (lists_of of.2) k []) beside together.same
-          (found.1 k (omega (arith, less, counted)))));
-    }) of.4
+covers : (extent : Option Box2) (upright across : List Column) → CoverExtent extent upright across
+    → Cover extent upright across
+covers None upright across h = h
+covers (Some extent) upright across h = h
+
+-- A part has as many lists as columns.
+counted : (texts : Texts) (part : Found) → IsPartBeside texts part
+    → length part.columns ≡ length part.lists
+counted texts part beside =
+    zip_length (IsColumnList beside.of_others.snapshot) part.columns part.lists beside.of_others.own
+
+all_counted : (texts : Texts) (parts : List Found) → All (IsPartBeside texts) parts
+    → All (λ (part : Found). length part.columns ≡ length part.lists) parts
+all_counted texts parts h = λ k d less. counted texts (get_or parts k d) (h k d less)
+
+pub parts_make : EachColumnHasItsList → ListsMakeTheLayout → PartsMakeTheLayout
+parts_make each lists texts first parts book at made beside of =
+    let whole = of.whole in
+    let n = length made.snapshot.deck.rules in
+    let e : Some whole.first ≡ Some first = sym whole.at ∙ at in
+    let same : whole.first ≡ first = cc in
+    let all = subst (λ (p : Found). All (λ (part : Found). part.subject ≡ p.subject) parts) same
+    whole.of.same in
+    let found = each n parts of.vs of.hs whole (all_counted texts parts beside) in
+    let own = own_list texts first parts made beside all in
+    let extent : whole.first.subject.extent ≡ shown_extent made.snapshot =
+    ap (λ (p : Found). p.subject.extent) same ∙ ap (λ (c : Checked). c.extent) made.made.told in
+    let cover : CoverLayout made.snapshot whole.upright whole.across =
+    subst (λ x. Cover x whole.upright whole.across) extent
+    (covers whole.first.subject.extent whole.upright whole.across whole.both.cover) in
+    let alone : length made.snapshot.shelf ≡ 1 =
+    ap (λ (s : Snapshot). length s.shelf) made.made.drawn.drawn.snapshot_is in
+    subst (AreLayoutMarkers made.snapshot) (sym of.made)
+    (lists made.snapshot whole.upright whole.across of.vs of.hs alone cover
+    (zip_map (IsFrom parts) (IsColumnList made.snapshot) own whole.upright of.vs found.1)
+    (zip_map (IsFrom parts) (IsColumnList made.snapshot) own whole.across of.hs found.2))

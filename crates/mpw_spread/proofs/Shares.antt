@@ -1,4 +1,4 @@
--- Shares of a plan's tiles.
+-- Shares of a layout's columns.
 use Rattle.std.proofs.Common.{◌≡◌, ◌∙◌, ◌≤◌, ◌+◌, ◌-◌, ◌/◌, ℕ, Bool, true, false, cond, Some, None, ap, sym, refl, arith, rules}
 use Rattle.std.specs.Prelude.{◌&&◌, nat_le}
 use Rattle.std.proofs.Math.Nat.{mul_comm}

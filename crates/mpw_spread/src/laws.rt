@@ -2,19 +2,19 @@
 ghost use Rattle.mpw_spread.specs.Ranges.{SharesFollowOn};
 ghost use Rattle.mpw_spread.specs.Spread.{PartsMakeTheLayout};
 
-use mpw_check::tiles_make_the_layout;
-use mpw_parts::each_tile_has_its_list;
+use mpw_columns::lists_make_the_layout;
+use mpw_parts::each_column_has_its_list;
 
 /// Parts that were made anywhere, of any files, have, where they are stitched at all, just the markers of the flat layout of the
 /// files that the first was made of; unless two libraries that differ have one SHA-256.
 pub fn parts_make_the_layout()
     ensures { PartsMakeTheLayout }
 {
-    each_tile_has_its_list();
-    tiles_make_the_layout();
+    each_column_has_its_list();
+    lists_make_the_layout();
 }
 
-/// The shares of one number begin at tile 0, each where the one before ends, up to the plan's end. A law: the function does nothing.
+/// The shares of one number begin at column 0, each where the one before ends, up to the last column. A law: the function does nothing.
 pub fn shares_follow_on()
     ensures { SharesFollowOn }
 {}

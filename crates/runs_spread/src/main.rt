@@ -1,17 +1,24 @@
 //! A layout's check, spread over parts, and stitched.
 //!
 //! Each line is repeated, with the answer below. A line that begins with `#`, and an empty one, says nothing.
-//! - `layout DECK TOP LIBRARY` reads the files of what is checked from now on, and tells how many tiles there are;
-//! - `tiles TILES` checks these tiles, prints their part, reads its text and keeps what that gives;
-//! - `stitch` stitches the parts that are kept, prints the book, a marker a line, or why there is none, and begins anew.
+//! - `layout DECK TOP LIBRARY MOST` reads the files of what is checked from now on, cuts it into columns that show at most so many shapes,
+//!   and prints these; with `shares` in the place of a number as it is cut for shares;
+//! - `columns COLUMNS` checks these columns, prints their part, reads its text and keeps what that gives;
+//! - `stitch RULES` stitches the parts, under so many rules that are kept, prints the book, a marker a line, or why there is none, and begins anew.
 #![tactic(auto)]
 
+ghost use Rattle.std.specs.Prelude.{◌≡◌, ◌≤◌, ◌^◌, length, IfOk};
+ghost use Rattle.mpw_columns.specs.Plan.{AreColumnsOfLayout};
+
 use anyhow::{Result, bail};
-use mpw_check::{Silent, read_layout, tile_count};
+use mpw_check::{Silent, read_layout};
+use mpw_columns::columns_of;
 use mpw_deck::read_deck;
+use mpw_edges::Axis;
 use mpw_geom::Name;
+use mpw_keys::Column;
 use mpw_parts::{Part, read_part, stitch_parts, write_part};
-use mpw_spread::{check_part, read_range, subject_of};
+use mpw_spread::{Plan, check_part, columns_for_shares, read_range, subject_of};
 use mpw_tiles::Snapshot;
 use mpw_words::print_marker;
 use std::alloc::Global;
@@ -19,17 +26,33 @@ use std::sync::Arc;
 use std::thread::Threads;
 use std::{fs, mem, str};
 
-/// What is checked: its texts, the structure, and what they give.
+/// What is checked: its texts, the structure, what they give, and how that is cut into columns.
 #[derive(Drop)]
 struct Layout {
     deck: Vec<u8>,
     top: Name,
     library: Arc<Vec<u8>>,
     snapshot: Snapshot,
+    most: String,
+}
+
+/// The columns of what is checked, of which each shows at most so many shapes, or those for shares.
+fn cut(alloc: Global, snapshot: &Snapshot, most: &str) -> Result<Vec<Column>>
+    ensures columns { IfOk result (λ v. AreColumnsOfLayout snapshot.now v.items) }
+    ensures few { IfOk result (λ v. length v.items ≤ 2 ^ 22) }
+    ensures alone { IfOk result (λ _. length snapshot.now.shelf ≡ 1) }
+{
+    if snapshot.shelf().submissions().len() != 1 {
+        bail!("one submission");
+    }
+    if most == "shares" {
+        return Ok(columns_for_shares(alloc, snapshot)?);
+    }
+    Ok(columns_of(alloc, snapshot, most.parse()?)?)
 }
 
 /// Reads the files of what is checked.
-fn read(rt: &HostRuntime, deck: &str, top: &str, library: &str) -> Result<Layout> {
+fn read(rt: &HostRuntime, deck: &str, top: &str, library: &str, most: &str) -> Result<Layout> {
     let alloc = rt.alloc();
     let deck = fs::read(rt, deck)?;
     let library = Arc::new(alloc, fs::read(rt, library)?)?;
@@ -39,48 +62,54 @@ fn read(rt: &HostRuntime, deck: &str, top: &str, library: &str) -> Result<Layout
     let Ok(top) = Name::read(alloc, top.as_bytes()) else {
         bail!("a name");
     };
-    match read_layout(alloc, rules, &top, &library) {
-        Ok(snapshot) => Ok(Layout {
-            deck,
-            top,
-            library,
-            snapshot,
-        }),
-        Err(_) => bail!("a layout"),
-    }
+    let Ok(snapshot) = read_layout(alloc, rules, &top, &library) else {
+        bail!("a layout");
+    };
+    Ok(Layout {
+        deck,
+        top,
+        library,
+        snapshot,
+        most: String::from_str(alloc, most)?,
+    })
 }
 
-/// How many tiles there are.
-fn total(layout: &Layout) -> Result<u32> {
-    match tile_count(&layout.snapshot) {
-        Some(tiles) => Ok(tiles),
-        None => bail!("at most 4096 tiles"),
+/// Prints the columns.
+fn print_columns(rt: &HostRuntime, columns: &[Column]) -> Result<()> {
+    for column in columns {
+        let axis = match column.axis {
+            Axis::V => "V",
+            Axis::H => "H",
+        };
+        println!(rt; "    {axis} {} {}", column.from, column.to)?;
     }
+    println!(rt; "    {} columns", columns.len())?;
+    Ok(())
 }
 
-/// The text of the part of the tiles that a text names; none where it names no tiles of the plan.
+/// The text of the part of the columns that a text names; none where it names no columns of the layout.
 fn part_text(
     alloc: Global,
     threads: &(impl Threads + Sync),
     layout: &Layout,
     text: &str,
 ) -> Result<Option<Vec<u8>>> {
-    let Some(tiles) = tile_count(&layout.snapshot) else {
-        bail!("at most 4096 tiles");
-    };
+    let snapshot = &layout.snapshot;
+    let columns = cut(alloc, snapshot, layout.most.as_str())?;
+    let total = u32::try_from(columns.len())?;
     let Some(range) = read_range(alloc, text.as_bytes())? else {
         return Ok(None);
     };
-    let Some(span) = range.span(tiles) else {
+    let Some(span) = range.span(total) else {
         return Ok(None);
     };
-    let subject = subject_of(
-        layout.library.as_slice(),
-        layout.deck.clone()?,
-        layout.top.copy()?,
-        tiles,
-    );
-    let part = check_part(threads, alloc, subject, &layout.snapshot, span, &mut Silent)?;
+    let (library, deck, top) = (&layout.library, layout.deck.clone()?, layout.top.copy()?);
+    let subject = subject_of(library.as_slice(), deck, top, snapshot.extent(), total);
+    let plan = Plan {
+        snapshot,
+        columns: columns.as_slice(),
+    };
+    let part = check_part(threads, alloc, subject, plan, span, &mut Silent)?;
     let mut written = Vec::new(alloc);
     write_part(alloc, &mut written, &part)?;
     Ok(Some(written))
@@ -98,7 +127,7 @@ fn kept(rt: &HostRuntime, text: &[u8]) -> Result<Part> {
     }
 }
 
-/// Checks the tiles that a text names, and keeps their part.
+/// Checks the columns that a text names, and keeps their part.
 fn check(
     rt: &HostRuntime,
     threads: &(impl Threads + Sync),
@@ -108,15 +137,15 @@ fn check(
 ) -> Result<()> {
     match part_text(rt.alloc(), threads, layout, text)? {
         Some(text) => parts.push(kept(rt, &text)?)?,
-        None => println!(rt; "    no tiles of the plan")?,
+        None => println!(rt; "    no columns of the layout")?,
     }
     Ok(())
 }
 
-/// Stitches the parts, and begins anew.
-fn stitch(rt: &HostRuntime, parts: &mut Vec<Part>) -> Result<()> {
+/// Stitches the parts, under so many rules, and begins anew.
+fn stitch(rt: &HostRuntime, parts: &mut Vec<Part>, rules: u32) -> Result<()> {
     let parts = mem::replace(parts, Vec::new(rt.alloc()));
-    match stitch_parts(rt.alloc(), parts) {
+    match stitch_parts(rt.alloc(), parts, rules) {
         Ok(book) => {
             for marker in book.as_slice() {
                 print_marker(rt, marker)?;
@@ -141,17 +170,18 @@ fn answer(
     }
     let words: Vec<&str> = line.split_whitespace().collect(rt.alloc())?;
     match words.as_slice() {
-        ["layout", deck, top, library] => {
-            let found = read(rt, deck, top, library)?;
-            println!(rt; "    {} tiles", total(&found)?)?;
+        ["layout", deck, top, library, most] => {
+            let found = read(rt, deck, top, library, most)?;
+            let columns = cut(rt.alloc(), &found.snapshot, most)?;
+            print_columns(rt, columns.as_slice())?;
             *layout = Some(found);
             Ok(())
         }
-        ["tiles", text] => match layout {
+        ["columns", text] => match layout {
             Some(layout) => check(rt, threads, layout, text, parts),
             None => bail!("a layout first"),
         },
-        ["stitch"] => stitch(rt, parts),
+        ["stitch", rules] => stitch(rt, parts, rules.parse()?),
         _ => bail!("a command"),
     }
 }

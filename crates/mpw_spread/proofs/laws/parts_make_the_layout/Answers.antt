@@ -3,4 +3,4 @@ use Rattle.mpw_spread.proofs.laws.parts_make_the_layout.Goals as goal
 
 pub returns : goal.returns
 returns c =
-    parts_make c.each_tile_has_its_list.ensures c.tiles_make_the_layout.ensures
+    parts_make c.each_column_has_its_list.ensures c.lists_make_the_layout.ensures
