@@ -8,7 +8,7 @@ use Rattle.mpw_geom.specs.declared.plane.Layer.{Layer}
 use Rattle.mpw_spread.specs.Ranges.{range_of}
 use Rattle.mpw_text.specs.Text.{number_of}
 use Rattle.mpw_asked.specs.declared.choices.Portion.{Portion}
-use Rattle.mpw_asked.specs.declared.choices.Portion.TheVariants.{Whole, Tiles}
+use Rattle.mpw_asked.specs.declared.choices.Portion.TheVariants.{Whole, Columns}
 use Rattle.mpw_asked.specs.declared.options.Options.{Options}
 use Rattle.mpw_asked.specs.declared.picture_options.Wanted.{Wanted}
 use Rattle.mpw_asked.specs.declared.stitch_options.StitchOptions.{StitchOptions}
@@ -28,7 +28,7 @@ pub record IsFlag (found : Found) (name : List ℕ) (flag : Bool) : Type 0 where
   pub other : one_text found name ≡ Some (codes "false") → flag ≡ false
   pub none : one_text found name ≡ None → flag ≡ false
 
--- A part has neither a report nor a picture, it is of the whole library in the deck's tiles, and it has all of their markers.
+-- A part has neither a report nor a picture, it is of the whole library, and it has all markers of its columns.
 pub record IsAlone (found : Found) : Type 0 where
   pub report : first_value found (codes "report") ≡ None
   pub picture : first_value found (codes "picture") ≡ None
@@ -44,7 +44,7 @@ abbrev pub IsSkipped : Option (List ℕ) → List Layer → Type 0
 IsSkipped None layers = layers ≡ []
 IsSkipped (Some word) layers = layers_of word ≡ Some layers
 
--- The whole with what is chosen of it, or some tiles.
+-- The whole with what is chosen of it, or some columns.
 abbrev pub IsPortion : Found → Portion → Type 0
 IsPortion found (Whole choices) =
     (first_value found (codes "tiles") ≡ None)
@@ -56,7 +56,7 @@ IsPortion found (Whole choices) =
     × IsFlag found (codes "faults") choices.faults
     × IsFlag found (codes "skip-unreached") choices.unreached
     × IsFlag found (codes "summary") choices.summary
-IsPortion found (Tiles range) =
+IsPortion found (Columns range) =
     (option_map range_of (first_value found (codes "tiles")) ≡ Some (Some range)) × IsAlone found
 
 -- ---- all of them

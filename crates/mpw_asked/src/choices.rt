@@ -1,4 +1,4 @@
-//! What a command line chooses of a check beside its files: a part of the tiles, or the whole with what is chosen of it.
+//! What a command line chooses of a check beside its files: some of its columns, or the whole with what is chosen of it.
 ghost use Rattle.std.specs.Prelude.{◌≡◌, ◌^◌, ◌-◌, None, Some, false, option_map, IfOk, IfErr};
 ghost use Rattle.clap.specs.Words.{found_of};
 ghost use Rattle.mpw_spread.specs.Ranges.{range_of};
@@ -11,7 +11,7 @@ use crate::out_file::free_option;
 use clap::{Arg, ArgAction, ArgMatches, Command};
 use mpw_choices::{TileSide, read_layers};
 use mpw_geom::Layer;
-use mpw_spread::{TileRange, read_range};
+use mpw_spread::{ColumnRange, read_range};
 use mpw_text::read_number;
 use mpw_told::FirmFault;
 use std::alloc::{AllocError, Global};
@@ -38,8 +38,8 @@ pub struct Choices {
 pub enum Portion {
     /// The whole.
     Whole(Choices),
-    /// Some tiles, whose part is wanted in place of the markers of the whole.
-    Tiles(TileRange),
+    /// Some columns, whose part is wanted in place of the markers of the whole.
+    Columns(ColumnRange),
 }
 
 /// An option without a value.
@@ -76,8 +76,8 @@ pub fn with_choices<'a>(alloc: Global, command: Command<'a>) -> Result<Command<'
         alloc,
         "tiles",
         "TILES",
-        "Checks some tiles, and prints their part for 'mpw stitch': A-B, from tile A to tile B, \
-        both included and counted from 0; or K/N, the K-th of N shares",
+        "Checks some columns, and prints their part for 'mpw stitch': K/N, the K-th of N shares; \
+        or A-B, from column A to column B, both included and counted from 0",
     );
     let tile = free_option(
         alloc,
@@ -102,17 +102,17 @@ pub fn with_choices<'a>(alloc: Global, command: Command<'a>) -> Result<Command<'
     with_flags(alloc, command)
 }
 
-/// The tiles that a word names.
-fn read_tiles(alloc: Global, tiles: &str) -> Result<TileRange, FirmFault>
-    ensures read { IfOk result (λ range. range_of tiles.now ≡ Some range) }
+/// The columns that a word names.
+fn read_columns(alloc: Global, columns: &str) -> Result<ColumnRange, FirmFault>
+    ensures read { IfOk result (λ range. range_of columns.now ≡ Some range) }
     ensures refused { IfErr result IsMisuse }
 {
-    match read_range(alloc, tiles.as_bytes())? {
+    match read_range(alloc, columns.as_bytes())? {
         Some(range) => Ok(range),
         None => Err(usage(
             alloc,
-            "error: --tiles takes A-B, from tile A to tile B, both included and counted from 0; or \
-            K/N, the K-th of N shares",
+            "error: --tiles takes K/N, the K-th of N shares, N up to 4096; or A-B, from column A to \
+            column B, both included and counted from 0",
         )),
     }
 }
@@ -193,27 +193,25 @@ fn unflagged(alloc: Global, flag: bool, text: &str) -> Result<(), FirmFault>
 }
 
 /// Refuses what a part can't have.
-fn tiles_alone(alloc: Global, matches: &ArgMatches<'_>) -> Result<(), FirmFault>
+fn columns_alone(alloc: Global, matches: &ArgMatches<'_>) -> Result<(), FirmFault>
     ensures alone { IfOk result (λ _. IsAlone (found_of matches.now)) }
     ensures refused { IfErr result IsMisuse }
 {
     let report = "error: a part has no report: give --report to 'mpw stitch'";
     alone(alloc, matches.get_str("report"), report)?;
-    let picture = "error: a part has no picture: draw it with a check of all tiles";
+    let picture = "error: a part has no picture: draw it with a check of all columns";
     alone(alloc, matches.get_str("picture"), picture)?;
-    let tile = "error: a part has the deck's tiles: --tile is for a check of all";
+    let tile = "error: a part is of columns, and has no tiles: --tile is for a check of all";
     alone(alloc, matches.get_str("tile"), tile)?;
-    let skip = "error: a part is of the whole library: --skip-layers is for a check of all tiles";
+    let skip = "error: a part is of the whole library: --skip-layers is for a check of all";
     alone(alloc, matches.get_str("skip-layers"), skip)?;
-    let limit = "error: a part has all markers of its tiles: give --limit to 'mpw stitch'";
+    let limit = "error: a part has all markers of its columns: give --limit to 'mpw stitch'";
     alone(alloc, matches.get_str("limit"), limit)?;
-    let unreached =
-        "error: a part is of the whole library: --skip-unreached is for a check of all tiles";
+    let unreached = "error: a part is of the whole library: --skip-unreached is for a check of all";
     unflagged(alloc, matches.get_flag("skip-unreached"), unreached)?;
-    let faults =
-        "error: a part is of a library without faults: give --faults to a check of all tiles";
+    let faults = "error: a part is of a library without faults: give --faults to a check of all";
     unflagged(alloc, matches.get_flag("faults"), faults)?;
-    let summary = "error: a part has all markers of its tiles: --summary is for a check of all";
+    let summary = "error: a part has all markers of its columns: --summary is for a check of all";
     unflagged(alloc, matches.get_flag("summary"), summary)
 }
 
@@ -226,9 +224,9 @@ pub fn read_portion(alloc: Global, matches: &ArgMatches<'_>) -> Result<Portion, 
     ensures refused { IfErr result IsMisuse }
 {
     match matches.get_str("tiles") {
-        Some(tiles) => {
-            tiles_alone(alloc, matches)?;
-            Ok(Portion::Tiles(read_tiles(alloc, tiles)?))
+        Some(columns) => {
+            columns_alone(alloc, matches)?;
+            Ok(Portion::Columns(read_columns(alloc, columns)?))
         }
         None => Ok(Portion::Whole(Choices {
             tile: read_tile(alloc, matches.get_str("tile"))?,

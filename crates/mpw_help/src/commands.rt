@@ -37,13 +37,13 @@ static COMMANDS: [Entry; 5] = [
             markers as the request markers does; without --top the one that no other places; \
             --report OUT and --picture OUT write them to files for KLayout and as SVG, --marker \
             KEY draws what lies round one, --tile SIDE takes tiles of that side in place of the \
-            deck's, --tiles TILES prints the part of some tiles for mpw stitch, --skip-layers \
-            L/D,.. leaves out the elements on these layers, --faults tells the fault of each \
+            deck's, --tiles TILES prints the part of a share for mpw stitch, --skip-layers L/D,.. \
+            leaves out the elements on these layers, --faults tells the fault of each \
             element, and --strict refuses a check of which a rule looks at nothing",
         detail: Detail::Command {
             statuses: "0 no markers; 1 markers; 2 the command line isn't one, an output is an input \
                 or another output, no marker has the key of --marker, or there aren't all the \
-                tiles of --tiles; 3 a file can't be read or written, or the output failed; 4 the \
+                columns of --tiles; 3 a file can't be read or written, or the output failed; 4 the \
                 library, the structure or the deck has a fault, or with --strict a rule looks at \
                 nothing; 5 want of memory",
         },
@@ -51,15 +51,15 @@ static COMMANDS: [Entry; 5] = [
     Entry {
         word: "stitch",
         form: "mpw stitch PART..",
-        meaning: "puts the parts of one check together that have each of its tiles once, and \
+        meaning: "puts the parts of one check together that have each of its columns once, and \
             prints the markers that mpw check prints of the whole; --report OUT writes them to a \
             file for KLayout",
         detail: Detail::Command {
             statuses: "0 no markers; 1 markers; 2 the command line isn't one, or an output is a part \
                 or another output; 3 a file can't be read or written, or the output failed; 4 a \
-                file is no part or one that was cut \
-                off, a part is of another library, deck, structure or plan, or a tile is in no \
-                part or in two; 5 want of memory",
+                file is no part, one of an older form or one that was cut off, a part is of another \
+                library, deck, structure or cut, or a column is in no part or in two; 5 want of \
+                memory",
         },
     },
     Entry {

@@ -31,7 +31,7 @@ pub enum Text<'a> {
     Report(&'a Report<'a>),
     /// Its picture.
     Picture(&'a Snapshot, &'a Name, &'a Picture),
-    /// The part of some tiles.
+    /// The part of some columns.
     Part(&'a Part),
     /// A text as it stands.
     Told(&'a str),

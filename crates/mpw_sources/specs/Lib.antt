@@ -1,5 +1,4 @@
 pub mod Looks
 pub mod Notes
 pub mod Seen
-pub mod Sides
 pub mod Sources

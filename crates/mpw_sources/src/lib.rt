@@ -2,7 +2,7 @@
 //!
 //! [`read_file`] and [`read_library`] read a file to its end, or as far as is needed to refuse it. A [`Source`] is a library's text as it is read,
 //! without the elements and structures that are set aside. [`tell_faults`] tells all faults of its elements, which [`faults_seen`] gives to a report, [`look`] and [`notes_of`] whether the rules look at
-//! something, [`many_tiles`] which side of the tiles does.
+//! something.
 #![tactic(auto)]
 
 mod layered;
@@ -10,7 +10,6 @@ mod looked;
 mod notes;
 mod reading;
 mod seen;
-mod side;
 mod source;
 mod target;
 mod told_faults;
@@ -21,7 +20,6 @@ pub use looked::look;
 pub use notes::{notes_of, rule_notes, tell_notes};
 pub use reading::{Content, deck_of, read_file, read_library};
 pub use seen::{SeenFault, faults_seen, report_faults};
-pub use side::many_tiles;
 pub use source::Source;
 pub use target::Target;
 pub use told_faults::{tell_faults, tell_left_out};

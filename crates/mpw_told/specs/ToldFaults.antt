@@ -78,12 +78,6 @@ structure_text file top fault =
     ++ (codes ": "
     ++ (top ++ (codes ": " ++ (hier_word fault ++ (codes ": " ++ structure_sentence fault)))))
 
-unfoldable pub tiles_text : (file top : List ℕ) → List ℕ
-tiles_text file top =
-    file
-    ++ (codes ": "
-    ++ (top ++ codes ": more than 4096 tiles: take a larger tile in the deck's first line"))
-
 -- ---- of what keeps a library of that text from being checked
 
 abbrev pub check_told : (file top : List ℕ) → CheckFault → (text : List ℕ) → Option (List ℕ)

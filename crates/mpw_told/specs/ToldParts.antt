@@ -1,4 +1,4 @@
--- What is told of parts, and of tiles that a plan hasn't.
+-- What is told of parts, and of columns that a layout hasn't.
 use Rattle.std.specs.Prelude.{◌+◌, ◌&&◌, ℕ, Bool, nat_le, nat_lt, List, [], ◌++◌, codes, length, slice_get, Option, None, Some, if◌then◌else◌}
 use Rattle.std.specs.List.{flat_map}
 use Rattle.std.specs.Fmt.{decimal}
@@ -6,9 +6,9 @@ use Rattle.mpw_parts.specs.Parts.{Found}
 use Rattle.mpw_parts.specs.Stitching.{word_of}
 use Rattle.mpw_parts.specs.declared.fault.Difference.{Difference}
 use Rattle.mpw_parts.specs.declared.fault.PartsFault.{PartsFault}
-use Rattle.mpw_parts.specs.declared.fault.PartsFault.TheVariants.{Memory, NoPart, Other, Missing, Doubled}
+use Rattle.mpw_parts.specs.declared.fault.PartsFault.TheVariants.{Memory, NoPart, Other, NoRule, Missing, Doubled, Apart, NoBook}
 
--- A part's file, by its name, with the part's first tile and the one behind its last.
+-- A part's file, by its name, with the part's first column and the one behind its last.
 pub record Holder : Type 0 where
   pub name : List ℕ
   pub first : ℕ
@@ -23,6 +23,11 @@ holder_of name part =
 unfoldable pub no_part_text : List ℕ → List ℕ
 no_part_text file =
     file ++ codes ": no part, or one that was cut off: 'mpw check --tiles' prints parts"
+
+unfoldable pub older_text : List ℕ → List ℕ
+older_text file =
+    file
+    ++ codes ": a part of an older form, by tiles: print it again with 'mpw check --tiles'"
 
 unfoldable pub no_markers_text : List ℕ
 no_markers_text = codes "the parts have markers that no check finds: print them again"
@@ -45,47 +50,63 @@ other_of None part what = unnamed_text (word_of what)
 other_of (Some first) None what = unnamed_text (word_of what)
 other_of (Some first) (Some part) what = other_text part.name (word_of what) first.name
 
-unfoldable pub missing_text : ℕ → ℕ → List ℕ
-missing_text tile tiles =
-    codes "tile "
-    ++ (decimal tile
-    ++ (codes " is in no part: the plan has "
-    ++ (decimal tiles
-    ++ codes " tiles, counted from 0")))
+-- The part that has a marker of a rule that its deck hasn't.
+unfoldable pub unruled_text : List ℕ → List ℕ
+unruled_text part = part ++ codes ": a marker of a rule that its deck hasn't: print it again"
 
--- The files that have a tile, with a space before each.
-abbrev pub has_tile : ℕ → Holder → Bool
-has_tile tile holder = nat_le holder.first tile && nat_lt tile holder.end
+abbrev pub unruled_of : Option Holder → List ℕ
+unruled_of None = no_markers_text
+unruled_of (Some part) = unruled_text part.name
+
+unfoldable pub missing_text : ℕ → ℕ → List ℕ
+missing_text column columns =
+    codes "column "
+    ++ (decimal column
+    ++ (codes " is in no part: the layout has "
+    ++ (decimal columns
+    ++ codes " columns, counted from 0")))
+
+-- The files that have a column, with a space before each.
+abbrev pub has_column : ℕ → Holder → Bool
+has_column column holder = nat_le holder.first column && nat_lt column holder.end
 
 abbrev pub name_with : ℕ → Holder → List ℕ
-name_with tile holder = if has_tile tile holder then codes " " ++ holder.name else []
+name_with column holder = if has_column column holder then codes " " ++ holder.name else []
 
 abbrev pub names_with : ℕ → List Holder → List ℕ
-names_with tile holders = flat_map (name_with tile) holders
+names_with column holders = flat_map (name_with column) holders
 
 unfoldable pub doubled_text : ℕ → List ℕ → List ℕ
-doubled_text tile names =
-    codes "tile " ++ (decimal tile ++ (codes " is in more than one part:" ++ names))
+doubled_text column names =
+    codes "column " ++ (decimal column ++ (codes " is in more than one part:" ++ names))
 
--- Why parts aren't stitched, of these files and a plan with so many tiles; want of memory has no text of its own.
+unfoldable pub apart_text : List ℕ
+apart_text =
+    codes "the columns of the parts don't follow on one another: print them again with one mpw"
+
+-- Why parts aren't stitched, of these files and a layout with so many columns; want of memory has no text of its own.
 abbrev pub fault_text : List Holder → ℕ → PartsFault → Option (List ℕ)
-fault_text holders tiles Memory = None
-fault_text holders tiles NoPart = Some nothing_text
-fault_text holders tiles (Other place what) =
+fault_text holders columns Memory = None
+fault_text holders columns NoPart = Some nothing_text
+fault_text holders columns (Other place what) =
     Some (other_of (slice_get holders 0) (slice_get holders place) what)
-fault_text holders tiles (Missing tile) = Some (missing_text tile tiles)
-fault_text holders tiles (Doubled tile) = Some (doubled_text tile (names_with tile holders))
+fault_text holders columns (NoRule place) = Some (unruled_of (slice_get holders place))
+fault_text holders columns (Missing column) = Some (missing_text column columns)
+fault_text holders columns (Doubled column) =
+    Some (doubled_text column (names_with column holders))
+fault_text holders columns Apart = Some apart_text
+fault_text holders columns NoBook = Some no_markers_text
 
--- ---- tiles that a plan hasn't
+-- ---- columns that a layout hasn't
 
-unfoldable pub no_tiles_text : List ℕ
-no_tiles_text =
+unfoldable pub no_columns_text : List ℕ
+no_columns_text =
     codes
-    "error: --tiles: the structure shows no shape, so its plan has no tiles: --tiles 1/1 prints its part"
+    "error: --tiles: the structure shows no shape, so it has no columns: --tiles 1/1 prints its part"
 
 unfoldable pub beyond_text : ℕ → List ℕ
-beyond_text tiles =
-    codes "error: --tiles: the plan has " ++ decimal tiles ++ codes " tiles, counted from 0"
+beyond_text columns =
+    codes "error: --tiles: the layout has " ++ decimal columns ++ codes " columns, counted from 0"
 
 abbrev pub range_text : ℕ → List ℕ
-range_text tiles = if nat_lt 0 tiles then beyond_text tiles else no_tiles_text
+range_text columns = if nat_lt 0 columns then beyond_text columns else no_columns_text

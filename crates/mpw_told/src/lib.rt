@@ -15,7 +15,7 @@ mod told_parts;
 
 pub use fault::{FirmFault, exit_status};
 pub use told::{
-    check_fault, deck_fault, library_fault, misuse, output_fault, refusal, tiles_fault, unread_by,
-    unwritten, unwritten_by,
+    check_fault, deck_fault, library_fault, misuse, output_fault, refusal, unread_by, unwritten,
+    unwritten_by,
 };
-pub use told_parts::{PartFile, beyond_plan, no_markers, no_part, parts_fault};
+pub use told_parts::{PartFile, beyond_plan, no_markers, no_part, older_part, parts_fault};

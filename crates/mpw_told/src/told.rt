@@ -3,7 +3,7 @@ ghost use Rattle.std.specs.Prelude.{◌≡◌, ℕ, List, IfOk};
 ghost use Rattle.std.specs.String.{string_bytes};
 ghost use Rattle.mpw_records.specs.Words.{fault_text};
 ghost use Rattle.mpw_told.specs.Told.{CannotBeRead, CannotBeWritten, Fails, Misuses, Refuses, Tells, output_text, unread_text, unwritten_text};
-ghost use Rattle.mpw_told.specs.ToldFaults.{check_told, deck_text, deck_told, library_text, line_sentence, named_text, outside_text, record_text, spaced, structure_text, tiles_text};
+ghost use Rattle.mpw_told.specs.ToldFaults.{check_told, deck_text, deck_told, library_text, line_sentence, named_text, outside_text, record_text, spaced, structure_text};
 
 use crate::colon::is_of_colon;
 use crate::fault::FirmFault;
@@ -146,16 +146,6 @@ fn structure_fault(alloc: Global, file: &str, top: &str, fault: HierFault) -> Fi
 {
     let sentence = of_structure(fault);
     refusal(format!(in alloc; "{file}: {top}: {fault}: {sentence}"))
-}
-
-/// What is told of a plan of too many tiles.
-#[tactic(auto, unfolding(crate::specs::ToldFaults::tiles_text))]
-pub fn tiles_fault(alloc: Global, file: &str, top: &str) -> FirmFault
-    ensures { Refuses (tiles_text file.now top.now) result }
-{
-    refusal(format!(in alloc;
-        "{file}: {top}: more than 4096 tiles: take a larger tile in the deck's first line"
-    ))
 }
 
 /// What is told of what keeps a library of that text from being checked.

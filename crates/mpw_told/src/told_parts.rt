@@ -2,7 +2,7 @@
 ghost use Rattle.std.specs.Prelude.{◌≡◌, ℕ, List, slice_get, IfOk};
 ghost use Rattle.std.specs.String.{string_bytes};
 ghost use Rattle.mpw_told.specs.Told.{Refuses, Tells, Misuses};
-ghost use Rattle.mpw_told.specs.ToldParts.{holder_of, has_tile, names_with, other_of, other_text, unnamed_text, no_part_text, no_markers_text, nothing_text, missing_text, doubled_text, fault_text, range_text};
+ghost use Rattle.mpw_told.specs.ToldParts.{holder_of, has_column, names_with, other_of, other_text, unnamed_text, no_part_text, older_text, no_markers_text, nothing_text, unruled_of, unruled_text, missing_text, doubled_text, apart_text, fault_text, range_text};
 
 use crate::fault::FirmFault;
 use crate::told::{misuse, refusal};
@@ -10,7 +10,7 @@ use mpw_parts::{Difference, Part, PartsFault};
 use std::alloc::{AllocError, Global};
 use std::marker::Model;
 
-/// The file of a part, with the part's first tile and the one behind its last. Contracts see these.
+/// The file of a part, with the part's first column and the one behind its last. Contracts see these.
 #[derive(Drop)]
 pub struct PartFile<'a> {
     name: &'a str,
@@ -46,26 +46,28 @@ impl<'a> PartFile<'a> {
         self.name
     }
 
-    /// Whether the part has the tile.
-    fn has(&self, tile: usize) -> bool
-        ensures { result ≡ has_tile tile self.now }
+    /// Whether the part has the column.
+    fn has(&self, column: usize) -> bool
+        ensures { result ≡ has_column column self.now }
     {
-        (self.first <= tile) & (tile < self.end)
+        (self.first <= column) & (column < self.end)
     }
 }
 
-/// What is told where tiles are asked for that a plan hasn't.
-#[tactic(auto, unfolding(crate::specs::ToldParts::beyond_text, crate::specs::ToldParts::no_tiles_text))]
-pub fn beyond_plan(alloc: Global, tiles: u32) -> FirmFault
-    ensures { Misuses (range_text tiles) result }
+/// What is told where columns are asked for that a layout hasn't.
+#[tactic(auto, unfolding(crate::specs::ToldParts::beyond_text, crate::specs::ToldParts::no_columns_text))]
+pub fn beyond_plan(alloc: Global, columns: u32) -> FirmFault
+    ensures { Misuses (range_text columns) result }
 {
-    if tiles > 0 {
-        misuse(format!(in alloc; "error: --tiles: the plan has {tiles} tiles, counted from 0"))
+    if columns > 0 {
+        misuse(format!(in alloc;
+            "error: --tiles: the layout has {columns} columns, counted from 0"
+        ))
     } else {
         misuse(String::from_str(
             alloc,
-            "error: --tiles: the structure shows no shape, so its plan has no tiles: --tiles 1/1 \
-            prints its part",
+            "error: --tiles: the structure shows no shape, so it has no columns: --tiles 1/1 prints \
+            its part",
         ))
     }
 }
@@ -77,6 +79,16 @@ pub fn no_part(alloc: Global, file: &str) -> FirmFault
 {
     refusal(format!(in alloc;
         "{file}: no part, or one that was cut off: 'mpw check --tiles' prints parts"
+    ))
+}
+
+/// What is told of a file that is a part of an older form.
+#[tactic(auto, unfolding(crate::specs::ToldParts::older_text))]
+pub fn older_part(alloc: Global, file: &str) -> FirmFault
+    ensures { Refuses (older_text file.now) result }
+{
+    refusal(format!(in alloc;
+        "{file}: a part of an older form, by tiles: print it again with 'mpw check --tiles'"
     ))
 }
 
@@ -121,13 +133,31 @@ fn other(alloc: Global, files: &[PartFile<'_>], place: usize, what: Difference) 
     }
 }
 
-/// The names of the files that have a tile, with a space before each.
-fn holders(alloc: Global, files: &[PartFile<'_>], tile: usize) -> Result<String, AllocError>
-    ensures { IfOk result (λ names. string_bytes names ≡ names_with tile files.now) }
+/// What is told of a part that has a marker of a rule that the deck hasn't.
+#[tactic(auto, unfolding(crate::specs::ToldParts::unruled_text))]
+fn unruled_part(alloc: Global, part: &str) -> FirmFault
+    ensures { Refuses (unruled_text part.now) result }
+{
+    refusal(format!(in alloc; "{part}: a marker of a rule that its deck hasn't: print it again"))
+}
+
+/// What is told of the part at a place, which has a marker of a rule that the deck hasn't.
+fn unruled(alloc: Global, files: &[PartFile<'_>], place: usize) -> FirmFault
+    ensures { Refuses (unruled_of (slice_get files.now place)) result }
+{
+    match files.get(place) {
+        None => no_markers(alloc),
+        Some(part) => unruled_part(alloc, part.name),
+    }
+}
+
+/// The names of the files that have a column, with a space before each.
+fn holders(alloc: Global, files: &[PartFile<'_>], column: usize) -> Result<String, AllocError>
+    ensures { IfOk result (λ names. string_bytes names ≡ names_with column files.now) }
 {
     let mut names = String::new(alloc);
     for file in files {
-        if file.has(tile) {
+        if file.has(column) {
             names.push_str(" ")?;
             names.push_str(file.name)?;
         }
@@ -135,23 +165,23 @@ fn holders(alloc: Global, files: &[PartFile<'_>], tile: usize) -> Result<String,
     Ok(names)
 }
 
-/// What is told of a tile that no part has.
+/// What is told of a column that no part has.
 #[tactic(auto, unfolding(crate::specs::ToldParts::missing_text))]
-fn missing_tile(alloc: Global, tiles: u32, tile: usize) -> FirmFault
-    ensures { Refuses (missing_text tile tiles) result }
+fn missing_column(alloc: Global, columns: u32, column: usize) -> FirmFault
+    ensures { Refuses (missing_text column columns) result }
 {
     refusal(format!(in alloc;
-        "tile {tile} is in no part: the plan has {tiles} tiles, counted from 0"
+        "column {column} is in no part: the layout has {columns} columns, counted from 0"
     ))
 }
 
-/// What is told of a tile that more than one part has.
+/// What is told of a column that more than one part has.
 #[tactic(auto, unfolding(crate::specs::ToldParts::doubled_text))]
-fn doubled_tile(alloc: Global, files: &[PartFile<'_>], tile: usize) -> FirmFault
-    ensures { Refuses (doubled_text tile (names_with tile files.now)) result }
+fn doubled_column(alloc: Global, files: &[PartFile<'_>], column: usize) -> FirmFault
+    ensures { Refuses (doubled_text column (names_with column files.now)) result }
 {
-    match holders(alloc, files, tile) {
-        Ok(names) => refusal(format!(in alloc; "tile {tile} is in more than one part:{names}")),
+    match holders(alloc, files, column) {
+        Ok(names) => refusal(format!(in alloc; "column {column} is in more than one part:{names}")),
         Err(_) => FirmFault::Memory,
     }
 }
@@ -164,20 +194,34 @@ fn nothing(alloc: Global) -> FirmFault
     refusal(String::from_str(alloc, "there is no part"))
 }
 
-/// What is told of parts that aren't stitched, of these files and a plan with so many tiles.
+/// What is told of parts whose columns don't follow on one another.
+#[tactic(auto, unfolding(crate::specs::ToldParts::apart_text))]
+fn apart(alloc: Global) -> FirmFault
+    ensures { Refuses apart_text result }
+{
+    refusal(String::from_str(
+        alloc,
+        "the columns of the parts don't follow on one another: print them again with one mpw",
+    ))
+}
+
+/// What is told of parts that aren't stitched, of these files and a layout with so many columns.
 pub fn parts_fault(
     alloc: Global,
     files: &[PartFile<'_>],
-    tiles: u32,
+    columns: u32,
     fault: PartsFault,
 ) -> FirmFault
-    ensures { Tells (fault_text files.now tiles fault) result }
+    ensures { Tells (fault_text files.now columns fault) result }
 {
     match fault {
         PartsFault::Memory => FirmFault::Memory,
         PartsFault::NoPart => nothing(alloc),
         PartsFault::Other(place, what) => other(alloc, files, place, what),
-        PartsFault::Missing(tile) => missing_tile(alloc, tiles, tile),
-        PartsFault::Doubled(tile) => doubled_tile(alloc, files, tile),
+        PartsFault::NoRule(place) => unruled(alloc, files, place),
+        PartsFault::Missing(column) => missing_column(alloc, columns, column),
+        PartsFault::Doubled(column) => doubled_column(alloc, files, column),
+        PartsFault::Apart => apart(alloc),
+        PartsFault::NoBook => no_markers(alloc),
     }
 }

@@ -4,4 +4,4 @@ use Rattle.mpw_told.specs.ToldParts.{names_with}
 use Rattle.mpw_told.proofs.told_parts.holders.Given as goal
 
 abbrev pub invariant-loop-file : goal.invariant-loop-file
-invariant-loop-file l = string_bytes l.names ≡ names_with l.tile (take l.file-index l.files)
+invariant-loop-file l = string_bytes l.names ≡ names_with l.column (take l.file-index l.files)

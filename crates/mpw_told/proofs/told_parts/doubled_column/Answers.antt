@@ -1,0 +1,11 @@
+use Rattle.std.proofs.Common.{subst}
+use Rattle.std.specs.String.{string_bytes}
+use Rattle.mpw_told.specs.Told.{Refuses}
+use Rattle.mpw_told.specs.ToldParts.{doubled_text}
+use Rattle.mpw_told.proofs.told_parts.doubled_column.Goals as goal
+
+pub returns-in-Ok : goal.returns-in-Ok
+unfolding doubled_text
+returns-in-Ok c =
+    subst (λ names. Refuses (doubled_text c.args.column names) c.refusal.result) c.in-Ok.ensures
+    (c.refusal.ensures (doubled_text c.args.column (string_bytes c.in-Ok.names)) c.format.ensures.ok)
