@@ -1,5 +1,5 @@
 -- A listing tells of a layout nothing but its deck's rules and its structure's name.
-use Rattle.std.proofs.Common.{◌≡◌, ◌∙◌, ℕ, zero, suc, Bool, true, cond, List, [], ◌∷◌, ◌++◌, filter, refl, sym, ap, subst, slice_get, Option, None, Some, Result, Ok, Err}
+use Rattle.std.proofs.Common.{◌≡◌, ◌∙◌, ℕ, zero, suc, Bool, true, cond, List, [], ◌∷◌, ◌++◌, filter, length, refl, sym, ap, subst, slice_get, Option, None, Some, Result, Ok, Err}
 use Rattle.std.specs.Prelude.{IfOk}
 use Rattle.std.specs.List.{flat_map, list_any}
 use Rattle.mpw_deck.specs.Decks.{Deck}
@@ -11,6 +11,7 @@ use Rattle.mpw_markers.specs.Markers.{key_of}
 use Rattle.mpw_check.specs.Drawn.{drawn, drawn_shelf, IsDrawnFrom}
 use Rattle.mpw_job.specs.Laws.{LayoutDeterminesMarkers}
 use Rattle.mpw_parts.specs.Parts.{Checked, Found}
+use Rattle.mpw_parts.specs.Stitching.{IsBookOf}
 use Rattle.mpw_replies.specs.Listing.{marker}
 use Rattle.mpw_replies.specs.Sight.{is_full, is_of, cells_on, met_cells, line_for, full_line, full_lines, masked_lines}
 use Rattle.mpw_replies.specs.declared.reply.Reply.TheVariants as reply
@@ -105,7 +106,9 @@ listed_as_checks make one parts whole w texts first book at made beside are =
     (subst (λ t. IsDrawnFrom whole.layout.deck t w.named.0 whole.layout) tops w.named.1))
     made.made.drawn
     ∙ ap (listed_text made.snapshot)
-    (one made.snapshot whole.book book (make texts first parts whole.book at made beside w.book)
+    (one made.snapshot whole.book book (make texts first parts whole.book at made beside
+    (subst (λ (d : Deck). IsBookOf (length d.rules) parts whole.book)
+    (decks ∙ sym (ap (λ (s : Snapshot). s.deck) made.made.drawn.drawn.snapshot_is)) w.book))
     are)
 
 -- It holds of what comes of making a whole.

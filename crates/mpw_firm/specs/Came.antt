@@ -12,7 +12,7 @@ use Rattle.mpw_picture.specs.declared.picture.View.{View}
 use Rattle.mpw_report.specs.Content.{Noted}
 use Rattle.mpw_report.specs.Report.{full_text}
 use Rattle.mpw_spread.specs.Spread.{IsPartOf}
-use Rattle.mpw_spread.specs.declared.range.TileRange.{TileRange}
+use Rattle.mpw_spread.specs.declared.range.ColumnRange.{ColumnRange}
 use Rattle.mpw_tiles.specs.Snapshots.{Snapshot}
 use Rattle.mpw_asked.specs.Commands.{IsOfWord, telling_of}
 use Rattle.mpw_firm.specs.Drawings.{AreFlatOf, IsReadBy, IsReadFrom, IsTopOf}
@@ -20,7 +20,7 @@ use Rattle.mpw_firm.specs.Keys.{IsViewOf}
 use Rattle.mpw_sources.specs.Looks.{IsLookedAt}
 use Rattle.mpw_sources.specs.Notes.{notes_of, rule_notes}
 use Rattle.mpw_outputs.specs.Outputs.{Kept, Grows, in_file, on_output}
-use Rattle.mpw_firm.specs.Ranges.{HasTilesOf}
+use Rattle.mpw_firm.specs.Ranges.{HasColumnsOf}
 use Rattle.mpw_sources.specs.Sources.{kept_text}
 use Rattle.mpw_firm.specs.Counts.{count_of}
 use Rattle.mpw_told.specs.Status.{exit_of}
@@ -113,8 +113,8 @@ pub record IsChecked (options : Options) (choices : Choices) (old new : Option (
   pub count : found ≡ length book
   pub kept : PutsAll options (shown_by options choices drawn book) old new
 
--- Some tiles of them were, and their part is printed.
-pub record IsPartChecked (options : Options) (range : TileRange) (old new : Option (List Kept))
+-- Some columns of them were, and their part is printed.
+pub record IsPartChecked (options : Options) (range : ColumnRange) (old new : Option (List Kept))
     (found : ℕ) : Type 0 where
   pub deck : List ℕ
   pub library : List ℕ
@@ -124,14 +124,14 @@ pub record IsPartChecked (options : Options) (range : TileRange) (old new : Opti
   pub read : IsReadFrom deck drawn.top library drawn.layout
   pub looked : IsLookedAt options.strict drawn.layout
   pub made : IsPartOf (record { deck = deck; top = drawn.top; library = library }) part
-  pub tiles : HasTilesOf drawn.layout range part
+  pub columns : HasColumnsOf drawn.layout range part
   pub count : found ≡ count_of part.lists
   pub kept : Grows old new (on_output (part_text part) ∷ [])
 
--- The whole, or the tiles that are asked for.
+-- The whole, or the columns that are asked for.
 abbrev pub IsCheckDone : Options → Portion → Option (List Kept) → Option (List Kept) → ℕ → Type 0
 IsCheckDone options (portion.Whole choices) old new found = IsChecked options choices old new found
-IsCheckDone options (portion.Tiles range) old new found = IsPartChecked options range old new found
+IsCheckDone options (portion.Columns range) old new found = IsPartChecked options range old new found
 
 -- ---- of parts
 

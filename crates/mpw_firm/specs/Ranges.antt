@@ -1,31 +1,29 @@
--- The tiles that are asked for, of a layout's plan.
-use Rattle.std.specs.Prelude.{◌≡◌, ◌⊎◌, ◌+◌, ℕ, length, None, Some}
-use Rattle.mpw_check.specs.Lists.{tile_count}
+-- The columns that are asked for, of a layout's.
+use Rattle.std.specs.Prelude.{◌≡◌, ◌⊎◌, ◌+◌, List, length, take, drop, None, Some}
+use Rattle.mpw_columns.specs.Plan.{AreColumnsOfLayout}
+use Rattle.mpw_keys.specs.declared.column.Column.{Column}
 use Rattle.mpw_parts.specs.Parts.{Found}
 use Rattle.mpw_spread.specs.Ranges.{span_of}
-use Rattle.mpw_spread.specs.declared.range.TileRange.{TileRange}
+use Rattle.mpw_spread.specs.declared.range.ColumnRange.{ColumnRange}
 use Rattle.mpw_tiles.specs.Snapshots.{Snapshot}
 use Rattle.mpw_told.specs.declared.fault.FirmFault.{FirmFault}
 use Rattle.mpw_told.specs.declared.fault.FirmFault.TheVariants.{Memory}
-use Rattle.mpw_sources.specs.declared.target.Target.{Target}
-use Rattle.mpw_sources.specs.Sides.{IsOfTiles}
 use Rattle.mpw_told.specs.Told.{Misuses}
 use Rattle.mpw_told.specs.ToldParts.{range_text}
 
--- The part has just the tiles that are asked for, and the plan has these.
-abbrev pub HasTilesOf : Snapshot → TileRange → Found → Type 0
-HasTilesOf s range part =
-    (total : ℕ) × (tile_count s ≡ Some total)
-    × (span_of range total
-    ≡ Some (record { first = part.first; end = part.first + length part.lists }))
+-- The part has just the columns that are asked for of those into which the layout is cut.
+pub record HasColumnsOf (s : Snapshot) (range : ColumnRange) (part : Found) : Type 0 where
+  pub columns : List Column
+  pub cut : AreColumnsOfLayout s columns
+  pub span : span_of range (length columns)
+      ≡ Some (record { first = part.first; end = part.first + length part.lists })
+  pub own : part.columns ≡ take (length part.lists) (drop part.first columns)
 
--- The plan would have too many tiles, or it hasn't those that are asked for, and that is told; or there is no room.
-abbrev pub IsOfRange : Target → Snapshot → TileRange → FirmFault → Type 0
-IsOfRange target s range fault =
+-- The layout is cut into columns and hasn't those that are asked for, and that is told; or there is no room.
+abbrev pub IsOfRange : Snapshot → ColumnRange → FirmFault → Type 0
+IsOfRange s range fault =
     (fault ≡ Memory)
-    ⊎ ((tile_count s ≡ None)
-    × IsOfTiles target.file.now target.top.now s fault)
-    ⊎ ((total : ℕ)
-    × (tile_count s ≡ Some total)
-    × (span_of range total ≡ None)
-    × Misuses (range_text total) fault)
+    ⊎ ((columns : List Column)
+    × AreColumnsOfLayout s columns
+    × (span_of range (length columns) ≡ None)
+    × Misuses (range_text (length columns)) fault)

@@ -5,7 +5,6 @@ ghost use Rattle.mpw_job.specs.Layout.{AreLayoutMarkers};
 ghost use Rattle.mpw_firm.specs.Came.{IsChecked, PutsAll, listing_texts};
 ghost use Rattle.mpw_outputs.specs.Outputs.{AreApart, Grows, IsUnwritten};
 ghost use Rattle.mpw_firm.specs.Shown.{shown_of};
-ghost use Rattle.mpw_sources.specs.Sides.{IsOfTiles};
 ghost use Rattle.mpw_told.specs.Told.{Fails, output_text};
 ghost use Rattle.mpw_firm.specs.Uses.{check_inputs, check_outputs};
 
@@ -20,18 +19,11 @@ use mpw_asked::{Choices, Options};
 use mpw_check::check_layout;
 use mpw_markers::Book;
 use mpw_outputs::Outputs;
-use mpw_sources::{Target, look, many_tiles, notes_of, tell_notes};
+use mpw_sources::{Target, look, notes_of, tell_notes};
 use mpw_tiles::Snapshot;
 use mpw_told::FirmFault;
 use std::alloc::Global;
 use std::thread::Threads;
-
-/// What is told of a layout of which a plan would have too many tiles.
-pub fn tiles_of(rt: &HostRuntime, target: &Target<'_>, snapshot: &Snapshot) -> FirmFault
-    ensures { IsOfTiles target.now.file.now target.now.top.now snapshot.now result }
-{
-    many_tiles(rt.alloc(), target.file, target.top.as_str(), snapshot)
-}
 
 /// Prints the markers or their numbers, and writes the report.
 fn write_listed<O: Outputs>(

@@ -1,6 +1,6 @@
 //! The program of a firm: `mpw check --deck DECK --top STRUCTURE FILE` checks a structure of a GDSII library under a deck, and
 //! prints its markers as a desk lists them; with `--report OUT` it writes them to a file too, as a report database of KLayout's.
-//! With `--tiles` it checks some tiles of the plan, and prints their part; `mpw stitch PART..` prints the markers of the whole.
+//! With `--tiles` it checks some columns of the layout, and prints their part; `mpw stitch PART..` prints the markers of the whole.
 //! With `--summary` it prints how many markers each rule has in the place of the markers.
 //! With `--picture OUT` it draws what was checked, or with `--marker KEY` what lies round a marker, as SVG.
 #![tactic(auto)]
@@ -64,7 +64,7 @@ fn print_told<O: Outputs>(outputs: &mut O, alloc: Global, text: &str) -> Result<
     Ok(0)
 }
 
-/// Checks the whole, or the tiles that are asked for, where no output is an input or another output.
+/// Checks the whole, or the columns that are asked for, where no output is an input or another output.
 fn check_asked<O: Outputs>(
     rt: &HostRuntime,
     threads: &(impl Threads + Sync),
@@ -76,7 +76,7 @@ fn check_asked<O: Outputs>(
     check_apart(outputs, rt.alloc(), options)?;
     match &options.portion {
         Portion::Whole(choices) => check(rt, threads, outputs, options, choices),
-        Portion::Tiles(range) => check_range(rt, threads, outputs, options, *range),
+        Portion::Columns(range) => check_range(rt, threads, outputs, options, *range),
     }
 }
 

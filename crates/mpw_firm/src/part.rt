@@ -1,28 +1,27 @@
-//! The check of some tiles, whose part is printed.
-ghost use Rattle.std.specs.Prelude.{◌≡◌, IfOk, IfErr};
+//! The check of some columns, whose part is printed.
+ghost use Rattle.std.specs.Prelude.{◌≡◌, ◌≤◌, ◌^◌, length, IfOk, IfErr};
 ghost use Rattle.mpw_spread.specs.Spread.{IsPartOf};
 ghost use Rattle.mpw_firm.specs.Came.{IsPartChecked};
 ghost use Rattle.mpw_firm.specs.Drawings.{IsReadFrom};
-ghost use Rattle.mpw_firm.specs.Ranges.{HasTilesOf, IsOfRange};
+ghost use Rattle.mpw_firm.specs.Ranges.{HasColumnsOf, IsOfRange};
 ghost use Rattle.mpw_outputs.specs.Outputs.{AreApart};
 ghost use Rattle.mpw_firm.specs.Uses.{check_inputs, check_outputs};
 
-use crate::asked::tiles_of;
 use crate::drawing::drawn_of;
 use crate::line::Line;
 use crate::progress::{count_of, tell_part};
 use mpw_asked::Options;
-use mpw_check::tile_count;
+use mpw_keys::Column;
 use mpw_outputs::{Outputs, Place, Text, put};
 use mpw_parts::Part;
 use mpw_sources::{Content, Source, Target, look, notes_of, read_file, read_library, tell_notes};
-use mpw_spread::{TileRange, check_part, subject_of};
+use mpw_spread::{ColumnRange, Plan, check_part, columns_for_shares, subject_of};
 use mpw_tiles::Snapshot;
 use mpw_told::{FirmFault, beyond_plan};
 use std::alloc::{AllocError, Global};
 use std::thread::Threads;
 
-/// A structure of which some tiles are checked, and the texts that it was read of.
+/// A structure of which some columns are checked, and the texts that it was read of.
 #[derive(Clone, Copy, Drop)]
 pub struct PartAsked<'a> {
     /// The library's file, and the structure.
@@ -44,45 +43,54 @@ fn copy_of(alloc: Global, bytes: &[u8]) -> Result<Vec<u8>, AllocError>
     Ok(copy)
 }
 
-/// The part of the tiles that are asked for.
+/// How many columns there are.
+fn count(columns: &[Column]) -> u32
+    requires { length columns.now ≤ 2 ^ 22 }
+    ensures { result ≡ length columns.now }
+{
+    columns.len() as u32
+}
+
+/// The part of the columns that are asked for.
 fn part_of(
     rt: &HostRuntime,
     threads: &(impl Threads + Sync),
     asked: &PartAsked<'_>,
-    range: TileRange,
+    range: ColumnRange,
     line: &mut Line<'_>,
 ) -> Result<Part, FirmFault>
     requires { IsReadFrom asked.now.deck.now asked.now.target.top.now asked.now.library.now asked.now.layout.now }
     ensures made { IfOk result (IsPartOf (record { deck = asked.now.deck.now; top = asked.now.target.top.now; library = asked.now.library.now })) }
-    ensures asked { IfOk result (HasTilesOf asked.now.layout.now range) }
-    ensures refused { IfErr result (IsOfRange asked.now.target asked.now.layout.now range) }
+    ensures asked { IfOk result (HasColumnsOf asked.now.layout.now range) }
+    ensures refused { IfErr result (IsOfRange asked.now.layout.now range) }
 {
-    let (alloc, layout) = (rt.alloc(), asked.layout);
-    let Some(tiles) = tile_count(layout) else {
-        return Err(tiles_of(rt, &asked.target, layout));
-    };
-    let Some(span) = range.span(tiles) else {
-        return Err(beyond_plan(alloc, tiles));
+    let (alloc, snapshot) = (rt.alloc(), asked.layout);
+    line.tell_read(snapshot, true);
+    let columns = columns_for_shares(alloc, snapshot)?;
+    let columns = columns.as_slice();
+    let total = count(columns);
+    let Some(span) = range.span(total) else {
+        return Err(beyond_plan(alloc, total));
     };
     let (deck, top) = (copy_of(alloc, asked.deck)?, asked.target.top.copy()?);
-    let subject = subject_of(asked.library, deck, top, tiles);
-    line.tell_read(layout, false);
-    let part = check_part(threads, alloc, subject, layout, span, line);
+    let subject = subject_of(asked.library, deck, top, snapshot.extent(), total);
+    let plan = Plan { snapshot, columns };
+    let part = check_part(threads, alloc, subject, plan, span, line);
     line.end();
     Ok(part?)
 }
 
-/// Checks the tiles that the command line asks for, prints their part and tells how many markers the tiles have.
+/// Checks the columns that the command line asks for, prints their part and tells how many markers they have.
 ///
 /// # Errors
-/// Tiles that the plan hasn't, a file that can't be read, a library or a deck with a fault, a device that failed, or want of memory.
+/// Columns that the layout hasn't, a file that can't be read, a library or a deck with a fault, a device that failed, or want of memory.
 #[tactic(auto, using(crate::proofs::Flat::part_read, crate::proofs::Flat::part_named))]
 pub fn check_range<O: Outputs>(
     rt: &HostRuntime,
     threads: &(impl Threads + Sync),
     outputs: &mut O,
     options: &Options,
-    range: TileRange,
+    range: ColumnRange,
 ) -> Result<usize, FirmFault>
     requires apart { AreApart (O.files outputs.old) (check_inputs options.now) (check_outputs options.now) }
     ensures { IfOk result (IsPartChecked options.now range (O.kept outputs.old) (O.kept outputs.new)) }

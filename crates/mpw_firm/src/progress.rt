@@ -9,7 +9,8 @@ use crate::line::Line;
 use crate::memory::peak;
 use mpw_check::{MAX_IN_TILES, tile_count};
 use mpw_deck::Rules;
-use mpw_markers::{Marker, TileMarkers};
+use mpw_keys::ColumnKeys;
+use mpw_markers::Marker;
 use mpw_outputs::rule_counts;
 use mpw_parts::Part;
 use mpw_tiles::Snapshot;
@@ -17,14 +18,6 @@ use std::io;
 
 /// The most shapes of a submission to a desk.
 const MAX_ON_DESK: u64 = 1 << 20;
-
-/// How many tiles the layout has.
-fn tiles_of(snapshot: &Snapshot) -> u32 {
-    match tile_count(snapshot) {
-        Some(tiles) => tiles,
-        None => 0,
-    }
-}
 
 /// Tells how many markers there are, and how many of each rule.
 pub fn tell_markers(rt: &HostRuntime, rules: &Rules, markers: &[Marker]) -> io::Result<()> {
@@ -103,7 +96,7 @@ pub fn tell_limit(rt: &HostRuntime, checked: &Checked<'_>) -> io::Result<()> {
 }
 
 /// How many markers the lists have together, up to 2^64 - 1.
-pub fn count_of(lists: &[TileMarkers]) -> usize
+pub fn count_of(lists: &[ColumnKeys]) -> usize
     ensures count { result ≡ count_of lists.now }
     ensures some { nat_lt 0 result ≡ list_any has_some lists.now }
 {
@@ -114,17 +107,17 @@ pub fn count_of(lists: &[TileMarkers]) -> usize
     count
 }
 
-/// Tells which of the tiles were checked, how many markers these have, and the time and the memory that it took.
+/// Tells which of the columns were checked, how many markers these have, and the time and the memory that it took.
 pub fn tell_part(
     rt: &HostRuntime,
     snapshot: &Snapshot,
     part: &Part,
     line: &Line<'_>,
 ) -> io::Result<()> {
-    let (tiles, checked) = (tiles_of(snapshot), part.lists().len());
+    let (columns, checked) = (part.subject().columns(), part.lists().len());
     let shapes = snapshot.shelf().count(0);
     eprint!(rt;
-        "{shapes} shapes, {checked} of {tiles} tiles from {}, {} markers in them",
+        "{shapes} shapes, {checked} of {columns} columns from {}, {} markers in them",
         part.first(),
         count_of(part.lists())
     )?;

@@ -15,10 +15,10 @@ use crate::report::{list, report};
 use crate::whole::{Whole, whole_of};
 use mpw_asked::StitchOptions;
 use mpw_outputs::Outputs;
-use mpw_parts::{Part, read_part};
+use mpw_parts::{Part, is_older_part, read_part};
 use mpw_report::Note;
 use mpw_sources::{Content, read_file, rule_notes};
-use mpw_told::{FirmFault, PartFile, no_part};
+use mpw_told::{FirmFault, PartFile, no_part, older_part};
 use std::alloc::{AllocError, Global};
 use std::io;
 
@@ -29,6 +29,7 @@ fn part_in(alloc: Global, file: &str, text: &[u8]) -> Result<Part, FirmFault>
 {
     match read_part(alloc, text) {
         Ok(Some(part)) => Ok(part),
+        Ok(None) if is_older_part(text) => Err(older_part(alloc, file)),
         Ok(None) => Err(no_part(alloc, file)),
         Err(_) => Err(FirmFault::Memory),
     }
@@ -54,8 +55,8 @@ fn whole_in(rt: &HostRuntime, names: &[String]) -> Result<Whole, FirmFault>
 
 /// Tells of how many parts the markers were stitched, and how many these are.
 fn tell_stitched(rt: &HostRuntime, parts: usize, whole: &Whole) -> io::Result<()> {
-    let tiles = whole.tiles;
-    eprint!(rt; "{parts} parts, {tiles} tiles, ")?;
+    let columns = whole.columns;
+    eprint!(rt; "{parts} parts, {columns} columns, ")?;
     tell_markers(rt, whole.layout.deck().rules(), whole.book.as_slice())?;
     eprintln!(rt; "")
 }

@@ -1,33 +1,33 @@
 //! The whole that parts make.
-ghost use Rattle.std.specs.Prelude.{◌≡◌, true, IfOk, IfErr};
+ghost use Rattle.std.specs.Prelude.{◌≡◌, ◌≤◌, length, IfOk, IfErr};
 ghost use Rattle.mpw_parts.specs.Stitching.{IsBookOf};
-ghost use Rattle.mpw_firm.specs.Stitched.{are_alone, first_name, is_alone, IsListedAsCheck, IsListedAsEach, IsNamed, IsSubjectOf, IsWholeOf, IsOfBlank, IsOfBook, IsOfFirst, IsOfMarkers, IsOfParts, IsOfWhole};
+ghost use Rattle.mpw_firm.specs.Stitched.{first_name, IsListedAsCheck, IsListedAsEach, IsNamed, IsSubjectOf, IsWholeOf, IsOfBlank, IsOfFirst, IsOfParts, IsOfWhole};
 
 use crate::blank::blank_layout;
 use crate::laws::wholes_are_listed_as_checks;
 use mpw_deck::Deck;
 use mpw_geom::Name;
-use mpw_markers::{Book, Marker};
+use mpw_markers::Book;
 use mpw_parts::{Part, stitch_parts};
 use mpw_sources::deck_of;
 use mpw_tiles::Snapshot;
 use mpw_told::{FirmFault, PartFile, check_fault, no_markers, parts_fault};
 use std::alloc::Global;
 
-/// What was checked: the deck, the structure's name, and the number of tiles.
+/// What was checked: the deck, the structure's name, and the number of columns.
 #[derive(Drop)]
 pub struct Subject {
     pub deck: Deck,
     pub top: Name,
-    pub tiles: u32,
+    pub columns: u32,
 }
 
-/// The markers of a whole, with the structure's name, the number of tiles, and a layout of that name under the deck, which stands
+/// The markers of a whole, with the structure's name, the number of columns, and a layout of that name under the deck, which stands
 /// for the one that was checked where the markers are listed.
 #[derive(Drop)]
 pub struct Whole {
     pub top: Name,
-    pub tiles: u32,
+    pub columns: u32,
     pub layout: Snapshot,
     pub book: Book,
 }
@@ -45,7 +45,7 @@ fn subject_of(alloc: Global, files: &[PartFile<'_>], parts: &[Part]) -> Result<S
     Ok(Subject {
         deck,
         top: subject.top().copy()?,
-        tiles: subject.tiles(),
+        columns: subject.columns(),
     })
 }
 
@@ -59,73 +59,29 @@ fn first_name<'a>(files: &[PartFile<'a>]) -> &'a str
     }
 }
 
-/// Whether a marker is one of a check by itself under so many rules: it meets the only submission.
-fn is_alone(marker: &Marker, rules: usize) -> bool
-    ensures { result ≡ is_alone rules marker.now }
+/// How many rules a deck has.
+fn rule_count(deck: &Deck) -> u32
+    ensures { result ≡ length deck.now.rules }
 {
-    let meets_it = match marker.met.as_slice() {
-        [origin] => *origin == 0,
-        _ => false,
-    };
-    meets_it & ((marker.rule as usize) < rules)
+    deck.is_deck();
+    deck.rules().as_slice().len() as u32
 }
 
-/// Whether all of these are.
-fn are_alone(markers: &[Marker], rules: usize) -> bool
-    ensures { result ≡ are_alone rules markers.now }
-{
-    for marker in markers {
-        if !is_alone(marker, rules) {
-            return false;
-        }
-    }
-    true
-}
-
-/// The book of parts of these files, of a plan with so many tiles.
-fn stitch_files(
-    alloc: Global,
-    files: &[PartFile<'_>],
-    tiles: u32,
-    parts: Vec<Part>,
-) -> Result<Book, FirmFault>
-    ensures book { IfOk result (IsBookOf parts.items) }
-    ensures refused { IfErr result (IsOfParts files.now tiles parts.items) }
-{
-    match stitch_parts(alloc, parts) {
-        Ok(book) => Ok(book),
-        Err(fault) => Err(parts_fault(alloc, files, tiles, fault)),
-    }
-}
-
-/// A book, where its markers are those of a check by itself under so many rules.
-fn alone(alloc: Global, rules: usize, book: Book) -> Result<Book, FirmFault>
-    ensures book { IfOk result (λ kept. kept ≡ book) }
-    ensures alone { IfOk result (λ kept. are_alone rules kept ≡ true) }
-    ensures refused { IfErr result (IsOfMarkers rules book) }
-{
-    if are_alone(book.as_slice(), rules) {
-        Ok(book)
-    } else {
-        Err(no_markers(alloc))
-    }
-}
-
-/// The book of parts of these files, under a deck with so many rules and a plan with so many tiles.
+/// The book of parts of these files, under a deck and of a layout with so many columns.
 fn book_of(
     alloc: Global,
     files: &[PartFile<'_>],
-    tiles: u32,
-    rules: usize,
+    columns: u32,
+    deck: &Deck,
     parts: Vec<Part>,
 ) -> Result<Book, FirmFault>
-    ensures book { IfOk result (IsBookOf parts.items) }
-    ensures alone { IfOk result (λ book. are_alone rules book ≡ true) }
-    ensures refused { IfErr result (IsOfBook files.now tiles rules parts.items) }
+    ensures book { IfOk result (IsBookOf (length deck.now.rules) parts.items) }
+    ensures refused { IfErr result (IsOfParts files.now columns (length deck.now.rules) parts.items) }
 {
-    match stitch_files(alloc, files, tiles, parts) {
-        Ok(book) => alone(alloc, rules, book),
-        Err(fault) => Err(fault),
+    let rules = rule_count(deck);
+    match stitch_parts(alloc, parts, rules) {
+        Ok(book) => Ok(book),
+        Err(fault) => Err(parts_fault(alloc, files, columns, fault)),
     }
 }
 
@@ -146,13 +102,12 @@ fn make_whole(alloc: Global, files: &[PartFile<'_>], parts: Vec<Part>) -> Result
     ensures whole { IfOk result (IsWholeOf parts.items) }
     ensures refused { IfErr result (IsOfWhole files.now parts.items) }
 {
-    let Subject { deck, top, tiles } = subject_of(alloc, files, parts.as_slice())?;
-    let rules = deck.rules().as_slice().len();
-    let book = book_of(alloc, files, tiles, rules, parts)?;
+    let Subject { deck, top, columns } = subject_of(alloc, files, parts.as_slice())?;
+    let book = book_of(alloc, files, columns, &deck, parts)?;
     let layout = layout_of(alloc, deck, &top)?;
     Ok(Whole {
         top,
-        tiles,
+        columns,
         layout,
         book,
     })
@@ -161,8 +116,7 @@ fn make_whole(alloc: Global, files: &[PartFile<'_>], parts: Vec<Part>) -> Result
 /// The whole that parts of these files make. What is listed of it is what a check lists of the files that the first part was made of.
 ///
 /// # Errors
-/// `Refused` without parts, where the first one's deck has a fault, where the parts don't fit, and where they have markers that no check
-/// finds, in this order; and `Memory`.
+/// `Refused` without parts, where the first one's deck has a fault, and where the parts don't fit, in this order; and `Memory`.
 pub fn whole_of(alloc: Global, files: &[PartFile<'_>], parts: Vec<Part>) -> Result<Whole, FirmFault>
     ensures whole { IfOk result (IsWholeOf parts.items) }
     ensures listed { IfOk result (IsListedAsCheck parts.items) }

@@ -26,7 +26,7 @@ returns g c =
           (record { deck = c.as_slice.result.now; top = drawn.top; library = l })
           c.in_ok-part.part) (c.text.ensures ∙ c.in_ok-source.ensures.text_is)
           c.in_ok-part.ensures.made);
-      tiles = c.in_ok-part.ensures.asked;
+      columns = c.in_ok-part.ensures.asked;
       count = search rules;
       kept = search rules;
     }

@@ -1,0 +1,38 @@
+use Rattle.std.proofs.Common.{◌≡◌, ◌∙◌, ◌+◌, ◌-◌, ℕ, List, length, take, drop, Option, Some, ap, sym, subst, arith}
+use Rattle.mpw_keys.specs.declared.column.Column.{Column}
+use Rattle.mpw_spread.specs.Ranges.{span_of}
+use Rattle.mpw_spread.specs.declared.range.Span.{Span}
+use Rattle.mpw_firm.proofs.part.part_of.Goals as goal
+
+-- A span by its first column and how many there are.
+span_by : (span : Span) (first many : ℕ) → first ≡ span.first → span.first + many ≡ span.end
+    → span ≡ record { first = first; end = first + many }
+span_by span first many a b =
+    let end : span.end ≡ first + many = omega (arith, a, b) in
+    λ i. record { first = sym a i; end = end i }
+
+pub returns-clause-asked : goal.returns-clause-asked
+returns-clause-asked g c =
+    let columns = c.in_ok-columns.columns.items in
+    let part = c.in_ok-part.field-0 in
+    let span = c.in-Some.span in
+    let all : c.count-total.result ≡ length columns =
+    c.count-total.ensures ∙ ap (λ (cs : List Column). length cs) c.as_slice-columns.ensures.value in
+    let many : length part.lists ≡ span.end - span.first =
+    omega (arith, c.in_ok-part.ensures.count) in
+    record {
+      columns = columns;
+      cut = c.in_ok-columns.ensures.columns;
+      span = subst (λ n. span_of c.args.range n ≡ Some (record {
+        first = part.first;
+        end = part.first + length part.lists;
+      })) all (sym c.in-Some.ensures.span
+          ∙ ap Some (span_by span part.first (length part.lists) c.in_ok-part.ensures.first
+          c.in_ok-part.ensures.count));
+      own = subst (λ n. part.columns ≡ take n (drop part.first columns)) (sym many)
+          (subst (λ n. part.columns ≡ take (span.end - span.first) (drop n columns))
+          (sym c.in_ok-part.ensures.first)
+          (subst (λ (cs : List Column).
+          part.columns ≡ take (span.end - span.first) (drop span.first cs))
+          c.as_slice-columns.ensures.value c.in_ok-part.ensures.columns));
+    }
