@@ -357,9 +357,9 @@ CASES = {
     "tiles of other sides": by_sides,
     "a side that is too small": lambda: is_no_side("255"),
     "a side that is no number": lambda: is_no_side("1e3"),
-    "a part with a side": lambda: is_part_alone(["--tile", "300"], "error: a part has the deck's tiles: --tile is for a check of all"),
+    "a part with a side": lambda: is_part_alone(["--tile", "300"], "error: a part is of columns, and has no tiles: --tile is for a check of all"),
     "a part without layers": lambda: is_part_alone(
-        ["--skip-layers", "5/0"], "error: a part is of the whole library: --skip-layers is for a check of all tiles"
+        ["--skip-layers", "5/0"], "error: a part is of the whole library: --skip-layers is for a check of all"
     ),
     "a structure that isn't named": is_only_top,
     "a structure that isn't named, with names in a text and a node": are_names_inside,
@@ -410,13 +410,13 @@ CASES = {
         ONE, ["--skip-unreached", "--skip-layers", "5/0"], 1, LISTING, lambda at: [LEFT_OUT, unreached(1, 0)]
     ),
     "a part of some structures": lambda: is_part_alone(
-        ["--skip-unreached"], "error: a part is of the whole library: --skip-unreached is for a check of all tiles"
+        ["--skip-unreached"], "error: a part is of the whole library: --skip-unreached is for a check of all"
     ),
     "one marker of each rule": lambda: is_limited("1", [*WIDE[:1], GAP], 3),
     "three markers of each rule": lambda: is_limited("3", [*WIDE[:3], GAP], 1),
     "a limit that leaves none out": lambda: is_limited("4", [*WIDE, GAP], 0),
     "a limit that is none": lambda: is_no_limit("0"),
-    "a part with a limit": lambda: is_part_alone(["--limit", "1"], "error: a part has all markers of its tiles: give --limit to 'mpw stitch'"),
+    "a part with a limit": lambda: is_part_alone(["--limit", "1"], "error: a part has all markers of its columns: give --limit to 'mpw stitch'"),
     "numbers by rule": lambda: is_summed([], [], 5),
     "numbers by rule, and a report of one marker of each": lambda: is_summed(["--limit", "1"], ["note: rule w: 3 of 4 markers left out"], 2),
     "numbers of rules without markers": lambda: is_summed_clean(b"space s 1/0 40\nwidth all 1/0 50\n", b"s 0\nall 0\nall 0\n"),
@@ -424,7 +424,7 @@ CASES = {
     "numbers beside the other choices": is_summed_with_picture,
     "numbers on a full device": is_unsummed,
     "numbers of a library with a fault": lambda: of_elements(ONE, ["--summary"], 4, b"", lambda at: [slanted(at + 16)]),
-    "a part with numbers": lambda: is_part_alone(["--summary"], "error: a part has all markers of its tiles: --summary is for a check of all"),
+    "a part with numbers": lambda: is_part_alone(["--summary"], "error: a part has all markers of its columns: --summary is for a check of all"),
     "one marker of each rule of parts": lambda: are_stitched("1", [*WIDE[:1], GAP], 3),
     "all markers of parts": lambda: are_stitched("4", [*WIDE, GAP], 0),
     "a fault in a structure that is placed once": lambda: is_reported(reference(10, 100, 200), "100,9200", "(0.1,9.2;0.19,9.29)"),

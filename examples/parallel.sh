@@ -1,5 +1,5 @@
 #!/usr/bin/env bash
-# Checks a layout of the examples by four shares of its tiles side by side, stitches their parts, and compares the markers with
+# Checks a layout of the examples by four shares of its columns side by side, stitches their parts, and compares the markers with
 # those of one check. It takes GNU parallel.
 #
 #   examples/parallel.sh [NAME]      NAME.gds under NAME.deck; pad-ring where none is given
