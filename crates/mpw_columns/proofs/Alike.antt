@@ -72,18 +72,7 @@ contents_tell l c window shelf (Ok (Some things)) w s f whole sound =
 
 -- ---- what is kept
 
-pub kept_longer : (l : Layout) (columns : List Column) (n : ℕ) (ks : List Kept)
-    → All (IsKept l columns n) ks → All (IsKept l columns (n + 1)) ks
-kept_longer l columns n ks h = λ i d lt.
-    let k = h i d lt in
-    let before = k.before in
-    record { before = omega (arith, before); contents = k.contents }
-
-pub kept_more : (l : Layout) (columns : List Column) (n : ℕ) (k : Kept) (old new : List Kept)
-    → All (IsKept l columns n) old → IsKept l columns (n + 1) k → MayAdd k old new
-    → All (IsKept l columns (n + 1)) new
-kept_more l columns n k old new h one (inl same) =
-    subst (All (IsKept l columns (n + 1))) (sym same) (kept_longer l columns n old h)
-kept_more l columns n k old new h one (inr more) =
-    subst (All (IsKept l columns (n + 1))) (sym more)
-    (All-push (IsKept l columns (n + 1)) old k (kept_longer l columns n old h) one)
+pub kept_more : (l : Layout) (k : Kept) (old new : List Kept) → All (IsKept l) old → IsKept l k
+    → MayAdd k old new → All (IsKept l) new
+kept_more l k old new h one (inl same) = subst (All (IsKept l)) (sym same) h
+kept_more l k old new h one (inr more) = subst (All (IsKept l)) (sym more) (All-push (IsKept l) old k h one)

@@ -25,3 +25,4 @@ pub mod Moved
 pub mod Alike
 pub mod Planned
 pub mod LayoutMade
+pub mod Blocked

@@ -225,7 +225,8 @@ fn every_list<P: Progress>(
 ///
 /// A column whose window shows what that of an earlier one of these does, displaced, as far as a short list of shapes and arrays tells it, has
 /// that one's keys, displaced: for each column a list of at most 4096 of them is made, which costs a look at the top's shapes and
-/// references at least, and at most 2^20 things are kept. The other columns are worked in batches of four for each processor, in at most two
+/// references at least, and at most 2^20 things are kept. Where an array shows half of the layout, columns side by side are asked as one before they
+/// are halved and asked again, so that of an array of arrays few lists are made; at the worst these are twice as many as columns. The other columns are worked in batches of four for each processor, in at most two
 /// threads for each; progress is told of them, before the first and after each batch. One walk a column gives the shapes whose boxes meet its window,
 /// and the rectangles of those on the rules' layers are listed; so what is held is the rectangles of as many columns as there are threads, and the keys.
 /// A column costs its walk, its rectangles, a sort of them by layer, a pass over them a halving, the bands and pairs of each part, and a sort of its keys; one

@@ -12,7 +12,7 @@ ghost use Rattle.mpw_columns.specs.Internal.Found.{IsUpright, IsStretch, IsWide,
 
 use crate::list::seen_box;
 use crate::part::window_of;
-use mpw_cuts::{Counts, Lattice, is_within_cell, line_between};
+use mpw_cuts::{Counts, Lattice, is_within_cell, line_between, shown_by_cells, width_of_cells};
 use mpw_edges::Axis;
 use mpw_geom::{Box2, Point};
 use mpw_keys::Column;
@@ -89,19 +89,50 @@ fn cut_of(lattices: &[Lattice], column: &Column) -> Point
     }
 }
 
-/// How many shapes a column so wide may show: within a cell of the finest array four times as many, since narrower columns would be like no
-/// other, and each instance would be looked at by itself.
-fn most_of(view: &View<'_>, width: u64) -> u64 {
-    let most = u64::from(view.most);
-    if is_within_cell(view.lattices, width) {
-        most.saturating_mul(4)
-    } else {
-        most
+/// How many shapes a column shows, and how many its two parts would.
+#[derive(Clone, Copy)]
+struct Load {
+    whole: u64,
+    parts: u64,
+}
+
+impl Load {
+    /// The load of a column that is cut at a point. Constant.
+    fn of(view: &View<'_>, column: &Column, at: Point) -> Load {
+        let margin = i64::from(view.distance) + 1;
+        let (from, to) = (
+            column.from.saturating_sub(margin),
+            column.to.saturating_add(margin),
+        );
+        let left = view.counts.shown(from, at.x.saturating_add(margin));
+        let right = view.counts.shown(at.x.saturating_sub(margin), to);
+        Load {
+            whole: view.counts.shown(from, to),
+            parts: left.saturating_add(right),
+        }
+    }
+
+    /// Whether there are more shapes than wanted, and those of the parts fewer together than one and a half times as many: of wires that go on over all
+    /// columns halves would show as many again.
+    fn is_above(self, most: u64) -> bool {
+        self.whole > most && self.parts < self.whole.saturating_add(self.whole / 2)
     }
 }
 
-/// Whether the column shows more shapes than wanted, and its halves fewer together than one and a half times as many: of wires that go
-/// on over all columns halves would show as many again. None is narrower than four of the margins of its window.
+/// Whether a column is cut between two cells of an array: where it is wider than columns of an eighth of the shapes that one may show, since of columns that
+/// show the same one alone is checked; and where not nearly all that it shows is other than the array's. The width decides, since it is that of
+/// columns elsewhere that show the same; counts are a guess, and differ.
+fn is_cut_at_line(view: &View<'_>, width: u64, load: Load) -> bool {
+    let most = u64::from(view.most) / 8;
+    if width <= width_of_cells(view.lattices, most) || load.whole <= most / 2 {
+        return false;
+    }
+    let of_arrays = shown_by_cells(view.lattices, width);
+    of_arrays >= load.whole / 4 || load.is_above(most)
+}
+
+/// Whether a column is better halved. None is that is narrower than four of the margins of its window. Within a cell of the finest array it may show four times
+/// as many shapes as elsewhere, since narrower columns would be like no other, and each instance would be looked at by itself.
 fn is_crowded(view: &View<'_>, column: &Column) -> bool
     requires { IsStretch column.now }
 {
@@ -109,13 +140,15 @@ fn is_crowded(view: &View<'_>, column: &Column) -> bool
     if width <= u64::from(view.distance).saturating_add(1).saturating_mul(4) {
         return false;
     }
-    let margin = i64::from(view.distance) + 1;
-    let at = cut_of(view.lattices, column);
-    let (from, to) = (column.from - margin, column.to + margin);
-    let shown = view.counts.shown(from, to);
-    let left = view.counts.shown(from, at.x + margin);
-    let right = view.counts.shown(at.x - margin, to);
-    shown > most_of(view, width) && left.saturating_add(right) < shown.saturating_add(shown / 2)
+    let load = Load::of(view, column, cut_of(view.lattices, column));
+    let most = u64::from(view.most);
+    if is_within_cell(view.lattices, width) {
+        load.is_above(most.saturating_mul(4))
+    } else if line_between(view.lattices, column.from, column.to).is_some() {
+        is_cut_at_line(view, width, load)
+    } else {
+        load.is_above(most)
+    }
 }
 
 /// The column left of where it is cut, and the one right of it; none where it has one place alone.

@@ -1,19 +1,20 @@
 //! For each column an earlier one that it is like.
 //!
-//! Contents of columns that are like no earlier one are kept by their codes, as far as there is room, and a column is compared with the latest of
+//! Contents of blocks that are like no earlier one are kept by their codes, as far as there is room, and a block is compared with the latest of
 //! its code alone.
 
-ghost use Rattle.std.specs.Prelude.{◌≡◌, ◌<◌, ◌+◌, ◌∷◌, [], length, get_or, All, IfOk, OnOk};
+ghost use Rattle.std.specs.Prelude.{◌≡◌, ◌<◌, ◌≤◌, ◌+◌, ◌^◌, ◌∷◌, ◌++◌, [], length, All, IfOk, IfSome, OnOk};
 ghost use Rattle.mpw_walk.specs.Roots.{root_at_origin};
-ghost use Rattle.mpw_keys.specs.declared.column.Column.{Column as ColumnValue};
-ghost use Rattle.mpw_keys.specs.Columns.{seen_box, upright};
+ghost use Rattle.mpw_columns.specs.Internal.Blocks.{IsUprightIn, AreUprightIn};
 ghost use Rattle.mpw_columns.specs.Internal.Checked.{IsLayout};
-ghost use Rattle.mpw_columns.specs.Internal.Found.{IsUpright};
-ghost use Rattle.mpw_columns.specs.Internal.Like.{AreLikes, AreContentsOf, IsLikeAt, IsKept, MayAdd};
+ghost use Rattle.mpw_columns.specs.Internal.Like.{places_from, AreLikes, AreContentsOf, AreAlike, IsKept, IsTold, MayAdd};
 
+use crate::block::{Block, Columns};
 use crate::check::Layout;
-use crate::equal::{contents_of, is_first_alone, is_like};
+use crate::equal::{contents_of, is_first_alone};
 use mpw_contents::{Contents, code};
+use mpw_cuts::lattices_of;
+use mpw_edges::Axis;
 use mpw_keys::Column;
 use std::alloc::{AllocError, Global};
 use std::collections::BTreeMap;
@@ -24,100 +25,172 @@ const MOST_KEPT: usize = 1 << 20;
 /// The most columns times the shapes and references of all structures, each once: where there are more, no contents are made.
 const MOST_LOOKED_AT: u64 = 1 << 26;
 
-/// A column's place, and its contents.
+/// How often blocks are cut in two.
+const MAX_DEPTH: u32 = 64;
+
+/// A block, and its contents.
 #[derive(Drop)]
 pub(crate) struct Kept {
-    place: usize,
+    block: Block,
     contents: Contents,
 }
 
-/// Contents of earlier columns, where the latest of each code stands among them, and how many things there are in all.
+/// What the first columns are like; contents of blocks of them, where the latest of each code stands among these, and how many things there are in
+/// all.
 #[derive(Drop)]
-struct Earlier {
+pub(crate) struct Earlier {
+    likes: Vec<Option<usize>>,
     kept: Vec<Kept>,
     latest: BTreeMap<u64, usize>,
     things: usize,
 }
 
+/// A number of a block and its contents: a displaced one with the same contents, displaced, has the same.
+fn mark(block: &Block, contents: &Contents) -> u64 {
+    let width = block.whole.from.abs_diff(block.whole.to);
+    code(contents).wrapping_add(width.wrapping_mul(0x9E37_79B9_7F4A_7C15))
+}
+
 impl Earlier {
     /// None so far.
     fn new(alloc: Global) -> Earlier
-        ensures { result.kept.items ≡ [] }
+        ensures likes { result.likes.items ≡ [] }
+        ensures kept { result.kept.items ≡ [] }
     {
         Earlier {
+            likes: Vec::new(alloc),
             kept: Vec::new(alloc),
             latest: BTreeMap::new(alloc),
             things: 0,
         }
     }
 
-    /// The place of the latest column whose contents have the code of these, if the column at this place, whose contents these are, is like
-    /// it.
-    fn like(
-        &self,
-        layout: &Layout<'_>,
-        columns: &[Column],
-        place: usize,
-        contents: &Contents,
-    ) -> Option<usize>
-        requires upright { All (λ c. IsUpright (upright (seen_box c.axis layout.now.extent) c)) columns.now }
-        requires within { place < length columns.now }
-        requires kept { All (IsKept layout.now columns.now place) self.now.kept.items }
-        requires contents { (c : ColumnValue) → AreContentsOf layout.now (get_or columns.now place c) contents.now }
-        ensures { IsLikeAt layout.now columns.now place result }
+    /// The place of the latest block whose contents have the code of these, if the block with these contents is like it.
+    fn like(&self, all: &Columns<'_>, block: &Block, contents: &Contents) -> Option<usize>
+        requires upright { AreUprightIn all.now.layout.now all.now.list.now }
+        requires kept { All (IsKept all.now.layout.now) self.now.kept.items }
+        requires block { IsUprightIn all.now.layout.now block.now.whole }
+        requires within { block.now.place + block.now.count ≤ length all.now.list.now }
+        requires contents { AreContentsOf all.now.layout.now block.now.whole contents.now }
+        ensures { IfSome result (λ earlier. AreAlike all.now.layout.now all.now.list.now earlier block.now.place block.now.count) }
     {
-        let at = *self.latest.get(&code(contents))?;
+        let at = *self.latest.get(&mark(block, contents))?;
         if at >= self.kept.len() {
             return None;
         }
         let kept = &self.kept[at];
-        let earlier = &columns[kept.place];
-        if is_like(layout, earlier, &kept.contents, &columns[place], contents) {
-            Some(kept.place)
+        if all.are_like(&kept.block, &kept.contents, block, contents) {
+            Some(kept.block.place)
         } else {
             None
         }
     }
 
-    /// Keeps the contents of the column at a place, where there is room. An error is want of memory.
-    fn keep(&mut self, place: usize, contents: Contents) -> Result<(), AllocError>
-        ensures { OnOk result (MayAdd (record { place = place; contents = contents }) self.old.kept.items self.new.kept.items) }
+    /// Keeps the contents of a block, where there is room. An error is want of memory.
+    fn keep(&mut self, block: &Block, contents: Contents) -> Result<(), AllocError>
+        ensures kept { OnOk result (MayAdd (record { block = block.now; contents = contents }) self.old.kept.items self.new.kept.items) }
+        ensures likes { OnOk result (self.new.likes.items ≡ self.old.likes.items) }
     {
         let things = self.things.saturating_add(contents.things().len());
         if things > MOST_KEPT {
             return Ok(());
         }
         self.things = things;
-        self.latest.insert(code(&contents), self.kept.len())?;
-        self.kept.push(Kept { place, contents })?;
+        self.latest.insert(mark(block, &contents), self.kept.len())?;
+        self.kept.push(Kept {
+            block: *block,
+            contents,
+        })?;
         Ok(())
     }
 
-    /// The place of an earlier column that the column at this place is like; where there is none, its contents are kept. An error is want of
+    /// The place of an earlier block that the next so many columns are like; where there is none, their contents are kept. An error is want of
     /// memory.
-    fn next(
+    fn look(
         &mut self,
         alloc: Global,
-        layout: &Layout<'_>,
-        columns: &[Column],
-        place: usize,
+        all: &Columns<'_>,
+        count: usize,
     ) -> Result<Option<usize>, AllocError>
-        requires layout { IsLayout layout.now }
-        requires upright { All (λ c. IsUpright (upright (seen_box c.axis layout.now.extent) c)) columns.now }
-        requires alone { layout.now.snapshot.now.roots ≡ root_at_origin 0 ∷ [] }
-        requires within { place < length columns.now }
-        requires kept { All (IsKept layout.now columns.now place) self.now.kept.items }
-        ensures like { IfOk result (IsLikeAt layout.now columns.now place) }
-        ensures kept { OnOk result (All (IsKept layout.now columns.now (place + 1)) self.new.kept.items) }
+        requires layout { IsLayout all.now.layout.now }
+        requires upright { AreUprightIn all.now.layout.now all.now.list.now }
+        requires alone { all.now.layout.now.snapshot.now.roots ≡ root_at_origin 0 ∷ [] }
+        requires some { 0 < count }
+        requires within { length self.now.likes.items + count ≤ length all.now.list.now }
+        requires kept { All (IsKept all.now.layout.now) self.now.kept.items }
+        ensures like { IfOk result (λ o. IfSome o (λ earlier. AreAlike all.now.layout.now all.now.list.now earlier (length self.old.likes.items) count)) }
+        ensures kept { OnOk result (All (IsKept all.now.layout.now) self.new.kept.items) }
+        ensures likes { OnOk result (self.new.likes.items ≡ self.old.likes.items) }
     {
-        let Some(contents) = contents_of(alloc, layout, &columns[place])? else {
+        let Some(block) = all.block(self.likes.len(), count) else {
             return Ok(None);
         };
-        match self.like(layout, columns, place, &contents) {
+        let Some(contents) = contents_of(alloc, all.layout, &block.whole)? else {
+            return Ok(None);
+        };
+        match self.like(all, &block, &contents) {
             Some(earlier) => Ok(Some(earlier)),
             None => {
-                self.keep(place, contents)?;
+                self.keep(&block, contents)?;
                 Ok(None)
+            }
+        }
+    }
+
+    /// Tells the next so many columns one by one. An error is want of memory.
+    fn add_each(&mut self, alloc: Global, all: &Columns<'_>, count: usize) -> Result<(), AllocError>
+        requires layout { IsLayout all.now.layout.now }
+        requires upright { AreUprightIn all.now.layout.now all.now.list.now }
+        requires alone { all.now.layout.now.snapshot.now.roots ≡ root_at_origin 0 ∷ [] }
+        requires within { length self.now.likes.items + count ≤ length all.now.list.now }
+        requires told { IsTold all.now.layout.now all.now.list.now (length self.now.likes.items) self.now }
+        ensures { OnOk result (IsTold all.now.layout.now all.now.list.now (length self.old.likes.items + count) self.new) }
+    {
+        for _ in 0..count {
+            let like = self.look(alloc, all, 1)?;
+            self.likes.push(like)?;
+        }
+        Ok(())
+    }
+
+    /// Tells the next so many columns to be like those from a place on. An error is want of memory.
+    fn add_like(&mut self, earlier: usize, count: usize) -> Result<(), AllocError>
+        requires { earlier + count < 2 ^ 64 }
+        ensures likes { OnOk result (self.new.likes.items ≡ self.old.likes.items ++ places_from earlier count) }
+        ensures kept { OnOk result (self.new.kept.items ≡ self.old.kept.items) }
+    {
+        for k in 0..count {
+            self.likes.push(Some(earlier + k))?;
+        }
+        Ok(())
+    }
+
+    /// Tells the next so many columns: all at once, where they are like earlier ones, or else in two parts, which are cut so often at most. An
+    /// error is want of memory.
+    fn add(
+        &mut self,
+        alloc: Global,
+        all: &Columns<'_>,
+        count: usize,
+        depth: u32,
+    ) -> Result<(), AllocError>
+        requires layout { IsLayout all.now.layout.now }
+        requires upright { AreUprightIn all.now.layout.now all.now.list.now }
+        requires alone { all.now.layout.now.snapshot.now.roots ≡ root_at_origin 0 ∷ [] }
+        requires within { length self.now.likes.items + count ≤ length all.now.list.now }
+        requires told { IsTold all.now.layout.now all.now.list.now (length self.now.likes.items) self.now }
+        ensures { OnOk result (IsTold all.now.layout.now all.now.list.now (length self.old.likes.items + count) self.new) }
+    {
+        let place = self.likes.len();
+        if count < 2 || depth == 0 || !all.may_repeat(place, count) {
+            return self.add_each(alloc, all, count);
+        }
+        match self.look(alloc, all, count)? {
+            Some(earlier) => self.add_like(earlier, count),
+            None => {
+                let part = all.part(place, count);
+                self.add(alloc, all, part, depth - 1)?;
+                self.add(alloc, all, count - part, depth - 1)
             }
         }
     }
@@ -145,17 +218,21 @@ fn likes_of(
     columns: &[Column],
 ) -> Result<Vec<Option<usize>>, AllocError>
     requires layout { IsLayout layout.now }
-    requires upright { All (λ c. IsUpright (upright (seen_box c.axis layout.now.extent) c)) columns.now }
+    requires upright { AreUprightIn layout.now columns.now }
     requires alone { layout.now.snapshot.now.roots ≡ root_at_origin 0 ∷ [] }
     ensures { IfOk result (λ v. AreLikes layout.now columns.now v.items) }
 {
-    let mut likes = Vec::with_capacity(alloc, columns.len())?;
+    let vertical = lattices_of(alloc, layout.snapshot, Axis::V)?;
+    let horizontal = lattices_of(alloc, layout.snapshot, Axis::H)?;
+    let all = Columns {
+        layout,
+        list: columns,
+        vertical: vertical.as_slice(),
+        horizontal: horizontal.as_slice(),
+    };
     let mut earlier = Earlier::new(alloc);
-    for place in 0..columns.len() {
-        let like = earlier.next(alloc, layout, columns, place)?;
-        likes.push(like)?;
-    }
-    Ok(likes)
+    earlier.add(alloc, &all, columns.len(), MAX_DEPTH)?;
+    Ok(earlier.likes)
 }
 
 /// Whether contents of so many columns are made: of structures with many shapes of their own they would cost more than they save.
@@ -179,7 +256,7 @@ pub(crate) fn equal_to_earlier(
     columns: &[Column],
 ) -> Result<Vec<Option<usize>>, AllocError>
     requires layout { IsLayout layout.now }
-    requires upright { All (λ c. IsUpright (upright (seen_box c.axis layout.now.extent) c)) columns.now }
+    requires upright { AreUprightIn layout.now columns.now }
     ensures { IfOk result (λ v. AreLikes layout.now columns.now v.items) }
 {
     if are_few(layout, columns.len()) && is_first_alone(layout.snapshot) {

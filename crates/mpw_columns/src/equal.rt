@@ -79,20 +79,20 @@ fn is_same_point(p: Point, q: Point) -> bool
     p == q
 }
 
-fn is_same_axis(a: Axis, b: Axis) -> bool
+pub(crate) fn is_same_axis(a: Axis, b: Axis) -> bool
     ensures { IsTrue result ↔ (a ≡ b) }
 {
     a == b
 }
 
-fn is_same(a: i64, b: i64) -> bool
+pub(crate) fn is_same(a: i64, b: i64) -> bool
     ensures { IsTrue result ↔ (a ≡ b) }
 {
     a == b
 }
 
 /// Whether a column is another one, displaced: of its axis, and as wide.
-fn is_displaced(layout: &Layout<'_>, earlier: &Column, column: &Column) -> bool
+pub(crate) fn is_displaced(layout: &Layout<'_>, earlier: &Column, column: &Column) -> bool
     requires earlier { IsUpright (upright (seen_box earlier.now.axis layout.now.extent) earlier.now) }
     requires column { IsUpright (upright (seen_box column.now.axis layout.now.extent) column.now) }
     ensures { IsTrue result → IsDisplaced (column.now.from -ℤ earlier.now.from) earlier.now column.now }
@@ -104,13 +104,22 @@ fn is_displaced(layout: &Layout<'_>, earlier: &Column, column: &Column) -> bool
     is_same(column.to, as_displaced)
 }
 
+/// How far it is from where a column begins to where another one does.
+pub(crate) fn distance(layout: &Layout<'_>, earlier: &Column, column: &Column) -> i64
+    requires earlier { IsUpright (upright (seen_box earlier.now.axis layout.now.extent) earlier.now) }
+    requires column { IsUpright (upright (seen_box column.now.axis layout.now.extent) column.now) }
+    ensures { result ≡ (column.now.from -ℤ earlier.now.from) }
+{
+    column.from - earlier.from
+}
+
 /// The way from a column to another one of its axis.
 fn way(layout: &Layout<'_>, earlier: &Column, column: &Column) -> Point
     requires earlier { IsUpright (upright (seen_box earlier.now.axis layout.now.extent) earlier.now) }
     requires column { IsUpright (upright (seen_box column.now.axis layout.now.extent) column.now) }
     ensures { result ≡ across_edges earlier.now.axis (column.now.from -ℤ earlier.now.from) }
 {
-    let by = column.from - earlier.from;
+    let by = distance(layout, earlier, column);
     match earlier.axis {
         Axis::V => Point { x: by, y: 0 },
         Axis::H => Point { x: 0, y: by },

@@ -8,12 +8,14 @@
 //! of all, put together ([`mpw_keys::together`]), are the flat layout's book ([`lists_make_the_layout`]): a list goes on where the column before
 //! ends ([`columns_follow_on`]), so nothing is sorted as a whole. [`check_columns`] is these three, one after another.
 //!
-//! Columns of a regular layout show the same, displaced: these are found once (`earlier`, `equal`), and their lists displaced (`like`).
+//! Columns of a regular layout show the same, displaced: these are found once (`earlier`, `equal`), and their lists displaced (`like`). Where arrays
+//! repeat, columns side by side are first taken as one (`block`): so those of an instance of an array are told at once to be like those of another.
 //!
 //! Within a column its halves are columns again (`divide`), down to leaves with few rectangles side by side, whose bands serve all
 //! rules (`leaf`). For horizontal edges all is seen with the coordinates exchanged, from where shapes are listed on (`list`).
 #![tactic(auto)]
 
+mod block;
 mod check;
 mod columns;
 mod displaced;

@@ -14,12 +14,12 @@ use mpw_tiles::Snapshot;
 use std::alloc::{AllocError, Global};
 
 /// How many bins there are.
-const BINS: u64 = 4096;
+const BINS: u64 = 1 << 14;
 
 /// The most levels that are gone down.
 const MOST_LEVELS: u32 = 64;
 
-/// Where the bins begin, how wide they are together, and how many shapes begin and end in each.
+/// Where the bins begin, how wide they are together, and how many shapes begin and end in each; at last, in all up to each.
 #[derive(Drop)]
 pub struct Counts {
     low: i64,
@@ -35,13 +35,21 @@ struct Tree<'a> {
     nodes: &'a [Node],
 }
 
-/// The sum of the first of the numbers.
-fn sum_of(numbers: &[u64], count: usize) -> u64 {
+/// Adds to each of the numbers all those before it.
+fn add_up(numbers: &mut Vec<u64>) {
     let mut sum = 0u64;
-    for k in 0..count.min(numbers.len()) {
+    for k in 0..numbers.len() {
         sum = sum.saturating_add(numbers[k]);
+        numbers[k] = sum;
     }
-    sum
+}
+
+/// The sum of the first of numbers that were added up.
+fn sum_of(sums: &[u64], count: usize) -> u64 {
+    match count.min(sums.len()).checked_sub(1) {
+        Some(last) => sums.get(last).copied().unwrap_or(0),
+        None => 0,
+    }
 }
 
 /// Counts so many more in a bin, where there is that bin.
@@ -150,10 +158,12 @@ impl Counts {
             ended: vec![in alloc; 0; BINS as usize]?,
         };
         counts.add_top(snapshot, axis);
+        add_up(&mut counts.begun);
+        add_up(&mut counts.ended);
         Ok(counts)
     }
 
-    /// About how many shapes meet the places from the first to before the second.
+    /// About how many shapes meet the places from the first to before the second. Constant.
     pub fn shown(&self, from: i64, to: i64) -> u64 {
         let begun = sum_of(&self.begun, self.bin_of(to).saturating_add(1));
         let ended = sum_of(&self.ended, self.bin_of(from));

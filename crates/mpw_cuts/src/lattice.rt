@@ -6,7 +6,7 @@
 use mpw_edges::Axis;
 use mpw_geom::{Orient, Point};
 use mpw_hier::{Node, Target};
-use mpw_structures::{Element, Reference};
+use mpw_structures::{Element, Reference, Structure};
 use mpw_tiles::Snapshot;
 use std::alloc::{AllocError, Global};
 
@@ -20,6 +20,10 @@ pub struct Lattice {
     from: i64,
     /// From one line to the next, in nm.
     pitch: u32,
+    /// How far an instance reaches along the axis, in nm.
+    reach: u64,
+    /// About how many shapes the instances of its array show between two lines.
+    shown: u64,
 }
 
 /// The coordinate along the axis across whose edges columns are cut.
@@ -95,6 +99,69 @@ fn most_of<'a>(nodes: &[Node], elements: &'a [Element], node: &Node) -> Option<M
     most
 }
 
+/// Of a node's children the one that shows most, where that is half of what the node shows at least.
+fn array_of<'a>(structures: &'a [Structure], nodes: &[Node], place: usize) -> Option<Most<'a>> {
+    let node = nodes.get(place)?;
+    let elements = structures.get(node.structure)?.elements.as_slice();
+    most_of(nodes, elements, node).filter(|most| most.shown >= node.size.count / 2)
+}
+
+/// How far the shapes of a node reach along an axis.
+fn reach_of(axis: Axis, nodes: &[Node], place: usize) -> u64 {
+    let Some(extent) = nodes.get(place).and_then(|node| node.size.extent) else {
+        return 0;
+    };
+    let low = along(
+        axis,
+        Point {
+            x: extent.x0,
+            y: extent.y0,
+        },
+    );
+    let high = along(
+        axis,
+        Point {
+            x: extent.x1,
+            y: extent.y1,
+        },
+    );
+    low.abs_diff(high)
+}
+
+/// The way down to an array: where it begins, from the last line before, how many instances it has in all, and at how many places along the axis.
+#[derive(Clone, Copy)]
+struct Way {
+    from: i64,
+    instances: u64,
+    places: u64,
+}
+
+impl Way {
+    /// The way to the array of a reference.
+    fn go(&mut self, axis: Axis, reference: &Reference) {
+        let (columns, rows) = (u64::from(reference.columns), u64::from(reference.rows));
+        self.from = self.from.wrapping_add(along(axis, reference.origin));
+        self.instances = self.instances.saturating_mul(columns).saturating_mul(rows);
+        if along(axis, reference.column_step) != 0 {
+            self.places = self.places.saturating_mul(columns);
+        }
+        if along(axis, reference.row_step) != 0 {
+            self.places = self.places.saturating_mul(rows);
+        }
+    }
+
+    /// The lattice of the array that was come to, whose instances are so far from one another.
+    fn lattice(&self, axis: Axis, pitch: u32, nodes: &[Node], place: usize) -> Lattice {
+        let count = nodes.get(place).map_or(0, |node| node.size.count);
+        Lattice {
+            from: self.from,
+            pitch,
+            reach: reach_of(axis, nodes, place),
+            shown: self.instances.saturating_mul(count) / self.places.max(1),
+        }
+    }
+}
+
 /// The lattices of the arrays that show most along an axis, of the first submission's top and of what that places. One pass over the children of
 /// a node for each level.
 ///
@@ -112,35 +179,49 @@ pub fn lattices_of(
     };
     let structures = submission.library.structures();
     let mut place = nodes.len().saturating_sub(1);
-    let mut from = 0i64;
+    let mut way = Way {
+        from: 0,
+        instances: 1,
+        places: 1,
+    };
     for _ in 0..MOST_LEVELS {
-        let Some(node) = nodes.get(place) else {
+        let Some(most) = array_of(structures, nodes, place) else {
             return Ok(lattices);
         };
-        let Some(structure) = structures.get(node.structure) else {
-            return Ok(lattices);
-        };
-        let Some(most) = most_of(nodes, structure.elements.as_slice(), node) else {
-            return Ok(lattices);
-        };
-        if most.shown < node.size.count / 2 {
-            return Ok(lattices);
-        }
-        from = from.wrapping_add(along(axis, most.reference.origin));
-        if let Some(pitch) = pitch_of(axis, most.reference) {
-            lattices.push(Lattice { from, pitch })?;
-            from = 0;
-        }
+        way.go(axis, most.reference);
         place = most.place;
+        if let Some(pitch) = pitch_of(axis, most.reference) {
+            lattices.push(way.lattice(axis, pitch, nodes, place))?;
+            way.from = 0;
+        }
     }
     Ok(lattices)
 }
 
-/// Whether places so far apart lie within a cell of the finest lattice.
+/// Whether places so far apart lie within an instance of the finest lattice, or between two of its lines.
 pub fn is_within_cell(lattices: &[Lattice], width: u64) -> bool {
     match lattices.last() {
-        Some(finest) => width <= u64::from(finest.pitch),
+        Some(finest) => width <= finest.reach.max(u64::from(finest.pitch)),
         None => false,
+    }
+}
+
+/// How wide a column of an array is that shows about so many shapes: a number of cells of the finest lattice, one at least.
+pub fn width_of_cells(lattices: &[Lattice], most: u64) -> u64 {
+    match lattices.last() {
+        Some(finest) => {
+            let cells = most.checked_div(finest.shown).unwrap_or(most).max(1);
+            cells.saturating_mul(u64::from(finest.pitch))
+        }
+        None => 0,
+    }
+}
+
+/// About how many shapes of the arrays of the finest lattice a column shows that is so wide and lies among them.
+pub fn shown_by_cells(lattices: &[Lattice], width: u64) -> u64 {
+    match lattices.last() {
+        Some(finest) => (width / u64::from(finest.pitch.max(1))).saturating_mul(finest.shown),
+        None => 0,
     }
 }
 

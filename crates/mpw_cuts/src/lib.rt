@@ -9,4 +9,6 @@ mod lattice;
 mod line;
 
 pub use counts::Counts;
-pub use lattice::{Lattice, is_within_cell, lattices_of, line_between};
+pub use lattice::{
+    Lattice, is_within_cell, lattices_of, line_between, shown_by_cells, width_of_cells,
+};

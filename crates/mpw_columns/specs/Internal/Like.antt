@@ -1,5 +1,5 @@
 -- Columns that are like earlier ones.
-use Rattle.std.specs.Prelude.{◌≡◌, ◌<◌, ◌+◌, ◌-ℤ◌, ℕ, List, [], ◌∷◌, ◌++◌, length, get_or, Option, Some, None, ◌⊎◌}
+use Rattle.std.specs.Prelude.{◌≡◌, ◌<◌, ◌≤◌, ◌+◌, ◌-ℤ◌, ℕ, zero, suc, List, [], ◌∷◌, ◌++◌, length, get_or, All, Option, Some, None, ◌⊎◌}
 use Rattle.mpw_geom.specs.declared.plane.Box2.{Box2}
 use Rattle.mpw_contents.specs.declared.thing.Thing.{Thing}
 use Rattle.mpw_contents.specs.Contents.{AreWhole, AreSound}
@@ -9,7 +9,9 @@ use Rattle.mpw_keys.specs.declared.column.Column.{Column}
 use Rattle.mpw_keys.specs.Columns.{seen_box, upright, across}
 use Rattle.mpw_columns.specs.declared.check.Layout.{Layout}
 use Rattle.mpw_columns.specs.declared.earlier.Kept.{Kept}
+use Rattle.mpw_columns.specs.declared.earlier.Earlier.{Earlier}
 use Rattle.mpw_columns.specs.Displaced.{IsDisplaced, ShowsDisplaced}
+use Rattle.mpw_columns.specs.Internal.Blocks.{IsUprightIn}
 
 -- The column is the earlier one, displaced, and their windows show the same, displaced.
 pub record IsLike (l : Layout) (earlier column : Column) : Type 0 where
@@ -23,6 +25,12 @@ pub record AreLikes (l : Layout) (columns : List Column) (likes : List (Option �
       → get_or likes place o ≡ Some earlier → earlier < place
   pub alike : (place earlier : ℕ) (o : Option ℕ) (c : Column) → place < length columns
       → get_or likes place o ≡ Some earlier → IsLike l (get_or columns earlier c) (get_or columns place c)
+
+-- So many columns from a place on stand behind as many from an earlier place on, and each is like that one of these.
+pub record AreAlike (l : Layout) (columns : List Column) (from place count : ℕ) : Type 0 where
+  pub before : from + count ≤ place
+  pub each : (k : ℕ) (c : Column) → k < count
+      → IsLike l (get_or columns (from + k) c) (get_or columns (place + k) c)
 
 -- The columns that are like no earlier one.
 abbrev pub own_columns : List Column → List (Option ℕ) → List Column
@@ -54,11 +62,21 @@ pub record AreFirstLikes (l : Layout) (columns : List Column) (n : ℕ) (likes :
   pub long : length likes ≡ n
   pub each : (place : ℕ) (o : Option ℕ) → place < n → IsLikeAt l columns place (get_or likes place o)
 
--- Contents of a column before the place.
-pub record IsKept (l : Layout) (columns : List Column) (place : ℕ) (k : Kept) : Type 0 where
-  pub before : k.place < place
-  pub contents : (c : Column) → AreContentsOf l (get_or columns k.place c) k.contents
+-- Contents of a block that are kept: they are those of the column of all its places.
+pub record IsKept (l : Layout) (k : Kept) : Type 0 where
+  pub upright : IsUprightIn l k.block.whole
+  pub contents : AreContentsOf l k.block.whole k.contents
 
 -- A list stays, or has that behind its last.
 abbrev pub MayAdd : Kept → (old new : List Kept) → Type 0
 MayAdd k old new = (new ≡ old) ⊎ (new ≡ old ++ k ∷ [])
+
+-- What is told of the first n columns, and what is kept.
+pub record IsTold (l : Layout) (columns : List Column) (n : ℕ) (e : Earlier) : Type 0 where
+  pub told : AreFirstLikes l columns n e.likes.items
+  pub kept : All (IsKept l) e.kept.items
+
+-- So many places behind one another, each as what is told of a column.
+abbrev pub places_from : ℕ → (count : ℕ) → List (Option ℕ)
+places_from earlier zero = []
+places_from earlier (suc count) = places_from earlier count ++ Some (earlier + count) ∷ []

@@ -2,13 +2,19 @@ use Rattle.std.proofs.Common.{sym, subst, arith}
 use Rattle.mpw_columns.specs.Internal.Like.{IsKept}
 use Rattle.mpw_columns.proofs.earlier.Earlier.like.Goals as goal
 
-pub is_like-requires-clause-first : goal.is_like-requires-clause-first
-is_like-requires-clause-first c =
+pub are_like-requires-clause-earlier : goal.are_like-requires-clause-earlier
+are_like-requires-clause-earlier c =
     let within = c.if-at-len.false in
     let long = c.len.ensures in
-    let kept = subst (IsKept c.args.layout.now c.args.columns.now c.args.place) (sym c.index-kept.ensures)
-    (c.requires.kept _ _ (omega arith)) in
-    kept.contents _
+    (subst (IsKept c.args.all.now.layout.now) (sym c.index-kept.ensures)
+    (c.requires.kept _ _ (omega (arith, within, long)))).upright
 
-pub is_like-requires-clause-second : goal.is_like-requires-clause-second
-is_like-requires-clause-second c = c.requires.contents _
+pub are_like-requires-clause-first : goal.are_like-requires-clause-first
+are_like-requires-clause-first c =
+    let within = c.if-at-len.false in
+    let long = c.len.ensures in
+    (subst (IsKept c.args.all.now.layout.now) (sym c.index-kept.ensures)
+    (c.requires.kept _ _ (omega (arith, within, long)))).contents
+
+pub returns-then-are_like : goal.returns-then-are_like
+returns-then-are_like c = c.are_like.ensures c.if-are_like.true

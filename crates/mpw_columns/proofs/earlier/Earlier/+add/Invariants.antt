@@ -1,0 +1,4 @@
+use Rattle.mpw_columns.proofs.earlier.Earlier.+add.Given as goal
+
+abbrev pub decreases-add : goal.decreases-add
+decreases-add l = l.depth
