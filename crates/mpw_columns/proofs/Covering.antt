@@ -112,13 +112,6 @@ moved a b low x y cs e f h =
 
 -- ---- how many columns there are
 
--- one more behind others
-pub one_behind : (depth before now : ℕ) → now ≡ before + 1 → AreFew depth before now
-one_behind depth before now e = record {
-  early = λ less. omega (arith, less, e);
-  late = λ more. omega (arith, e);
-}
-
 -- those of the left half, and behind them those of the right one, where not too many stand before them
 pub few_behind : (depth before mid now : ℕ) → 0 < depth → before < 2 ^ 20
     → AreFew (depth - 1) before mid → AreFew (depth - 1) mid now → AreFew depth before now
