@@ -1,9 +1,9 @@
 #!/usr/bin/env python3
 """Times `mpw check` on layouts of the size of a chip, beside KLayout.
 
-  bench/chips.py [PROGRAM] [KIND N]..     the layouts of the table where none is named
+  bench/chips.py [PROGRAM] [--limit SECONDS] [KIND N]..     the layouts of the table where none is named
 
-PROGRAM is crates/mpw_firm/out/mpw_firm where none is given. The kinds are:
+PROGRAM is crates/mpw_firm/out/mpw_firm where none is given, and SECONDS, after which a mode of KLayout is stopped, 600. The kinds are:
 
   wires N      N boxes on layer 1 and half as many on layer 2, anywhere
   nested2 N    N cells of four shapes in arrays of arrays, two levels of them, each level with a box that is too narrow; N is a power of four
@@ -15,7 +15,7 @@ PROGRAM is crates/mpw_firm/out/mpw_firm where none is given. The kinds are:
   chip N       N standard cells of twelve kinds in abutting rows, every second row mirrored, arrays as macros, wires over them; one kind has a wire that is too narrow
   mixed N      N cells in all eight orientations, one at a time, with polygons and paths
 
-Each layout is checked with four rules by ours on one thread and on all, and by KLayout flat, tiled and deep, each until ten minutes. Ours
+Each layout is checked with four rules by ours on one thread and on all, and by KLayout flat, tiled and deep. Ours
 reads, checks and lists; the time is the whole process's. KLayout's is that of its checks, without reading. Its `width` is shielded, its
 other checks aren't, as ours. Counts are width, space, separation, enclosing; those of KLayout's tiled mode count a pair twice that lies across a
 seam.
@@ -228,13 +228,13 @@ def ours(program, path, deck, folder, processors):
     return int(summary[1]), [int(it) for it in summary.groups()[2:]], found[2], found[3], found[4]
 
 
-def theirs(path, mode, threads):
-    """The counts, the seconds and the megabytes of one of KLayout's modes, or that it took too long."""
+def theirs(path, mode, threads, limit):
+    """The counts, the seconds and the megabytes of one of KLayout's modes, or that it took longer than the limit."""
     words = [f'library={path}', f'mode={mode}', f'side={SIDE}', f'threads={threads}', 'shielded=no', 'listed=yes']
     script = os.path.join(HERE, 'klayout_runs.py')
-    found = timed(['klayout', '-b', '-r', script, *(it for word in words for it in ('-rd', word))])
+    found = timed(['klayout', '-b', '-r', script, *(it for word in words for it in ('-rd', word))], limit)
     if not found or found[0]:
-        return f'more than {MOST_SECONDS} s' if not found else f'ended with {found[0]}'
+        return f'more than {limit} s' if not found else f'ended with {found[0]}'
     counts = re.search(r'^([\d ]+) pairs$', found[1], re.M).group(1)
     seconds = float(re.search(r'^([\d.]+) s$', found[1], re.M).group(1))
     return [int(count) for count in counts.split()], seconds, found[4]
@@ -247,7 +247,7 @@ def cell(found, counts, least):
     return f'{found[1]:.2f} s ({found[1] / least:.1f}), {found[2]:.0f} MB' + ('' if found[0] == counts else f', {" ".join(map(str, found[0]))}')
 
 
-def row(program, kind, n, folder):
+def row(program, kind, n, folder, limit):
     path, deck = os.path.join(folder, 'layout.gds'), os.path.join(folder, 'deck')
     make(path, kind, n)
     with open(deck, 'w', encoding='ascii') as file:
@@ -260,19 +260,22 @@ def row(program, kind, n, folder):
     cells = [f'{kind} {n}', f'{os.path.getsize(path) / 1e6:.0f}', shapes, f'{one:.2f} s ({one_cpu:.2f})', f'{many:.2f} s ({many_cpu:.2f})',
              f'{megabytes:.0f}', ' '.join(map(str, counts))]
     if shutil.which('klayout'):
-        cells += [cell(theirs(path, 'flat', 1), counts, many), cell(theirs(path, 'tiled', processors), counts, many),
-                  cell(theirs(path, 'deep', processors), counts, many)]
+        cells += [cell(theirs(path, mode, 1 if mode == 'flat' else processors, limit), counts, many) for mode in ('flat', 'tiled', 'deep')]
     return cells
 
 
 def main(words):
     program = words.pop(0) if words and os.path.isfile(words[0]) else PROGRAM
+    limit = MOST_SECONDS
+    if words and words[0] == '--limit':
+        limit = int(words[1])
+        words = words[2:]
     table = [(words[k], int(words[k + 1])) for k in range(0, len(words), 2)] or TABLE
     print('| ' + ' | '.join(HEADS) + ' |')
     print('|' + '-|' * len(HEADS))
     with tempfile.TemporaryDirectory() as folder:
         for kind, n in table:
-            print('| ' + ' | '.join(str(it) for it in row(program, kind, n, folder)) + ' |', flush=True)
+            print('| ' + ' | '.join(str(it) for it in row(program, kind, n, folder, limit)) + ' |', flush=True)
 
 
 if __name__ == '__main__':

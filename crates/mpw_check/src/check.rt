@@ -113,6 +113,15 @@ fn batch_lists(
     lists_of(alloc, answers.as_slice())
 }
 
+/// How many markers these lists have in all.
+fn marker_count(lists: &[TileMarkers]) -> usize {
+    let mut markers = 0usize;
+    for list in lists {
+        markers = markers.saturating_add(list.as_slice().len());
+    }
+    markers
+}
+
 /// The same, one batch after another; progress is told before the first and after each.
 fn tile_lists<P: Progress>(
     rt: &(impl Threads + Sync),
@@ -128,14 +137,15 @@ fn tile_lists<P: Progress>(
     ensures { IfOk result (λ lists. AreOfTiles layout.now.snapshot.now first end lists.items) }
 {
     let total = (end - first) as usize;
-    progress.tell(0, total);
+    progress.tell(0, total, 0);
     let mut lists = Vec::new(alloc);
-    let mut reached = first;
+    let (mut reached, mut markers) = (first, 0usize);
     while reached < end {
         let next = reached.saturating_add(MAX_BATCH).min(end);
         let mut batch = batch_lists(rt, alloc, layout, reached, next)?;
+        markers = markers.saturating_add(marker_count(batch.as_slice()));
         lists.append(&mut batch)?;
-        progress.tell(lists.len(), total);
+        progress.tell(lists.len(), total, markers);
         reached = next;
     }
     Ok(lists)

@@ -19,7 +19,7 @@ use crate::columns::{upright, walk_within};
 use crate::divide::add_column;
 use crate::earlier::equal_to_earlier;
 use crate::laws::{columns_have_whole_runs, columns_lie_within, lists_make_the_layout};
-use crate::like::{lists_with, own_columns};
+use crate::like::{lists_with, own_columns, shares_of};
 use crate::list::{list_shapes, seen_box};
 use crate::look::{Look, layers_of};
 use crate::part::{parts_in, window_of};
@@ -176,28 +176,46 @@ fn batch_at(columns: &[Column], from: usize, count: usize) -> &[Column]
     batch
 }
 
+/// Columns that are checked, and how many columns of the layout have the keys of each, displaced.
+#[derive(Clone, Copy)]
+struct Own<'a> {
+    columns: &'a [Column],
+    shares: &'a [usize],
+}
+
+/// How many keys these lists have, which are those of the columns from a place on, with those of columns that share them.
+fn keys_from(own: &Own<'_>, from: usize, lists: &[ColumnKeys]) -> usize {
+    let mut keys = 0usize;
+    for (k, list) in lists.iter().enumerate() {
+        let share = own.shares.get(from.saturating_add(k)).copied().unwrap_or(1);
+        keys = keys.saturating_add(share.saturating_mul(list.as_slice().len()));
+    }
+    keys
+}
+
 /// The keys of columns, a list for each, one batch after another; progress is told before the first and after each.
 fn all_lists<P: Progress>(
     rt: &(impl Threads + Sync),
     alloc: Global,
     layout: &Layout<'_>,
-    columns: &[Column],
+    own: &Own<'_>,
     progress: &mut P,
 ) -> Result<Vec<ColumnKeys>, AllocError>
     requires layout { IsLayout layout.now }
-    requires upright { All (λ c. IsUpright (upright (seen_box c.axis layout.now.extent) c)) columns.now }
-    ensures { IfOk result (λ v. AllZip (IsColumnList layout.now.snapshot.now) columns.now v.items) }
+    requires upright { All (λ c. IsUpright (upright (seen_box c.axis layout.now.extent) c)) own.now.columns.now }
+    ensures { IfOk result (λ v. AllZip (IsColumnList layout.now.snapshot.now) own.now.columns.now v.items) }
 {
-    let (total, batch) = (columns.len(), batch_of(rt));
-    progress.tell(0, total);
+    let (total, batch) = (own.columns.len(), batch_of(rt));
+    progress.tell(0, total, 0);
     let mut lists = Vec::with_capacity(alloc, total)?;
-    let mut reached = 0;
+    let (mut reached, mut markers) = (0, 0usize);
     while reached < total {
         let count = batch.min(total - reached);
-        let mut more = lists_of(rt, alloc, layout, batch_at(columns, reached, count))?;
+        let mut more = lists_of(rt, alloc, layout, batch_at(own.columns, reached, count))?;
+        markers = markers.saturating_add(keys_from(own, reached, more.as_slice()));
         lists.append(&mut more)?;
         reached += count;
-        progress.tell(reached, total);
+        progress.tell(reached, total, markers);
     }
     Ok(lists)
 }
@@ -216,7 +234,12 @@ fn every_list<P: Progress>(
 {
     let likes = equal_to_earlier(alloc, layout, columns)?;
     let own = own_columns(alloc, columns, likes.as_slice())?;
-    let lists = all_lists(rt, alloc, layout, own.as_slice(), progress)?;
+    let shares = shares_of(alloc, likes.as_slice())?;
+    let checked = Own {
+        columns: own.as_slice(),
+        shares: shares.as_slice(),
+    };
+    let lists = all_lists(rt, alloc, layout, &checked, progress)?;
     lists_with(alloc, layout, columns, likes.as_slice(), lists)
 }
 

@@ -31,6 +31,27 @@ pub(crate) fn own_columns(
     Ok(own)
 }
 
+/// For each column that is like no earlier one how many columns have its list, displaced, itself among them. One pass; an error is want of memory.
+pub(crate) fn shares_of(alloc: Global, likes: &[Option<usize>]) -> Result<Vec<usize>, AllocError> {
+    let mut shares: Vec<usize> = Vec::new(alloc);
+    let mut owners: Vec<usize> = Vec::with_capacity(alloc, likes.len())?;
+    for like in likes {
+        let owner = like.and_then(|earlier| owners.get(earlier).copied());
+        let owner = match owner {
+            Some(owner) => owner,
+            None => {
+                shares.push(0)?;
+                shares.len().saturating_sub(1)
+            }
+        };
+        owners.push(owner)?;
+        if owner < shares.len() {
+            shares[owner] = shares[owner].saturating_add(1);
+        }
+    }
+    Ok(shares)
+}
+
 /// The lists of columns, from those of the columns that are like no earlier one: the others' are made of their earlier one's. Linear in
 /// the keys; an error is want of memory.
 pub(crate) fn lists_with(

@@ -67,24 +67,33 @@ impl<'a> Line<'a> {
         eprint!(self.rt; "\rmpw: {cut}{total} {} to check", self.parts())
     }
 
-    /// Tells how many are checked, and about how long the others take, by what these took since the first was begun.
-    fn write_checked(&self, done: usize, total: usize, begun: &Instant) -> io::Result<()>
+    /// Tells about how long the others take, by what these took since the first was begun.
+    fn write_left(&self, done: usize, total: usize, begun: &Instant) -> io::Result<()>
         requires some { 0 < done }
         requires within { done ≤ total }
     {
         let taken = u64::try_from(begun.elapsed(self.rt)?.as_millis()).unwrap_or(u64::MAX);
-        let (left, parts) = (seconds_left(taken, done, total), self.parts());
-        eprint!(self.rt; "\rmpw: {done} of {total} {parts} checked, about {left} s left   ")
+        let left = seconds_left(taken, done, total);
+        eprint!(self.rt; ", about {left} s left   ")
+    }
+
+    /// Tells how many are checked, and how many markers were found so far.
+    fn write_checked(&self, done: usize, total: usize, markers: usize) -> io::Result<()> {
+        let parts = self.parts();
+        eprint!(self.rt; "\rmpw: {done} of {total} {parts} checked, {markers} markers so far")
     }
 
     /// Writes the line anew.
-    fn write(&mut self, done: usize, total: usize) -> io::Result<()> {
+    fn write(&mut self, done: usize, total: usize, markers: usize) -> io::Result<()> {
         match self.begun {
-            Some(begun) if 0 < done && done < total => self.write_checked(done, total, &begun),
             None if done == 0 && total > 0 => self.write_begun(total),
+            Some(begun) if 0 < done && done < total => {
+                self.write_checked(done, total, markers)?;
+                self.write_left(done, total, &begun)
+            }
             _ => {
-                let parts = self.parts();
-                eprint!(self.rt; "\rmpw: {done} of {total} {parts} checked                    ")
+                self.write_checked(done, total, markers)?;
+                eprint!(self.rt; "                    ")
             }
         }
     }
@@ -111,13 +120,13 @@ impl<'a> Line<'a> {
 }
 
 impl Progress for Line<'_> {
-    fn tell(&mut self, done: usize, total: usize) {
+    fn tell(&mut self, done: usize, total: usize, markers: usize) {
         if done == 0 {
             self.laps.end(Lap::Cut);
         }
         if self.is_shown {
             self.is_open = true;
-            let _ = self.write(done, total);
+            let _ = self.write(done, total, markers);
         }
         if 0 < done && done == total {
             self.laps.end(Lap::Check);

@@ -117,15 +117,17 @@ struct Told {
     first: Option<usize>,
     last: usize,
     total: usize,
+    markers: usize,
 }
 
 impl Progress for Told {
-    fn tell(&mut self, done: usize, total: usize) {
+    fn tell(&mut self, done: usize, total: usize, markers: usize) {
         if self.first.is_none() {
             self.first = Some(done);
         }
         self.last = done;
         self.total = total;
+        self.markers = markers;
     }
 }
 
@@ -144,10 +146,14 @@ pub fn print_told(
         first: None,
         last: 0,
         total: 0,
+        markers: 0,
     };
     check_columns(rt, rt.alloc(), &snapshot, most.parse()?, &mut told)?;
     match told.first {
-        Some(first) => println!(rt; "  {first} first, {} of {} last", told.last, told.total)?,
+        Some(first) => println!(rt;
+            "  {first} first, {} of {} last, {} markers",
+            told.last, told.total, told.markers
+        )?,
         None => println!(rt; "  nothing")?,
     }
     Ok(())

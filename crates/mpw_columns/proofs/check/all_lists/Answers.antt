@@ -7,7 +7,7 @@ use Rattle.mpw_columns.proofs.check.all_lists.Goals as goal
 
 pub loop-reached-preserved : goal.loop-reached-preserved
 loop-reached-preserved g c =
-    let columns = c.args.columns.now in
+    let columns = c.args.own.now.columns.now in
     let reached = c.loop-reached.reached in
     let count = c.min-count.result in
     let lists = c.loop-reached.lists.items in

@@ -10,5 +10,5 @@ pub all_lists-requires-clause-upright : goal.all_lists-requires-clause-upright
 all_lists-requires-clause-upright g c κs alive =
     let extent = c.args.layout.now.extent in
     let P : Column → Type 0 = λ column. IsUpright (upright (seen_box column.axis extent) column) in
-    subst (All P) (sym (c.as_slice-2.ensures.value ∙ c.in_ok-own.ensures))
+    subst (All P) (sym (c.as_slice-3.ensures.value ∙ c.in_ok-own.ensures))
     (own_all P c.args.columns.now _ c.requires.upright)
