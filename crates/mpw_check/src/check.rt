@@ -10,6 +10,7 @@ ghost use Rattle.mpw_check.specs.Internal.Tiled.{IsCut, jobs_of, markers_in, IsA
 
 use crate::laws::tiles_make_the_layout;
 use mpw_columns::{MAX_SHOWN, Progress, check_columns};
+use mpw_cuts::repeats;
 use mpw_job::{Answer, Job, tile_job};
 use mpw_markers::{Book, TileMarkers, stitch};
 use mpw_tiles::{Plan, Snapshot, Windows, cut};
@@ -24,7 +25,7 @@ const ONLY_RUN: u32 = 1;
 const MAX_BATCH: u32 = 128;
 
 /// The most shapes of a layout that is checked by tiles, whose windows are all held at once.
-pub const MAX_IN_TILES: u64 = 1 << 20;
+const MAX_IN_TILES: u64 = 1 << 20;
 
 /// A snapshot with its plan, and the windows into which it is cut for it.
 #[derive(Clone, Copy)]
@@ -245,11 +246,14 @@ fn shape_count(snapshot: &Snapshot) -> u64 {
     count
 }
 
-/// How many tiles there are, where the layout is checked by tiles; none where it goes by columns.
-fn by_tiles(snapshot: &Snapshot) -> Option<u32>
+/// How many tiles [`check_layout`] checks a layout by; none where it goes by columns, as it does where the layout shows more than 2^20 shapes, where more than
+/// 4096 tiles of the deck's side cover it, and where arrays show half of it, since equal columns of these are checked once. A look at the children of
+/// a structure each level of these arrays.
+pub fn checked_tiles(snapshot: &Snapshot) -> Option<u32>
     ensures { IfSome result (λ tiles. tile_count snapshot.now ≡ Some tiles) }
 {
-    if shape_count(snapshot) > MAX_IN_TILES {
+    let is_large = shape_count(snapshot) > MAX_IN_TILES;
+    if is_large || repeats(snapshot) {
         return None;
     }
     tile_count(snapshot)
@@ -258,8 +262,8 @@ fn by_tiles(snapshot: &Snapshot) -> Option<u32>
 /// The markers of the flat layout of a snapshot's roots under its deck, in the order of their keys, where the shelf has one submission
 /// alone.
 ///
-/// A layout of at most 2^20 shapes that at most 4096 tiles of the deck's side cover is checked by tiles: that costs what [`check_tiles`]
-/// does for all tiles, and [`mpw_markers::stitch`]. Every other one goes by columns, and costs what [`check_columns`] does with
+/// A layout of at most 2^20 shapes that at most 4096 tiles of the deck's side cover is checked by tiles, unless arrays show half of it ([`checked_tiles`]):
+/// that costs what [`check_tiles`] does for all tiles, and [`mpw_markers::stitch`]. Every other one goes by columns, and costs what [`check_columns`] does with
 /// [`MAX_SHOWN`]: which way it goes takes no part in what is found. Progress is told of tiles or of columns. What goes by columns may be
 /// made to take long, or much memory, since
 /// - a column holds the rectangles of all shapes that meet its window, however many stand there;
@@ -277,7 +281,7 @@ pub fn check_layout<P: Progress>(
     requires { length snapshot.now.shelf ≡ 1 }
     ensures { IfOk result (AreLayoutMarkers snapshot.now) }
 {
-    match by_tiles(snapshot) {
+    match checked_tiles(snapshot) {
         Some(tiles) => check_all(rt, alloc, snapshot, tiles, progress),
         None => check_columns(rt, alloc, snapshot, MAX_SHOWN, progress),
     }

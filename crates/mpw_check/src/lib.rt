@@ -15,7 +15,7 @@ mod fault;
 mod laws;
 mod layout;
 
-pub use check::{MAX_IN_TILES, check_layout, check_tiles, tile_count};
+pub use check::{check_layout, check_tiles, checked_tiles, tile_count};
 pub use fault::CheckFault;
 pub use laws::{markers_are_the_librarys, tiles_follow_on, tiles_make_the_layout};
 pub use layout::read_layout;

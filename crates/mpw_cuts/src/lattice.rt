@@ -198,6 +198,31 @@ pub fn lattices_of(
     Ok(lattices)
 }
 
+/// Whether there is a lattice along either axis ([`lattices_of`]). Two passes over the children of a node for each level; takes no memory.
+pub fn repeats(snapshot: &Snapshot) -> bool {
+    repeats_along(snapshot, Axis::V) || repeats_along(snapshot, Axis::H)
+}
+
+/// Whether there is one along an axis.
+fn repeats_along(snapshot: &Snapshot, axis: Axis) -> bool {
+    let (Some(nodes), Some(submission)) = (snapshot.shelf().nodes(0), snapshot.shelf().get(0))
+    else {
+        return false;
+    };
+    let structures = submission.library.structures();
+    let mut place = nodes.len().saturating_sub(1);
+    for _ in 0..MOST_LEVELS {
+        let Some(most) = array_of(structures, nodes, place) else {
+            return false;
+        };
+        if pitch_of(axis, most.reference).is_some() {
+            return true;
+        }
+        place = most.place;
+    }
+    false
+}
+
 /// Whether places so far apart lie within an instance of the finest lattice, or between two of its lines.
 pub fn is_within_cell(lattices: &[Lattice], width: u64) -> bool {
     match lattices.last() {

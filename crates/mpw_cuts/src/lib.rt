@@ -10,5 +10,5 @@ mod line;
 
 pub use counts::Counts;
 pub use lattice::{
-    Lattice, is_within_cell, lattices_of, line_between, shown_by_cells, width_of_cells,
+    Lattice, is_within_cell, lattices_of, line_between, repeats, shown_by_cells, width_of_cells,
 };

@@ -13,10 +13,10 @@ use crate::drawing::drawn_by;
 use crate::laws::markers_are_flat;
 use crate::line::Line;
 use crate::picture::{picture, view_of};
-use crate::progress::{by_tiles, tell_summary};
+use crate::progress::tell_summary;
 use crate::report::{list, report};
 use mpw_asked::{Choices, Options};
-use mpw_check::check_layout;
+use mpw_check::{check_layout, checked_tiles};
 use mpw_markers::Book;
 use mpw_outputs::Outputs;
 use mpw_sources::{Target, look, notes_of, tell_notes};
@@ -70,7 +70,7 @@ fn found_in(
     requires alone { length snapshot.now.shelf ≡ 1 }
     ensures { IfOk result (AreLayoutMarkers snapshot.now) }
 {
-    line.tell_read(snapshot, by_tiles(snapshot).is_none());
+    line.tell_read(snapshot, checked_tiles(snapshot).is_none());
     let book = check_layout(threads, rt.alloc(), snapshot, line);
     line.end();
     match book {

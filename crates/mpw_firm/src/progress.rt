@@ -1,13 +1,12 @@
 //! What is told on the standard error of a check that has ended.
-ghost use Rattle.std.specs.Prelude.{◌≡◌, Some, nat_lt, IfSome};
+ghost use Rattle.std.specs.Prelude.{◌≡◌, nat_lt};
 ghost use Rattle.std.specs.List.{list_any};
-ghost use Rattle.mpw_check.specs.Lists.{tile_count};
 ghost use Rattle.mpw_firm.specs.Counts.{count_of, has_some};
 
 use crate::checked::Checked;
 use crate::line::Line;
 use crate::memory::peak;
-use mpw_check::{MAX_IN_TILES, tile_count};
+use mpw_check::checked_tiles;
 use mpw_deck::Rules;
 use mpw_keys::ColumnKeys;
 use mpw_markers::Marker;
@@ -41,19 +40,9 @@ fn tell_taken(rt: &HostRuntime, taken: Option<u64>) -> io::Result<()> {
     eprintln!(rt; "")
 }
 
-/// How many tiles a layout is checked by; none where it goes by columns.
-pub fn by_tiles(snapshot: &Snapshot) -> Option<u32>
-    ensures { IfSome result (λ tiles. tile_count snapshot.now ≡ Some tiles) }
-{
-    if snapshot.shelf().count(0) > MAX_IN_TILES {
-        return None;
-    }
-    tile_count(snapshot)
-}
-
 /// Tells in how many tiles a layout was checked, or that columns were.
 fn tell_way(rt: &HostRuntime, snapshot: &Snapshot) -> io::Result<()> {
-    match by_tiles(snapshot) {
+    match checked_tiles(snapshot) {
         Some(tiles) => eprint!(rt; "{tiles} tiles, "),
         None => eprint!(rt; "by columns, "),
     }

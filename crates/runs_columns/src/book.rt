@@ -2,7 +2,7 @@
 
 use crate::layout::{SIDE, snapshot, snapshot_of};
 use anyhow::{Context, Result, bail};
-use mpw_check::{Progress, Silent, check_layout, check_tiles, tile_count};
+use mpw_check::{Progress, Silent, check_layout, check_tiles, checked_tiles, tile_count};
 use mpw_columns::check_columns;
 use mpw_deck::Rules;
 use mpw_edges::Axis;
@@ -172,7 +172,7 @@ fn whole(
         bail!("one submission");
     }
     let book = check_layout(rt, alloc, &snapshot, &mut Silent)?;
-    Ok((book, tile_count(&snapshot)))
+    Ok((book, checked_tiles(&snapshot)))
 }
 
 fn print_way(rt: &impl Print, tiles: Option<u32>) -> Result<()> {
