@@ -12,7 +12,8 @@ use Rattle.mpw_reader_laws.specs.Changed.{HasRecord, FaultsComeNoEarlier}
 use Rattle.mpw_reader_laws.proofs.Texts.{record_at, fault_offset, place, place_grows, place_behind, stands}
 use Rattle.mpw_reader_laws.proofs.Changed.{all_ok, changed_parts, record_starts}
 use Rattle.mpw_reader_laws.proofs.Offsets as offsets
-use Rattle.mpw_reader_laws.proofs.FirstFault.{Begins, among, Compared, compared, first_fault_is_told}
+use Rattle.mpw_reader_laws.proofs.FirstFault.{first_fault_is_told}
+use Rattle.mpw_reader_laws.proofs.FirstRefused.{Begins, among, Compared, compared}
 
 -- a fault stands where the records before it end
 fault_place : (text : List ℕ) (fault : ReadFault) (before : List RawRecord) (o : RecordOutcome)

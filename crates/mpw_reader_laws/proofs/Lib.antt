@@ -6,4 +6,5 @@ pub mod Texts
 pub mod Changed
 pub mod Offsets
 pub mod FirstFault
+pub mod FirstRefused
 pub mod Later

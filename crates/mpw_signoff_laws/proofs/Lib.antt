@@ -1,2 +1,4 @@
 pub mod Places
+pub mod Passing
 pub mod SignedOnce
+pub mod Seconds

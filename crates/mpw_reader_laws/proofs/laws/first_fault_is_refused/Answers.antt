@@ -1,4 +1,4 @@
-use Rattle.mpw_reader_laws.proofs.FirstFault as laws
+use Rattle.mpw_reader_laws.proofs.FirstRefused as laws
 use Rattle.mpw_reader_laws.proofs.laws.first_fault_is_refused.Goals as goal
 
 pub returns : goal.returns

@@ -1,4 +1,4 @@
-use Rattle.mpw_signoff_laws.proofs.SignedOnce as laws
+use Rattle.mpw_signoff_laws.proofs.Seconds as laws
 use Rattle.mpw_signoff_laws.proofs.laws.second_askers_are_refused.Goals as goal
 
 pub returns : goal.returns

@@ -1,4 +1,4 @@
-use Rattle.mpw_signoff_laws.proofs.SignedOnce as laws
+use Rattle.mpw_signoff_laws.proofs.Seconds as laws
 use Rattle.mpw_signoff_laws.proofs.laws.signed_exactly.Goals as goal
 
 pub returns : goal.returns
