@@ -40,15 +40,6 @@ passes false false false rest e = record {
 abbrev pub is_odd : ℕ → Bool
 is_odd told = ltb told 4 || eqb (told % 2) 1
 
-abbrev pub tests_of : List ℕ → Option Code
-tests_of bytes =
-    checks (ltb (length bytes) 4) (is_odd (told_length bytes))
-    (ltb (length bytes) (told_length bytes))
-    (data_fault (slice_index bytes 2) (slice_index bytes 3) (told_length bytes - 4))
-
-tests_are : (bytes : List ℕ) → first_fault bytes ≡ tests_of bytes
-tests_are bytes = refl
-
 pub passed : (bytes : List ℕ) → first_fault bytes ≡ None
     → Passes (ltb (length bytes) 4) (is_odd (told_length bytes))
     (ltb (length bytes) (told_length bytes))
