@@ -1,11 +1,14 @@
 #!/usr/bin/env python3
 """Times `mpw check` on layouts of the size of a chip, beside KLayout.
 
-  bench/chips.py [PROGRAM] [--limit SECONDS] [KIND N]..     the layouts of the table where none is named
+  bench/chips.py [PROGRAM] [--limit SECONDS] [--modes MODE,..] [KIND N]..     the layouts of the table where none is named
 
-PROGRAM is crates/mpw_firm/out/mpw_firm where none is given, and SECONDS, after which a mode of KLayout is stopped, 600. The kinds are:
+PROGRAM is crates/mpw_firm/out/mpw_firm where none is given; SECONDS, after which a mode of KLayout is stopped, are 600, and the modes flat, tiled and deep.
+The kinds are:
 
   wires N      N boxes on layer 1 and half as many on layer 2, anywhere
+  array N      N cells of four shapes in one array, of which each has two boxes that are too narrow and is too near to its neighbours, so that there are
+               six markers a cell; N is a power of four
   nested2 N    N cells of four shapes in arrays of arrays, two levels of them, each level with a box that is too narrow; N is a power of four
   nested4 N    the same in four levels
   crossed2 N   the same in two levels, of cells whose wires go on into the next cell in both directions
@@ -16,7 +19,8 @@ PROGRAM is crates/mpw_firm/out/mpw_firm where none is given, and SECONDS, after 
   mixed N      N cells in all eight orientations, one at a time, with polygons and paths
 
 Each layout is checked with four rules by ours on one thread and on all, and by KLayout flat, tiled and deep. Ours
-reads, checks and lists; the time is the whole process's. KLayout's is that of its checks, without reading. Its `width` is shielded, its
+reads, checks and lists; its times are the whole process's, that of processors, and that of its checks alone, by the clock, as it tells it. KLayout's is that of its checks, without reading, and what
+it is a multiple of is ours of the checks on all threads. Its `width` is shielded, its
 other checks aren't, as ours. Counts are width, space, separation, enclosing; those of KLayout's tiled mode count a pair twice that lies across a
 seam.
 """
@@ -36,13 +40,14 @@ import runs
 
 HERE = os.path.dirname(os.path.abspath(__file__))
 PROGRAM = os.path.join(HERE, '..', 'crates', 'mpw_firm', 'out', 'mpw_firm')
-TABLE = [('wires', 300_000), ('wires', 3_000_000), ('wires', 10_000_000), ('nested2', 1 << 18), ('nested2', 1 << 22), ('nested2', 1 << 24),
+TABLE = [('wires', 300_000), ('wires', 3_000_000), ('wires', 10_000_000), ('array', 1 << 18), ('array', 1 << 20), ('array', 1 << 22), ('nested2', 1 << 18), ('nested2', 1 << 22), ('nested2', 1 << 24),
          ('nested4', 1 << 18), ('nested4', 1 << 22), ('nested4', 1 << 24), ('crossed2', 1 << 18), ('crossed2', 1 << 22), ('crossed2', 1 << 24),
          ('crossed4', 1 << 18), ('crossed4', 1 << 22), ('crossed4', 1 << 24),
          ('marked2', 1 << 18), ('marked2', 1 << 20), ('marked2', 1 << 22), ('marked4', 1 << 22), ('chip', 100_000), ('chip', 1_000_000), ('mixed', 200_000)]
 DECK = 'tile 65536\nwidth width 1/0 56\nspace space 1/0 51\nseparation separation 1/0 2/0 9\nenclosing enclosing 1/0 2/0 10\n'
 MOST_SECONDS = 600
 SIDE = 65536
+MODES = ('flat', 'tiled', 'deep')
 HEADS = ['Layout', 'File, MB', 'Shapes', 'One thread', 'All threads', 'MB', 'Markers', 'Flat', 'Tiled, all threads', 'Deep']
 
 
@@ -78,6 +83,8 @@ def wires(out, n):
     end(out)
 
 
+# A cell with violations, which overlaps none at a pitch of 300.
+DENSE = [(1, 0, 0, 100, 250), (1, 0, 100, 250, 150), (1, 200, 0, 250, 90), (2, 20, 20, 60, 60)]
 # A cell without a violation, at a pitch of 300, and a box that is too narrow.
 CELL = [(1, 0, 0, 100, 240), (1, 160, 0, 240, 90), (1, 160, 150, 240, 240), (2, 20, 20, 60, 60)]
 # A cell whose wires overlap those of the cells right of it and above.
@@ -85,6 +92,18 @@ CROSSED = [(1, 0, 0, 320, 80), (1, 0, 140, 100, 320), (1, 160, 140, 240, 240), (
 # A cell with a box that is too narrow.
 MARKED = CELL[:2] + [(1, 160, 150, 214, 240), (2, 20, 20, 60, 60)]
 NARROW = (1, -120, 0, -66, 240)
+
+
+def array(out, n):
+    """The cells of runs.py's arrays."""
+    side = 1 << (n.bit_length() - 1) // 2
+    begin(out, b'CELL')
+    for shape in DENSE:
+        out.write(layouts.boundary(*shape))
+    end(out)
+    begin(out, b'TOP')
+    out.write(layouts.array(b'CELL', side, side, 300))
+    end(out)
 
 
 def nested(out, n, levels, shapes=None):
@@ -176,7 +195,7 @@ def mixed(out, n):
     end(out)
 
 
-KINDS = {'wires': wires, 'nested2': lambda out, n: nested(out, n, 2), 'nested4': lambda out, n: nested(out, n, 4),
+KINDS = {'wires': wires, 'array': array, 'nested2': lambda out, n: nested(out, n, 2), 'nested4': lambda out, n: nested(out, n, 4),
          'crossed2': lambda out, n: nested(out, n, 2, CROSSED), 'crossed4': lambda out, n: nested(out, n, 4, CROSSED),
          'marked2': lambda out, n: nested(out, n, 2, MARKED), 'marked4': lambda out, n: nested(out, n, 4, MARKED), 'chip': chip, 'mixed': mixed}
 
@@ -218,14 +237,16 @@ def timed(command, limit=MOST_SECONDS):
 
 
 def ours(program, path, deck, folder, processors):
-    """The shapes, the counts, the seconds and the megabytes of a check on so many processors."""
+    """The shapes, the counts, the times as they are told, the seconds of the checks alone and the megabytes of a check on so many processors."""
     listing = os.path.join(folder, 'listing')
     command = f'taskset -c {processors} {program} check --deck {deck} --top TOP {path} > {listing}'
     found = timed(['sh', '-c', command])
     if not found or found[0] not in (0, 1):
         sys.exit(f'{command}: {found}')
     summary = re.search(r'(\d+) shapes, .*?(\d+) markers, width (\d+), space (\d+), separation (\d+), enclosing (\d+)', found[1])
-    return int(summary[1]), [int(it) for it in summary.groups()[2:]], found[2], found[3], found[4]
+    parts = re.search(r'times: read \d+ ms, \w+ (\d+) ms, check (\d+) ms, \w+ (\d+) ms', found[1])
+    checks = sum(map(int, parts.groups())) / 1000
+    return int(summary[1]), [int(it) for it in summary.groups()[2:]], f'{found[2]:.2f} s ({found[3]:.2f}), {checks:.2f}', checks, found[4]
 
 
 def theirs(path, mode, threads, limit):
@@ -244,38 +265,38 @@ def cell(found, counts, least):
     """A mode's column: its seconds, as such and as a multiple of ours, its megabytes, and its counts where they aren't ours."""
     if isinstance(found, str):
         return found
-    return f'{found[1]:.2f} s ({found[1] / least:.1f}), {found[2]:.0f} MB' + ('' if found[0] == counts else f', {" ".join(map(str, found[0]))}')
+    return f'{found[1]:.2f} s ({found[1] / max(least, 0.001):.1f}), {found[2]:.0f} MB' + ('' if found[0] == counts else f', {" ".join(map(str, found[0]))}')
 
 
-def row(program, kind, n, folder, limit):
+def row(program, kind, n, folder, limit, modes):
     path, deck = os.path.join(folder, 'layout.gds'), os.path.join(folder, 'deck')
     make(path, kind, n)
     with open(deck, 'w', encoding='ascii') as file:
         file.write(DECK)
     processors = len(os.sched_getaffinity(0))
-    shapes, counts, one, one_cpu, _ = ours(program, path, deck, folder, '0')
-    _, again, many, many_cpu, megabytes = ours(program, path, deck, folder, f'0-{processors - 1}')
+    shapes, counts, one, _, _ = ours(program, path, deck, folder, '0')
+    _, again, many, least, megabytes = ours(program, path, deck, folder, f'0-{processors - 1}')
     if counts != again:
         sys.exit(f'{kind} {n}: {counts} on one thread, {again} on all')
-    cells = [f'{kind} {n}', f'{os.path.getsize(path) / 1e6:.0f}', shapes, f'{one:.2f} s ({one_cpu:.2f})', f'{many:.2f} s ({many_cpu:.2f})',
-             f'{megabytes:.0f}', ' '.join(map(str, counts))]
+    cells = [f'{kind} {n}', f'{os.path.getsize(path) / 1e6:.0f}', shapes, one, many, f'{megabytes:.0f}', ' '.join(map(str, counts))]
     if shutil.which('klayout'):
-        cells += [cell(theirs(path, mode, 1 if mode == 'flat' else processors, limit), counts, many) for mode in ('flat', 'tiled', 'deep')]
+        cells += [cell(theirs(path, mode, 1 if mode == 'flat' else processors, limit), counts, least) if mode in modes else '-' for mode in MODES]
     return cells
 
 
 def main(words):
     program = words.pop(0) if words and os.path.isfile(words[0]) else PROGRAM
-    limit = MOST_SECONDS
-    if words and words[0] == '--limit':
-        limit = int(words[1])
+    limit, modes = MOST_SECONDS, MODES
+    while words and words[0].startswith('--'):
+        limit = int(words[1]) if words[0] == '--limit' else limit
+        modes = words[1].split(',') if words[0] == '--modes' else modes
         words = words[2:]
     table = [(words[k], int(words[k + 1])) for k in range(0, len(words), 2)] or TABLE
     print('| ' + ' | '.join(HEADS) + ' |')
     print('|' + '-|' * len(HEADS))
     with tempfile.TemporaryDirectory() as folder:
         for kind, n in table:
-            print('| ' + ' | '.join(str(it) for it in row(program, kind, n, folder, limit)) + ' |', flush=True)
+            print('| ' + ' | '.join(str(it) for it in row(program, kind, n, folder, limit, modes)) + ' |', flush=True)
 
 
 if __name__ == '__main__':
