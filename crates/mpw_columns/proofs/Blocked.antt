@@ -5,6 +5,7 @@ use Rattle.std.specs.declared.result.Result.{Result}
 use Rattle.std.proofs.lemmas.Int.{ints}
 use Rattle.std.proofs.lemmas.Bool.{cases_lt}
 use Rattle.std.proofs.lemmas.List.{append-nil, length-append, get_or_append_left, get_or_default, get_or_push}
+use Rattle.mpw_geom.specs.declared.plane.Box2.{Box2}
 use Rattle.mpw_edges.specs.declared.run.Axis.{Axis}
 use Rattle.mpw_tiles.specs.Snapshots.{shown}
 use Rattle.mpw_job.specs.Computed.{shown_on}
@@ -13,7 +14,11 @@ use Rattle.mpw_keys.specs.Columns.{seen_box, upright, across}
 use Rattle.mpw_columns.specs.declared.check.Layout.{Layout}
 use Rattle.mpw_columns.specs.Seen.{seen_on}
 use Rattle.mpw_columns.specs.Displaced.{IsDisplaced, ShowsDisplaced, AreDisplacedOn}
-use Rattle.mpw_columns.specs.Internal.Blocks.{IsCounterpart, AreCounterparts}
+use Rattle.mpw_job.specs.Answers.{listed_on}
+use Rattle.mpw_tiles.specs.declared.listing.Rectangle.{Rectangle}
+use Rattle.mpw_columns.specs.Internal.Blocks.{IsPart, IsCounterpart, AreCounterparts}
+use Rattle.mpw_columns.specs.Internal.Checked.{AgreeInColumn}
+use Rattle.mpw_columns.specs.Internal.Found.{AgreeIn, AgreeAll}
 use Rattle.mpw_columns.specs.declared.earlier.Earlier.{Earlier}
 use Rattle.mpw_columns.specs.Internal.Like.{IsLike, IsLikeAt, AreAlike, AreFirstLikes, IsKept, IsTold, places_from}
 
@@ -169,3 +174,20 @@ told_block (Ok v) l columns from count old mid new told alike same kept likes is
       (likes ∙ ap (λ (p : List (Option ℕ)). p ++ places_from from count) same);
   kept = subst (All (IsKept l)) (sym is) kept;
 }
+
+-- ---- rectangles that are shared
+
+-- in the window of a column that lies within another one
+pub agree_within : (l : Layout) (c whole : Column) (all parts : List Rectangle) (window : Box2) → IsPart c whole
+    → AgreeInColumn l whole all → window ≡ across (upright (seen_box c.axis l.extent) c) (l.distance + 1)
+    → AgreeAll window (listed_on all) (listed_on parts) → AgreeInColumn l c parts
+agree_within l c whole all parts window part h w agree layer has i j left right bottom top =
+    let n = l.distance + 1 in
+    let on = shown_on (shown l.snapshot.now) in
+    let wide : AgreeIn l.layers.now (across (upright (seen_box c.axis l.extent) whole) n) (seen_on c.axis on) (listed_on all) =
+    subst (λ (a : Axis). AgreeIn l.layers.now (across (upright (seen_box a l.extent) whole) n) (seen_on a on) (listed_on all))
+    (sym part.axis) h in
+    let low = part.from in
+    let high = part.to in
+    wide layer has i j (omega (arith, ints, left, low)) (omega (arith, ints, right, high)) bottom top
+    ∙ subst (λ (b : Box2). AgreeAll b (listed_on all) (listed_on parts)) w agree layer i j left right bottom top

@@ -32,7 +32,12 @@ pub(crate) struct Columns<'a> {
 }
 
 /// The column of all places of so many columns from a place on; none where they are of two axes, or the last ends before the first begins.
-fn whole_of(layout: &Layout<'_>, columns: &[Column], place: usize, count: usize) -> Option<Column>
+pub(crate) fn whole_of(
+    layout: &Layout<'_>,
+    columns: &[Column],
+    place: usize,
+    count: usize,
+) -> Option<Column>
     requires upright { AreUprightIn layout.now columns.now }
     requires some { 0 < count }
     requires within { place + count ≤ length columns.now }
@@ -51,7 +56,7 @@ fn whole_of(layout: &Layout<'_>, columns: &[Column], place: usize, count: usize)
 }
 
 /// Whether a column lies within another one of its axis.
-fn is_part(column: &Column, whole: &Column) -> bool
+pub(crate) fn is_part(column: &Column, whole: &Column) -> bool
     ensures { IsTrue result → IsPart column.now whole.now }
 {
     is_same_axis(column.axis, whole.axis) && whole.from <= column.from && column.to <= whole.to

@@ -1,6 +1,6 @@
 //! Checking by columns.
 
-ghost use Rattle.std.specs.Prelude.{◌≡◌, ◌+◌, ◌≤◌, ◌↔◌, length, take, drop, All, Contains, IfOk};
+ghost use Rattle.std.specs.Prelude.{◌≡◌, ◌+◌, ◌≤◌, ◌↔◌, length, take, drop, All, Contains, IfOk, IfSome};
 ghost use Rattle.std.specs.List.{AllZip};
 ghost use Rattle.mpw_markers.specs.declared.marker.Key.{Key as KeyValue};
 ghost use Rattle.mpw_tiles.specs.Snapshots.{shown};
@@ -13,8 +13,10 @@ ghost use Rattle.mpw_columns.specs.Plan.{IsColumnWithin};
 ghost use Rattle.mpw_columns.specs.Lists.{IsColumnList};
 ghost use Rattle.mpw_columns.specs.Found.{IsFound};
 ghost use Rattle.mpw_columns.specs.Internal.Found.{IsUpright, AgreeIn};
-ghost use Rattle.mpw_columns.specs.Internal.Checked.{IsLayout, HaveLists};
+ghost use Rattle.mpw_columns.specs.Internal.Blocks.{IsUprightIn, AreUprightIn};
+ghost use Rattle.mpw_columns.specs.Internal.Checked.{IsLayout, HaveLists, AgreeInColumn, IsShared};
 
+use crate::block::{is_part, whole_of};
 use crate::columns::{upright, walk_within};
 use crate::divide::add_column;
 use crate::earlier::equal_to_earlier;
@@ -39,8 +41,13 @@ use std::thread::Threads;
 /// Halvings of a column.
 const MAX_DEPTH: u32 = 60;
 
-/// How many columns of a batch there are for each processor.
+/// How many columns of a batch there are for each processor, and how many at least.
 const FOR_EACH: usize = 4;
+
+const AT_LEAST: usize = 16;
+
+/// Where the top has so many shapes and references of its own, a batch's columns are listed together.
+const MANY_OWN: usize = 1 << 18;
 
 /// How many shapes a column may show: with the walks and rectangles of so many a thread stays within some ten megabytes.
 pub const MAX_SHOWN: u32 = 1 << 16;
@@ -87,19 +94,58 @@ fn rectangles_in(
     Ok(by_layer(parts))
 }
 
-/// The keys of the maximal runs in a core that is seen along the axis.
+/// The rectangles of the layout in the window of a column, listed once for columns that lie in it.
+#[derive(Drop)]
+pub(crate) struct Shared {
+    whole: Column,
+    rectangles: Vec<Rectangle>,
+}
+
+/// The core of a column, seen along its axis.
+fn core_of(layout: &Layout<'_>, column: &Column) -> Box2
+    ensures { result ≡ upright (seen_box column.now.axis layout.now.extent) column.now }
+{
+    upright(&seen_box(column.axis, &layout.extent), column)
+}
+
+/// The rectangles in the window of a column, by layer, as they are seen along its axis: parts of those that are shared, where the column lies in theirs,
+/// which is one pass over them, or else what [`rectangles_in`] lists.
+fn rectangles_of(
+    alloc: Global,
+    layout: &Layout<'_>,
+    shared: &Option<Shared>,
+    column: &Column,
+) -> Result<Vec<Rectangle>, AllocError>
+    requires layout { IsLayout layout.now }
+    requires upright { IsUprightIn layout.now column.now }
+    requires shared { IfSome shared.now (IsShared layout.now) }
+    ensures { IfOk result (λ v. AgreeInColumn layout.now column.now v.items) }
+{
+    let core = core_of(layout, column);
+    match shared {
+        Some(shared) if is_part(column, &shared.whole) => {
+            let window = window_of(&core, layout.distance);
+            parts_in(alloc, shared.rectangles.as_slice(), &window)
+        }
+        _ => rectangles_in(alloc, layout, column.axis, &core),
+    }
+}
+
+/// The keys of the maximal runs in a core that is seen along the axis, from rectangles that stand by layer.
 fn keys_in(
     alloc: Global,
     layout: &Layout<'_>,
     axis: Axis,
     core: &Box2,
+    rectangles: &[Rectangle],
 ) -> Result<Vec<Key>, AllocError>
     requires layout { IsLayout layout.now }
     requires upright { IsUpright core.now }
+    requires agree { AgreeIn layout.now.layers.now (across core.now (layout.now.distance + 1))
+        (seen_on axis (shown_on (shown layout.now.snapshot.now))) (listed_on rectangles.now) }
     ensures { IfOk result (λ v. (k : KeyValue) → Contains v.items k
         ↔ IsFound layout.now.snapshot.now.deck.rules axis (seen_on axis (shown_on (shown layout.now.snapshot.now))) core.now k) }
 {
-    let rectangles = rectangles_in(alloc, layout, axis, core)?;
     let look = Look {
         rules: layout.snapshot.deck().rules().as_slice(),
         layers: layout.layers,
@@ -107,33 +153,70 @@ fn keys_in(
         distance: layout.distance,
     };
     let mut keys = Vec::new(alloc);
-    add_column(
-        alloc,
-        &mut keys,
-        &look,
-        rectangles.as_slice(),
-        core,
-        MAX_DEPTH,
-    )?;
+    add_column(alloc, &mut keys, &look, rectangles, core, MAX_DEPTH)?;
     Ok(keys)
 }
 
-/// The keys of a column of the layout. What the walk within its window takes, the rectangles of what it gives, a sort of them, and
+/// The keys of a column of the layout. What the walk within its window takes, or a pass over the rectangles that are shared; a sort of its rectangles, and
 /// what [`add_column`] takes. An error is want of memory.
 fn check_column(
     alloc: Global,
     layout: &Layout<'_>,
+    shared: &Option<Shared>,
     column: &Column,
 ) -> Result<ColumnKeys, AllocError>
     requires layout { IsLayout layout.now }
     requires upright { IsUpright (upright (seen_box column.now.axis layout.now.extent) column.now) }
+    requires shared { IfSome shared.now (IsShared layout.now) }
     ensures { IfOk result (IsColumnList layout.now.snapshot.now column.now) }
 {
     columns_have_whole_runs();
     test_decides_pair_steps();
-    let core = upright(&seen_box(column.axis, &layout.extent), column);
-    let keys = keys_in(alloc, layout, column.axis, &core)?;
+    let rectangles = rectangles_of(alloc, layout, shared, column)?;
+    let core = core_of(layout, column);
+    let keys = keys_in(alloc, layout, column.axis, &core, rectangles.as_slice())?;
     Ok(ColumnKeys::of(keys))
+}
+
+/// Whether columns are listed together: where the top has many shapes of its own, each of which a walk looks at, and the columns fill most of what they lie in.
+fn are_shared(layout: &Layout<'_>, columns: &[Column], whole: &Column) -> bool {
+    let Some(top) = layout
+        .snapshot
+        .shelf()
+        .nodes(0)
+        .and_then(|nodes| nodes.last())
+    else {
+        return false;
+    };
+    let mut width = 0u64;
+    for column in columns {
+        width = width.saturating_add(column.from.abs_diff(column.to));
+    }
+    let own = top.shapes.len().saturating_add(top.children.len());
+    own >= MANY_OWN && whole.from.abs_diff(whole.to) / 2 <= width
+}
+
+/// The rectangles of the layout in the window of the column of all places of these columns, where they are of one axis and worth it.
+fn shared_of(
+    alloc: Global,
+    layout: &Layout<'_>,
+    columns: &[Column],
+) -> Result<Option<Shared>, AllocError>
+    requires layout { IsLayout layout.now }
+    requires upright { AreUprightIn layout.now columns.now }
+    ensures { IfOk result (λ o. IfSome o (IsShared layout.now)) }
+{
+    if columns.is_empty() {
+        return Ok(None);
+    }
+    let Some(whole) = whole_of(layout, columns, 0, columns.len()) else {
+        return Ok(None);
+    };
+    if !are_shared(layout, columns, &whole) {
+        return Ok(None);
+    }
+    let rectangles = rectangles_in(alloc, layout, whole.axis, &core_of(layout, &whole))?;
+    Ok(Some(Shared { whole, rectangles }))
 }
 
 /// The keys of columns, a list for each, found in at most two threads for each processor.
@@ -147,14 +230,16 @@ fn lists_of(
     requires upright { All (λ c. IsUpright (upright (seen_box c.axis layout.now.extent) c)) columns.now }
     ensures { IfOk result (λ v. AllZip (IsColumnList layout.now.snapshot.now) columns.now v.items) }
 {
+    let shared = &shared_of(alloc, layout, columns)?;
     columns
         .par_iter()
         .with_min_len(1)
         .map(
             |column: &Column| -> Result<ColumnKeys, AllocError>
-                requires { IsLayout layout.now × IsUpright (upright (seen_box column.now.axis layout.now.extent) column.now) }
+                requires { IsLayout layout.now × (IsUpright (upright (seen_box column.now.axis layout.now.extent) column.now)
+                    × IfSome shared.now (IsShared layout.now)) }
                 ensures { IfOk result (IsColumnList layout.entry.now.snapshot.now column.now) }
-            { check_column(alloc, layout, column) },
+            { check_column(alloc, layout, shared, column) },
         )
         .collect::<Result<Vec<ColumnKeys>, AllocError>>(rt, alloc)?
 }
@@ -163,7 +248,9 @@ fn lists_of(
 fn batch_of(rt: &impl Threads) -> usize
     ensures { 1 ≤ result }
 {
-    current_num_threads(rt).saturating_mul(FOR_EACH)
+    current_num_threads(rt)
+        .saturating_mul(FOR_EACH)
+        .max(AT_LEAST)
 }
 
 /// So many columns from a place on.
@@ -249,10 +336,14 @@ fn every_list<P: Progress>(
 /// A column whose window shows what that of an earlier one of these does, displaced, as far as a short list of shapes and arrays tells it, has
 /// that one's keys, displaced: for each column a list of at most 4096 of them is made, which costs a look at the top's shapes and
 /// references at least, and at most 2^20 things are kept. Where an array shows half of the layout, columns side by side are asked as one before they
-/// are halved and asked again, so that of an array of arrays few lists are made; at the worst these are twice as many as columns. The other columns are worked in batches of four for each processor, in at most two
-/// threads for each; progress is told of them, before the first and after each batch. One walk a column gives the shapes whose boxes meet its window,
-/// and the rectangles of those on the rules' layers are listed; so what is held is the rectangles of as many columns as there are threads, and the keys.
-/// A column costs its walk, its rectangles, a sort of them by layer, a pass over them a halving, the bands and pairs of each part, and a sort of its keys; one
+/// are halved and asked again, so that of an array of arrays few lists are made; at the worst these are twice as many as columns. The other columns
+/// are worked in batches of four for each processor, 16 at least, in at most two threads for each; progress is told of them, before the first and after
+/// each batch.
+///
+/// One walk a column gives the shapes whose boxes meet its window, and the rectangles of those on the rules' layers are listed; so what is held is the
+/// rectangles of as many columns as there are threads, and the keys. A walk looks at each shape and reference of the top: where these are 2^18 at
+/// least, one walk lists the rectangles of a batch that stands together, and each of its columns takes its own of them by one pass; then those of a
+/// batch are held. A column costs its walk or that pass, its rectangles, a sort of them by layer, a pass over them a halving, the bands and pairs of each part, and a sort of its keys; one
 /// that is like an earlier one a pass over that one's keys.
 ///
 /// # Errors

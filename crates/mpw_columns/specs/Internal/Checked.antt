@@ -1,13 +1,19 @@
 -- A layout as it is checked, and its columns.
-use Rattle.std.specs.Prelude.{◌≡◌, ◌<◌, ◌^◌, ℕ, List, length, Some}
+use Rattle.std.specs.Prelude.{◌≡◌, ◌<◌, ◌+◌, ◌^◌, ℕ, List, length, Some}
 use Rattle.std.specs.List.{AllZip}
-use Rattle.mpw_tiles.specs.Snapshots.{Snapshot, shown_extent}
+use Rattle.mpw_tiles.specs.Snapshots.{Snapshot, shown, shown_extent}
+use Rattle.mpw_tiles.specs.declared.listing.Rectangle.{Rectangle}
+use Rattle.mpw_job.specs.Answers.{listed_on}
+use Rattle.mpw_job.specs.Computed.{shown_on}
+use Rattle.mpw_keys.specs.Columns.{seen_box, upright, across}
+use Rattle.mpw_columns.specs.declared.check.Shared.{Shared}
+use Rattle.mpw_columns.specs.Seen.{seen_on}
 use Rattle.mpw_markers.specs.declared.marker.Key.{Key}
 use Rattle.mpw_keys.specs.declared.column.Column.{Column}
 use Rattle.mpw_columns.specs.declared.check.Layout.{Layout}
 use Rattle.mpw_columns.specs.Plan.{AreColumnsOfLayout}
 use Rattle.mpw_columns.specs.Lists.{IsColumnList}
-use Rattle.mpw_columns.specs.Internal.Found.{IsLook}
+use Rattle.mpw_columns.specs.Internal.Found.{IsLook, AgreeIn}
 
 -- The shapes are of one submission, and the layers and the distance are those of the rules.
 pub record IsLayout (l : Layout) : Type 0 where
@@ -15,6 +21,16 @@ pub record IsLayout (l : Layout) : Type 0 where
   pub extent_is : shown_extent l.snapshot.now ≡ Some l.extent
   pub short : l.distance < 2 ^ 32
   pub look : IsLook l.snapshot.now.deck.rules l.layers.now l.distance
+
+-- In the window of a column, on the layers of the rules, the rectangles have just the squares that the layout shows, as they are seen along its axis.
+abbrev pub AgreeInColumn : Layout → Column → List Rectangle → Type 0
+AgreeInColumn l c rectangles =
+    AgreeIn l.layers.now (across (upright (seen_box c.axis l.extent) c) (l.distance + 1))
+    (seen_on c.axis (shown_on (shown l.snapshot.now))) (listed_on rectangles)
+
+-- So the shared rectangles in the window of theirs.
+abbrev pub IsShared : Layout → Shared → Type 0
+IsShared l shared = AgreeInColumn l shared.whole shared.rectangles.items
 
 -- The columns of a layout, of which so many are of V.
 pub record IsCounted (s : Snapshot) (count : ℕ) (columns : List Column) : Type 0 where

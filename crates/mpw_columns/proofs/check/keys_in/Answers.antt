@@ -1,4 +1,4 @@
-use Rattle.std.proofs.Common.{◌∙◌, List, ap, sym, subst}
+use Rattle.std.proofs.Common.{◌∙◌, List, refl, ap, sym, subst}
 use Rattle.mpw_deck.specs.declared.rule.Rule.{Rule}
 use Rattle.mpw_tiles.specs.Snapshots.{shown}
 use Rattle.mpw_job.specs.Computed.{shown_on}
@@ -19,8 +19,8 @@ returns c =
     let layout = c.args.layout.now in
     keys_from layout.snapshot.now.deck.rules c.as_slice.result.now layout.layers.now layout.distance
     c.args.axis (seen_on c.args.axis (shown_on (shown layout.snapshot.now)))
-    c.in_ok-rectangles.rectangles.items c.as_slice-2.result.now c.args.core.now
+    c.args.rectangles.now c.args.rectangles.now c.args.core.now
     c.new-keys.result.items c.add_column.new.keys.items
     (c.as_slice.ensures ∙ c.rules.ensures ∙ ap (λ d. d.rules) c.deck.ensures)
-    c.requires.layout.look c.in_ok-rectangles.ensures c.as_slice-2.ensures.value
+    c.requires.layout.look c.requires.agree refl
     c.new-keys.ensures.items c.in_ok-add_column.ensures
