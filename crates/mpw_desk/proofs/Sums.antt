@@ -1,8 +1,7 @@
 -- A pass more among those that were taken in.
-use Rattle.std.proofs.Common.{◌≡◌, ◌∙◌, ◌+◌, ◌++◌, ℕ, List, [], ◌∷◌, refl, ap, sym, arith, append_assoc}
+use Rattle.std.proofs.Common.{◌≡◌, ◌+◌, ◌++◌, ℕ, List, [], refl, sym}
 use Rattle.std.specs.List.{sum_by}
-use Rattle.std.proofs.lemmas.List.Elements.{All-nil, All-cons}
-use Rattle.std.proofs.lemmas.List.Sums.{sum_by-append}
+use Rattle.std.proofs.lemmas.List.Elements.{All-nil}
 use Rattle.mpw_events.specs.declared.event.Call.{Call}
 use Rattle.mpw_receipts.specs.Calls.{calls_of}
 use Rattle.mpw_receipts.specs.Owner.{owner_of}
@@ -23,15 +22,4 @@ none_taken calls all is = record {
   whole = sym is;
   counted = refl;
   receipts = All-nil (λ (p : PassView). p.receipts ≡ calls_of owner_of p.connection calls);
-}
-
-pub one_taken : (calls : List Call) (all left rest : List PassView) (p : PassView) (count : ℕ)
-    → left ≡ rest ++ p ∷ [] → p.receipts ≡ calls_of owner_of p.connection calls
-    → AreTaken calls all left count → AreTaken calls all rest (count + p.count)
-one_taken calls all left rest p count is own h = record {
-  taken = p ∷ h.taken;
-  whole = h.whole ∙ (ap (λ l. l ++ h.taken) is ∙ append_assoc rest (p ∷ []) h.taken);
-  counted = omega (arith, h.counted, sum_by-append (λ (q : PassView). q.count) (p ∷ []) h.taken);
-  receipts = All-cons (λ (q : PassView). q.receipts ≡ calls_of owner_of q.connection calls) p
-      h.taken own h.receipts;
 }

@@ -1,5 +1,6 @@
 -- Keys of a column in order, and those of one list.
-use Rattle.std.proofs.Common.{◌≡◌, ◌∙◌, ℕ, suc, ◌+◌, ◌<◌, ◌≤◌, ◌==◌, ℤ, ◌+ℤ◌, int_cmp, Bool, true, false, List, [], ◌∷◌, ◌++◌, map, length, get_or, take, drop, leb, ltb, nat_cmp, is_lt, Ordering, Less, Bor, refl, sym, subst, ap, ◌⊎◌, inl, inr, take-append-drop, append-nil, length-take-le, length-drop, get_or-take, get_or-drop, arith}
+use Rattle.std.proofs.Common.{◌≡◌, ◌∙◌, ℕ, suc, ◌+◌, ◌<◌, ◌≤◌, ◌==◌, ℤ, ◌+ℤ◌, int_cmp, Bool, true, false, List, [], ◌∷◌, ◌++◌, map, length, get_or, take, drop, leb, ltb, nat_cmp, is_lt}
+use Rattle.std.proofs.Common.{Ordering, Less, Bor, refl, sym, subst, ap, ◌⊎◌, inl, inr, take-append-drop, append-nil, length-take-le, length-drop, get_or-take, get_or-drop, arith}
 use Rattle.std.specs.Prelude.{Contains, All, filter}
 use Rattle.std.specs.Cmp.{IsTotalOrder, IsStrictWeakOrder}
 use Rattle.std.specs.Fn.{Called, ComparesAs}

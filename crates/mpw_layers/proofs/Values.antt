@@ -6,7 +6,7 @@ use Rattle.std.specs.Borrow.{Bor}
 use Rattle.std.proofs.lemmas.Bool.{cases_lt}
 use Rattle.std.proofs.lemmas.List.{length-append, length-take, get_or-take, take-append-le}
 use Rattle.std.proofs.lemmas.Option.{slice_get_within, slice_get-get_or, get_or_from_slice_get}
-use Rattle.std.proofs.Math.Seq.{take-append_seam, get_or-append_seam}
+use Rattle.std.proofs.Math.Seq.{take-append_seam}
 use Rattle.mpw_structures.specs.declared.element.Element.{Element}
 use Rattle.mpw_structures.specs.declared.structures.Structure.{Structure}
 use Rattle.mpw_structures.specs.Element.{IsElement}
@@ -91,33 +91,6 @@ values_more {V} step library nodes i node old new value w at is made = record {
         ≡ Some (told_by other (take n (old ++ value ∷ [])))) (sym at_end)
         (last ∙ ap Some (is ∙ ap (λ (m : Node). told_by m old) e
         ∙ ap (λ xs. told_by other xs) (sym whole)))
-
--- one submission more
-pub first_more : {V : Type 0} (nothing : V) (tell : List Item → V) (ss : List Submission) (i : ℕ)
-    (old new : List V) (value : V)
-    → AreOfFirst nothing tell ss i old → value ≡ tell (flat ss i) → new ≡ old ++ value ∷ []
-    → AreOfFirst nothing tell ss (i + 1) new
-first_more nothing tell ss i old new value w is made = record {
-  many_are = let h = length-append old (value ∷ []) in let e = ap length made in
-      omega (arith, h, e, w.many_are);
-  each = λ k h. rw made (go k h (cases_lt k i));
-}
-  where
-    whole_of : take i (old ++ value ∷ []) ≡ old
-    whole_of = subst (λ n. take n (old ++ value ∷ []) ≡ old) w.many_are
-        (take-append_seam old (value ∷ []))
-
-    last : slice_index_or (old ++ value ∷ []) i nothing ≡ value
-    last = subst (λ n. get_or (old ++ value ∷ []) n nothing ≡ value) w.many_are
-        (get_or-append_seam old value [] nothing)
-
-    go : (k : ℕ) → k < i + 1 → (k < i) ⊎ (i ≤ k)
-        → slice_index_or (old ++ value ∷ []) k nothing ≡ tell (flat ss k)
-    go k h (inl lt) = sym (get_or-take i (old ++ value ∷ []) k nothing lt)
-        ∙ ap (λ xs. get_or xs k nothing) whole_of ∙ w.each k lt
-    go k h (inr le) =
-        let e : i ≡ k = omega (arith, h, le) in
-        subst (λ n. slice_index_or (old ++ value ∷ []) n nothing ≡ tell (flat ss n)) e (last ∙ is)
 
 past_end : {X : Type 0} (xs : List X) (n : ℕ) (d : X) → length xs ≤ n → get_or xs n d ≡ d
 past_end [] n d h = refl

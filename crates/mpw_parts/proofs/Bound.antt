@@ -17,9 +17,6 @@ abbrev pub AreApartBelow : ℕ → List Marker → Type 0
 AreApartBelow n markers = (i j : ℕ) (d : Marker) → i < j → j < n
     → StandsBefore (get_or markers i d) (get_or markers j d)
 
-pub one_apart : (markers : List Marker) → AreApartBelow 1 markers
-one_apart markers i j d less below = absurd (omega (arith, less, below))
-
 pub apart_more : (markers : List Marker) (n : ℕ) → All IsFilled markers → 1 ≤ n
     → n < length markers → AreApartBelow n markers
     → ((d : Marker) → StandsBefore (get_or markers (n - 1) d) (get_or markers n d))

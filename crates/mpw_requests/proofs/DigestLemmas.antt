@@ -6,11 +6,6 @@ use Rattle.hex.specs.Hex.{is_hex_digit}
 use Rattle.hex.proofs.HexLemmas.{decode_of-ok}
 use Rattle.mpw_requests.specs.Digest.{Spells}
 
--- what 64 digits spell has 32 bytes
-pub spelt-sized : (text digest : List ℕ) → Spells text digest → length text ≡ 64
-    → length digest ≡ 32
-spelt-sized text digest spells sized = let ok = decode_of-ok text digest spells in omega arith
-
 -- a text that spells none spells no 32 bytes
 pub unspelt : {X : Type 0} (text : List ℕ) (r : Option X)
     → IsSome r ↔ ((length text ≡ 64) × AllPass is_hex_digit text) → r ≡ None → (digest : List ℕ)

@@ -1,11 +1,9 @@
 -- What stands in a text, one step further.
-use Rattle.std.proofs.Common.{◌≡◌, ◌∙◌, ◌<◌, ◌≤◌, ◌+◌, ◌-◌, ◌%◌, ◌||◌, ℕ, suc, List, [], ◌∷◌, drop, length, Bool, true, false, cond, ltb, eqb, refl, sym, ap, Option, Some, None, Ok, Err}
-use Rattle.std.proofs.lemmas.Bool.{le-ltb, lt-ltb, ltb-false}
+use Rattle.std.proofs.Common.{◌≡◌, ◌∙◌, ◌<◌, ◌≤◌, ◌+◌, ◌-◌, ℕ, suc, List, [], ◌∷◌, drop, length, Bool, true, false, cond, ltb, refl, sym, ap, Option, Some, None, Ok, Err}
+use Rattle.std.proofs.lemmas.Bool.{le-ltb, lt-ltb}
 use Rattle.mpw_records.specs.declared.fault.Code.{Code}
 use Rattle.mpw_records.specs.declared.fault.Code.TheVariants.{Short, BadLength}
-use Rattle.mpw_records.specs.Format.{data_fault}
 use Rattle.mpw_records.specs.Records.{RawRecord, RecordOutcome, first_fault, front, outcomes, outcomes_of, record_of, told_length, unless_fault}
-use Rattle.std.specs.Prelude.{slice_index}
 use Rattle.mpw_skipping.specs.Before.{kind_of, kind_until, offset_of, opened_after, opened_until}
 use Rattle.mpw_skipping.specs.Elements.{elements_in}
 use Rattle.mpw_skipping.specs.Found.{found_from, goes_on}
@@ -57,17 +55,6 @@ not_past true odd past rest r e = absurd cc
 not_past false true past rest r e = absurd cc
 not_past false false true rest r e = absurd cc
 not_past false false false rest r e = refl
-
--- What goes on is whole.
-pub told_within : (text : List ℕ) (at : ℕ) → goes_on (front text at) ≡ true
-    → told_length (drop at text) ≤ length (drop at text)
-told_within text at e =
-    let bytes = drop at text in
-    ltb-false _ _ (not_past (ltb (length bytes) 4)
-    (ltb (told_length bytes) 4 || eqb (told_length bytes % 2) 1)
-    (ltb (length bytes) (told_length bytes))
-    (data_fault (slice_index bytes 2) (slice_index bytes 3) (told_length bytes - 4))
-    (record_of at bytes) e)
 
 pub found_last : (n m : ℕ) (text : List ℕ) (at : ℕ) → n ≡ suc m → goes_on (front text at) ≡ false
     → found_from n text at ≡ front text at ∷ []

@@ -89,19 +89,6 @@ one_more xs x = length-append xs (x ∷ [])
 
 -- ---- a pass
 
-pub pass_none : (names : List (List ℕ)) → IsPass names names [] []
-pass_none names = record {
-  kept = λ name h. h;
-  handled = λ from to h. inl h;
-  within = λ from to h. h;
-  led = λ all top led some. led;
-  shorter = omega arith;
-  idle = λ same from to h. absurd (h_none h);
-}
-  where
-    h_none : false ≡ true → ⊥
-    h_none h = cc
-
 -- A link whose structure's name isn't there is left.
 pub pass_left : (before names : List (List ℕ)) (passed left : List Link) (l : Link)
     → IsPass before names passed left → has_name names l.0 ≡ false

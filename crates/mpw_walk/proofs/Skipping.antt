@@ -1,5 +1,5 @@
 -- Steps that are shorter than a gap, and the boxes of an array that so miss a window.
-use Rattle.std.proofs.Common.{◌≡◌, ℕ, zero, suc, ◌+◌, ◌-◌, ◌*◌, ◌/◌, ◌<◌, ◌≤◌, max, Bool, true, false, ◌&&◌, ◌⊎◌, inl, inr, ℤ, pos, negsuc, neg_ℤ, ◌+ℤ◌, ◌-ℤ◌, ◌*ℤ◌, ◌≤ℤ◌, ◌<ℤ◌, refl, ap, subst, ◌∙◌, arith}
+use Rattle.std.proofs.Common.{◌≡◌, ℕ, zero, suc, ◌+◌, ◌-◌, ◌*◌, ◌/◌, ◌<◌, ◌≤◌, max, Bool, true, false, ◌&&◌, ◌⊎◌, inl, inr, ℤ, pos, negsuc, neg_ℤ, ◌+ℤ◌, ◌-ℤ◌, ◌*ℤ◌, ◌<ℤ◌, refl, ap, subst, ◌∙◌, arith}
 use Rattle.std.specs.Prelude.{int_le, unsigned_abs}
 use Rattle.std.specs.Int.{int_min, int_max}
 use Rattle.std.proofs.Math.Nat.{le-div_iff_mul-le}
@@ -28,12 +28,6 @@ pub back_steps : (n : ℕ) (s : ℤ) → pos n *ℤ neg_ℤ s ≡ neg_ℤ (pos n
 back_steps n (pos zero) = omega (arith, ints)
 back_steps n (pos (suc c)) = omega (arith, ints)
 back_steps n (negsuc c) = omega (arith, ints)
-
-pub short_back : (gap : ℕ) (step : ℤ) → step ≤ℤ pos 0 → 1 ≤ gap → (k : ℕ)
-    → (pos k *ℤ step) <ℤ pos gap
-short_back gap (pos zero) h some k = omega (arith, ints, some)
-short_back gap (pos (suc c)) h some k = absurd (omega (arith, ints, h))
-short_back gap (negsuc c) h some k = omega (arith, ints, some)
 
 pub short_on : (gap k n : ℕ) (step : ℤ) → pos 0 <ℤ step → 1 ≤ gap
     → n ≤ (gap - 1) / unsigned_abs step + 1 → k < n → (pos k *ℤ step) <ℤ pos gap
