@@ -90,14 +90,14 @@ downwards p low b n j h l =
     )
 
 -- a maximal run that has the row
-record IsRunAt (p : ℤ → Bool) (j first top : ℤ) : Type 0 where
+pub record IsRunAt (p : ℤ → Bool) (j first top : ℤ) : Type 0 where
   pub low : first ≤ℤ j
   pub high : j <ℤ top
   pub rows : (i : ℤ) → first ≤ℤ i → i <ℤ top → p i ≡ true
   pub below : p (first -ℤ pos 1) ≡ false
   pub above : p top ≡ false
 
-run_at : (p : ℤ → Bool) (low high j : ℤ) → ((i : ℤ) → p i ≡ true → (low ≤ℤ i) × (i <ℤ high))
+pub run_at : (p : ℤ → Bool) (low high j : ℤ) → ((i : ℤ) → p i ≡ true → (low ≤ℤ i) × (i <ℤ high))
     → p j ≡ true → (first : ℤ) × (top : ℤ) × IsRunAt p j first top
 run_at p low high j b h =
     let in' = b j h in
