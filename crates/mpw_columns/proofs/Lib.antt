@@ -26,3 +26,9 @@ pub mod Alike
 pub mod Planned
 pub mod LayoutMade
 pub mod Blocked
+pub mod Pieced
+pub mod PiecesMoved
+pub mod ThingsShown
+pub mod RunThrough
+pub mod ThingsListed
+pub mod Solving

@@ -36,7 +36,7 @@ use Rattle.mpw_columns.proofs.Windowed.{agree_listed}
 
 -- ---- how far it lies
 
-window_in_plane : (axis : Axis) (core : Box2) (n : ℕ) (s : Square) → IsUpright core → n ≤ 2 ^ 33
+pub window_in_plane : (axis : Axis) (core : Box2) (n : ℕ) (s : Square) → IsUpright core → n ≤ 2 ^ 33
     → has_square (seen_box axis (across core n)) s ≡ true → IsSquareInPlane s
 window_in_plane V core n s u short e =
     let i = SquareIn-from_test (across core n) s e in

@@ -1,5 +1,5 @@
 -- Items that are moved show their squares moved, and what meets a window shows its squares.
-use Rattle.std.proofs.Common.{◌≡◌, ◌∙◌, ℤ, ◌+ℤ◌, Bool, true, ◌&&◌, ◌||◌, List, [], ◌∷◌, map, refl, sym, ap, arith}
+use Rattle.std.proofs.Common.{◌≡◌, ◌∙◌, ℤ, ◌+ℤ◌, Bool, true, ◌&&◌, ◌||◌, List, [], ◌∷◌, map, Option, refl, sym, ap, arith}
 use Rattle.std.proofs.lemmas.Int.{ints}
 use Rattle.mpw_geom.specs.declared.plane.Box2.{Box2}
 use Rattle.mpw_geom.specs.declared.plane.Layer.{Layer}
@@ -11,7 +11,8 @@ use Rattle.mpw_edges.specs.declared.run.Axis.TheVariants.{V, H}
 use Rattle.mpw_shapes.specs.Element.{element_has}
 use Rattle.mpw_hier.specs.Items.{Item}
 use Rattle.mpw_tiles.specs.Shown.{layer_of}
-use Rattle.mpw_tiles.specs.Laws.{SquaresLieInBoxes}
+use Rattle.mpw_walk.specs.Window.{is_met}
+use Rattle.mpw_tiles.specs.Laws.{SquaresLieInBoxes, IsInBox}
 use Rattle.mpw_job.specs.Computed.{square_before, item_has, is_layer, shown_on}
 use Rattle.mpw_job.proofs.Shapes.{tests_tell}
 use Rattle.mpw_keys.specs.Columns.{seen_box}
@@ -35,7 +36,7 @@ moved_has d item p s e f =
     ap (λ (q : Square). element_has item.element (oriented_square (undoing item.placing.orient) q))
     (same_square _ _ (omega (arith, ints, e)) (omega (arith, ints, f)))
 
-moved_shown : (d : Point) (items : List Item) (layer : Layer) (i j p q : ℤ) → p ≡ (i +ℤ d.x)
+pub moved_shown : (d : Point) (items : List Item) (layer : Layer) (i j p q : ℤ) → p ≡ (i +ℤ d.x)
     → q ≡ (j +ℤ d.y) → shown_on (map (moved d) items) layer p q ≡ shown_on items layer i j
 moved_shown d [] layer i j p q e f = refl
 moved_shown d (x ∷ xs) layer i j p q e f =
@@ -47,18 +48,26 @@ moved_shown d (x ∷ xs) layer i j p q e f =
 
 -- ---- what meets a window
 
-shows_window : SquaresLieInBoxes → (window : Box2) (all shown : List Item)
+-- where what has the square meets a window, and what meets it is shown, the square is
+pub shows_square : SquaresLieInBoxes → (window : Box2) (all shown : List Item)
     → AreWhole window all shown → AreSound all shown → (layer : Layer) (s : Square)
-    → has_square window s ≡ true → shown_on all layer s.column s.row ≡ shown_on shown layer s.column s.row
-shows_window law window all shown whole sound layer s k = same_tests _ _
+    → ((o : Option Box2) → IsInBox o s → is_met window o ≡ true)
+    → shown_on all layer s.column s.row ≡ shown_on shown layer s.column s.row
+shows_square law window all shown whole sound layer s meets = same_tests _ _
     (λ e.
     let p = (tests_tell all layer).shown s.column s.row e in
     let item = p.1.0 in
-    let met = is_met_at window _ s (law item layer p.0 s p.1.2) k in
+    let met = meets _ (law item layer p.0 s p.1.2) in
     (tests_tell shown layer).all s.column s.row p.0 (item, whole item p.1.1 met, p.1.2))
     (λ e.
     let p = (tests_tell shown layer).shown s.column s.row e in
     (tests_tell all layer).all s.column s.row p.0 (p.1.0, sound p.1.0 p.1.1, p.1.2))
+
+shows_window : SquaresLieInBoxes → (window : Box2) (all shown : List Item)
+    → AreWhole window all shown → AreSound all shown → (layer : Layer) (s : Square)
+    → has_square window s ≡ true → shown_on all layer s.column s.row ≡ shown_on shown layer s.column s.row
+shows_window law window all shown whole sound layer s k =
+    shows_square law window all shown whole sound layer s (λ o h. is_met_at window o s h k)
 
 pub moved_show : SquaresLieInBoxes → MovedItemsShowDisplaced
 moved_show law V all first second window by whole sound other also same layer i j l u low high =

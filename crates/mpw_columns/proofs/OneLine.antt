@@ -62,7 +62,7 @@ module _ (steps : Line → ℤ → Bool) (k l : Key) (m : IsMaximal steps k) (n 
 
 -- ---- rule and side of a run
 
-small_side : (check : Check) (distance : ℕ) (a b : Squares) (side : ℕ) (x1 x2 j : ℤ)
+pub small_side : (check : Check) (distance : ℕ) (a b : Squares) (side : ℕ) (x1 x2 j : ℤ)
     → IsPairStep check distance a b side x1 x2 j → side < 2
 small_side (Width l) distance a b side x1 x2 j h = let e = h.0.0 in omega (arith, e)
 small_side (Space l) distance a b side x1 x2 j h = let e = h.0.0 in omega (arith, e)

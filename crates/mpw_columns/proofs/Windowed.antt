@@ -1,5 +1,5 @@
 -- The rectangles of what meets a window have the squares of the layout there, as they are seen along an axis.
-use Rattle.std.proofs.Common.{◌≡◌, ℕ, Bool, true, false, cond, List, [], ◌∷◌, Option, inl, inr, sym, subst, ap, ◌∙◌, arith}
+use Rattle.std.proofs.Common.{◌≡◌, ℕ, pos, ◌+ℤ◌, ◌-ℤ◌, ◌≤ℤ◌, Bool, true, false, cond, List, [], ◌∷◌, Option, inl, inr, sym, subst, ap, ◌∙◌, arith}
 use Rattle.std.specs.Prelude.{Contains, filter, ◌↔◌}
 use Rattle.std.specs.Int.{int_min, int_max}
 use Rattle.std.proofs.lemmas.Bool.{and_from}
@@ -25,6 +25,7 @@ use Rattle.mpw_keys.specs.Columns.{seen_box}
 use Rattle.mpw_columns.specs.Seen.{seen_square, seen_on}
 use Rattle.mpw_columns.specs.Internal.Found.{AgreeIn}
 use Rattle.mpw_columns.specs.Internal.Listed.{ShowSeen}
+use Rattle.mpw_columns.specs.Internal.Pieces.{MeetsSquaresOf, smaller}
 
 -- ---- what a filter keeps
 
@@ -65,6 +66,31 @@ shares a b s h k =
     and_from _ _
     (test_from_le (int_max a.x0 b.x0) (int_min a.x1 b.x1) (omega (arith, ints, clamps)))
     (test_from_le (int_max a.y0 b.y0) (int_min a.y1 b.y1) (omega (arith, ints, clamps)))
+
+-- a square of a window lies in a box that is smaller by 1 on each side, or meets it
+pub shares_smaller : (a b small : Box2) (s : Square) → small ≡ smaller b → small.x0 ≤ℤ small.x1
+    → small.y0 ≤ℤ small.y1 → has_square b s ≡ true → has_square a s ≡ true → do_meet a small ≡ true
+unfolding do_meet
+shares_smaller a b small s e x y h k =
+    let p = SquareIn-from_test b s h in
+    let q = SquareIn-from_test a s k in
+    let b0 = p.left in let b1 = p.right in let b2 = p.bottom in let b3 = p.top in
+    let a0 = q.left in let a1 = q.right in let a2 = q.bottom in let a3 = q.top in
+    let l : small.x0 ≡ (b.x0 +ℤ pos 1) = ap (λ (o : Box2). o.x0) e in
+    let r : small.x1 ≡ (b.x1 -ℤ pos 1) = ap (λ (o : Box2). o.x1) e in
+    let low : small.y0 ≡ (b.y0 +ℤ pos 1) = ap (λ (o : Box2). o.y0) e in
+    let high : small.y1 ≡ (b.y1 -ℤ pos 1) = ap (λ (o : Box2). o.y1) e in
+    and_from _ _
+    (test_from_le (int_max a.x0 small.x0) (int_min a.x1 small.x1) (omega (arith, ints, clamps)))
+    (test_from_le (int_max a.y0 small.y0) (int_min a.y1 small.y1) (omega (arith, ints, clamps)))
+
+pub is_met_by : (window met : Box2) (o : Option Box2) (s : Square) → MeetsSquaresOf window met
+    → IsInBox o s → has_square window s ≡ true → is_met met o ≡ true
+is_met_by window met o s meets h k = subst (λ (x : Option Box2). is_met met x ≡ true) (sym h.is)
+    (meets h.corners s k h.has)
+
+pub meets_itself : (window : Box2) → MeetsSquaresOf window window
+meets_itself window b s h k = shares b window s k h
 
 pub is_met_at : (window : Box2) (o : Option Box2) (s : Square) → IsInBox o s
     → has_square window s ≡ true → is_met window o ≡ true

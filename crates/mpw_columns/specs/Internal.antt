@@ -5,3 +5,4 @@ pub mod Checked
 pub mod Found
 pub mod Like
 pub mod Listed
+pub mod Pieces

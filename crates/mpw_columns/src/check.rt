@@ -1,53 +1,36 @@
 //! Checking by columns.
 
-ghost use Rattle.std.specs.Prelude.{◌≡◌, ◌+◌, ◌≤◌, ◌↔◌, length, take, drop, All, Contains, IfOk, IfSome};
+ghost use Rattle.std.specs.Prelude.{◌≡◌, ◌+◌, ◌≤◌, length, take, drop, All, IfOk};
 ghost use Rattle.std.specs.List.{AllZip};
-ghost use Rattle.mpw_markers.specs.declared.marker.Key.{Key as KeyValue};
-ghost use Rattle.mpw_tiles.specs.Snapshots.{shown};
-ghost use Rattle.mpw_job.specs.Answers.{listed_on};
-ghost use Rattle.mpw_job.specs.Computed.{shown_on};
 ghost use Rattle.mpw_job.specs.Layout.{AreLayoutMarkers};
-ghost use Rattle.mpw_keys.specs.Columns.{seen_box, upright, across};
-ghost use Rattle.mpw_columns.specs.Seen.{seen_on};
+ghost use Rattle.mpw_keys.specs.Columns.{seen_box, upright};
 ghost use Rattle.mpw_columns.specs.Plan.{IsColumnWithin};
 ghost use Rattle.mpw_columns.specs.Lists.{IsColumnList};
-ghost use Rattle.mpw_columns.specs.Found.{IsFound};
-ghost use Rattle.mpw_columns.specs.Internal.Found.{IsUpright, AgreeIn};
-ghost use Rattle.mpw_columns.specs.Internal.Blocks.{IsUprightIn, AreUprightIn};
-ghost use Rattle.mpw_columns.specs.Internal.Checked.{IsLayout, HaveLists, AgreeInColumn, IsShared};
+ghost use Rattle.mpw_columns.specs.Internal.Found.{IsUpright};
+ghost use Rattle.mpw_columns.specs.Internal.Checked.{IsLayout, HaveLists, IsTop, IsBatch};
 
-use crate::block::{is_part, whole_of};
-use crate::columns::{upright, walk_within};
-use crate::divide::add_column;
+use crate::batch::{Batch, Top, count_along, top_of};
 use crate::earlier::equal_to_earlier;
 use crate::laws::{columns_have_whole_runs, columns_lie_within, lists_make_the_layout};
 use crate::like::{lists_with, own_columns, shares_of};
-use crate::list::{list_shapes, seen_box};
-use crate::look::{Look, layers_of};
-use crate::part::{parts_in, window_of};
+use crate::look::layers_of;
 use crate::plan::counted_columns;
 use crate::progress::Progress;
 use mpw_deck::Rule;
 use mpw_edges::{Axis, test_decides_pair_steps};
 use mpw_geom::{Box2, Layer};
 use mpw_keys::{Column, ColumnKeys, together};
-use mpw_markers::{Book, Key, Marker};
-use mpw_tiles::{Rectangle, Snapshot, greatest_distance, squares_lie_in_boxes};
+use mpw_markers::{Book, Marker};
+use mpw_tiles::{Snapshot, greatest_distance};
 use rayon::current_num_threads;
 use rayon::prelude::*;
 use std::alloc::{AllocError, Global};
 use std::thread::Threads;
 
-/// Halvings of a column.
-const MAX_DEPTH: u32 = 60;
-
 /// How many columns of a batch there are for each processor, and how many at least.
 const FOR_EACH: usize = 4;
 
 const AT_LEAST: usize = 16;
-
-/// Where the top has so many shapes and references of its own, a batch's columns are listed together.
-const MANY_OWN: usize = 1 << 18;
 
 /// How many shapes a column may show: with the walks and rectangles of so many a thread stays within some ten megabytes.
 pub const MAX_SHOWN: u32 = 1 << 16;
@@ -61,162 +44,22 @@ pub(crate) struct Layout<'a> {
     pub(crate) distance: u32,
 }
 
-/// The layer's place among all layers.
-fn layer_code(layer: Layer) -> u64 {
-    u64::from(layer.layer) * 65536 + u64::from(layer.datatype)
-}
-
-/// The rectangles by layer. A sort of them.
-fn by_layer(rectangles: Vec<Rectangle>) -> Vec<Rectangle>
-    ensures { listed_on result.items ≡ listed_on rectangles.items }
-{
-    let mut rectangles = rectangles;
-    rectangles.sort_unstable_by_key(|r| layer_code(r.layer));
-    rectangles
-}
-
-/// The rectangles of the layout in the window of a core, by layer, as they are seen along the axis.
-fn rectangles_in(
-    alloc: Global,
-    layout: &Layout<'_>,
-    axis: Axis,
-    core: &Box2,
-) -> Result<Vec<Rectangle>, AllocError>
-    requires layout { IsLayout layout.now }
-    requires upright { IsUpright core.now }
-    ensures { IfOk result (λ v. AgreeIn layout.now.layers.now (across core.now (layout.now.distance + 1))
-        (seen_on axis (shown_on (shown layout.now.snapshot.now))) (listed_on v.items)) }
-{
-    squares_lie_in_boxes();
-    let mut walk = walk_within(layout.snapshot, axis, core, layout.distance);
-    let listed = list_shapes(alloc, layout.layers, axis, &mut walk)?;
-    let parts = parts_in(alloc, listed.as_slice(), &window_of(core, layout.distance))?;
-    Ok(by_layer(parts))
-}
-
-/// The rectangles of the layout in the window of a column, listed once for columns that lie in it.
-#[derive(Drop)]
-pub(crate) struct Shared {
-    whole: Column,
-    rectangles: Vec<Rectangle>,
-}
-
-/// The core of a column, seen along its axis.
-fn core_of(layout: &Layout<'_>, column: &Column) -> Box2
-    ensures { result ≡ upright (seen_box column.now.axis layout.now.extent) column.now }
-{
-    upright(&seen_box(column.axis, &layout.extent), column)
-}
-
-/// The rectangles in the window of a column, by layer, as they are seen along its axis: parts of those that are shared, where the column lies in theirs,
-/// which is one pass over them, or else what [`rectangles_in`] lists.
-fn rectangles_of(
-    alloc: Global,
-    layout: &Layout<'_>,
-    shared: &Option<Shared>,
-    column: &Column,
-) -> Result<Vec<Rectangle>, AllocError>
-    requires layout { IsLayout layout.now }
-    requires upright { IsUprightIn layout.now column.now }
-    requires shared { IfSome shared.now (IsShared layout.now) }
-    ensures { IfOk result (λ v. AgreeInColumn layout.now column.now v.items) }
-{
-    let core = core_of(layout, column);
-    match shared {
-        Some(shared) if is_part(column, &shared.whole) => {
-            let window = window_of(&core, layout.distance);
-            parts_in(alloc, shared.rectangles.as_slice(), &window)
-        }
-        _ => rectangles_in(alloc, layout, column.axis, &core),
-    }
-}
-
-/// The keys of the maximal runs in a core that is seen along the axis, from rectangles that stand by layer.
-fn keys_in(
-    alloc: Global,
-    layout: &Layout<'_>,
-    axis: Axis,
-    core: &Box2,
-    rectangles: &[Rectangle],
-) -> Result<Vec<Key>, AllocError>
-    requires layout { IsLayout layout.now }
-    requires upright { IsUpright core.now }
-    requires agree { AgreeIn layout.now.layers.now (across core.now (layout.now.distance + 1))
-        (seen_on axis (shown_on (shown layout.now.snapshot.now))) (listed_on rectangles.now) }
-    ensures { IfOk result (λ v. (k : KeyValue) → Contains v.items k
-        ↔ IsFound layout.now.snapshot.now.deck.rules axis (seen_on axis (shown_on (shown layout.now.snapshot.now))) core.now k) }
-{
-    let look = Look {
-        rules: layout.snapshot.deck().rules().as_slice(),
-        layers: layout.layers,
-        axis,
-        distance: layout.distance,
-    };
-    let mut keys = Vec::new(alloc);
-    add_column(alloc, &mut keys, &look, rectangles, core, MAX_DEPTH)?;
-    Ok(keys)
-}
-
-/// The keys of a column of the layout. What the walk within its window takes, or a pass over the rectangles that are shared; a sort of its rectangles, and
-/// what [`add_column`] takes. An error is want of memory.
+/// The keys of a column of the layout. What the batch's things or rectangles take ([`Batch::keys_of`]), and a sort of the keys. An error is want of memory.
 fn check_column(
     alloc: Global,
     layout: &Layout<'_>,
-    shared: &Option<Shared>,
+    batch: &Batch,
     column: &Column,
 ) -> Result<ColumnKeys, AllocError>
     requires layout { IsLayout layout.now }
     requires upright { IsUpright (upright (seen_box column.now.axis layout.now.extent) column.now) }
-    requires shared { IfSome shared.now (IsShared layout.now) }
+    requires batch { IsBatch layout.now batch.now }
     ensures { IfOk result (IsColumnList layout.now.snapshot.now column.now) }
 {
     columns_have_whole_runs();
     test_decides_pair_steps();
-    let rectangles = rectangles_of(alloc, layout, shared, column)?;
-    let core = core_of(layout, column);
-    let keys = keys_in(alloc, layout, column.axis, &core, rectangles.as_slice())?;
+    let keys = batch.keys_of(alloc, layout, column)?;
     Ok(ColumnKeys::of(keys))
-}
-
-/// Whether columns are listed together: where the top has many shapes of its own, each of which a walk looks at, and the columns fill most of what they lie in.
-fn are_shared(layout: &Layout<'_>, columns: &[Column], whole: &Column) -> bool {
-    let Some(top) = layout
-        .snapshot
-        .shelf()
-        .nodes(0)
-        .and_then(|nodes| nodes.last())
-    else {
-        return false;
-    };
-    let mut width = 0u64;
-    for column in columns {
-        width = width.saturating_add(column.from.abs_diff(column.to));
-    }
-    let own = top.shapes.len().saturating_add(top.children.len());
-    own >= MANY_OWN && whole.from.abs_diff(whole.to) / 2 <= width
-}
-
-/// The rectangles of the layout in the window of the column of all places of these columns, where they are of one axis and worth it.
-fn shared_of(
-    alloc: Global,
-    layout: &Layout<'_>,
-    columns: &[Column],
-) -> Result<Option<Shared>, AllocError>
-    requires layout { IsLayout layout.now }
-    requires upright { AreUprightIn layout.now columns.now }
-    ensures { IfOk result (λ o. IfSome o (IsShared layout.now)) }
-{
-    if columns.is_empty() {
-        return Ok(None);
-    }
-    let Some(whole) = whole_of(layout, columns, 0, columns.len()) else {
-        return Ok(None);
-    };
-    if !are_shared(layout, columns, &whole) {
-        return Ok(None);
-    }
-    let rectangles = rectangles_in(alloc, layout, whole.axis, &core_of(layout, &whole))?;
-    Ok(Some(Shared { whole, rectangles }))
 }
 
 /// The keys of columns, a list for each, found in at most two threads for each processor.
@@ -224,22 +67,24 @@ fn lists_of(
     rt: &(impl Threads + Sync),
     alloc: Global,
     layout: &Layout<'_>,
+    top: &Top,
     columns: &[Column],
 ) -> Result<Vec<ColumnKeys>, AllocError>
     requires layout { IsLayout layout.now }
     requires upright { All (λ c. IsUpright (upright (seen_box c.axis layout.now.extent) c)) columns.now }
+    requires top { IsTop layout.now top.now }
     ensures { IfOk result (λ v. AllZip (IsColumnList layout.now.snapshot.now) columns.now v.items) }
 {
-    let shared = &shared_of(alloc, layout, columns)?;
+    let batch = &top.batch(alloc, layout, columns)?;
     columns
         .par_iter()
         .with_min_len(1)
         .map(
             |column: &Column| -> Result<ColumnKeys, AllocError>
                 requires { IsLayout layout.now × (IsUpright (upright (seen_box column.now.axis layout.now.extent) column.now)
-                    × IfSome shared.now (IsShared layout.now)) }
+                    × IsBatch layout.now batch.now) }
                 ensures { IfOk result (IsColumnList layout.entry.now.snapshot.now column.now) }
-            { check_column(alloc, layout, shared, column) },
+            { check_column(alloc, layout, batch, column) },
         )
         .collect::<Result<Vec<ColumnKeys>, AllocError>>(rt, alloc)?
 }
@@ -295,10 +140,14 @@ fn all_lists<P: Progress>(
     let (total, batch) = (own.columns.len(), batch_of(rt));
     progress.tell(0, total, 0);
     let mut lists = Vec::with_capacity(alloc, total)?;
+    let mut top = top_of(alloc, layout, Axis::V)?;
     let (mut reached, mut markers) = (0, 0usize);
     while reached < total {
-        let count = batch.min(total - reached);
-        let mut more = lists_of(rt, alloc, layout, batch_at(own.columns, reached, count))?;
+        let turned = top.turned(alloc, layout, own.columns[reached].axis)?;
+        top = turned;
+        let count = count_along(own.columns, reached, batch.min(total - reached));
+        let columns = batch_at(own.columns, reached, count);
+        let mut more = lists_of(rt, alloc, layout, &top, columns)?;
         markers = markers.saturating_add(keys_from(own, reached, more.as_slice()));
         lists.append(&mut more)?;
         reached += count;

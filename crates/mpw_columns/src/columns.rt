@@ -26,8 +26,8 @@ const MAX_DEPTH: u32 = 32;
 /// Where there are so many columns of an axis, no further one is halved.
 const MAX_COLUMNS: usize = 1 << 20;
 
-/// How many shapes a layout shows where, on which lines its arrays repeat, its extent as it is seen along an axis, how far windows reach beyond columns, and how many shapes
-/// a column may show.
+/// How many shapes a layout shows where, on which lines its arrays repeat, its extent as it is seen along an axis, how far windows reach beyond columns, how many shapes
+/// a column may show, and how many where no array repeats.
 #[derive(Clone, Copy)]
 pub(crate) struct View<'a> {
     pub(crate) counts: &'a Counts,
@@ -36,6 +36,7 @@ pub(crate) struct View<'a> {
     pub(crate) seen: Box2,
     pub(crate) distance: u32,
     pub(crate) most: u32,
+    pub(crate) most_elsewhere: u32,
 }
 
 /// The core of a column, seen along its axis, of an extent that is seen so too.
@@ -147,7 +148,7 @@ fn is_crowded(view: &View<'_>, column: &Column) -> bool
     } else if line_between(view.lattices, column.from, column.to).is_some() {
         is_cut_at_line(view, width, load)
     } else {
-        load.is_above(most)
+        load.is_above(u64::from(view.most_elsewhere))
     }
 }
 

@@ -23,7 +23,7 @@ use std::collections::BTreeMap;
 const MOST_KEPT: usize = 1 << 20;
 
 /// The most columns times the shapes and references of all structures, each once: where there are more, no contents are made.
-const MOST_LOOKED_AT: u64 = 1 << 26;
+const MOST_LOOKED_AT: u64 = 1 << 22;
 
 /// How often blocks are cut in two.
 const MAX_DEPTH: u32 = 64;

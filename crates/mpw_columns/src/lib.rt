@@ -15,14 +15,17 @@
 //! rules (`leaf`). For horizontal edges all is seen with the coordinates exchanged, from where shapes are listed on (`list`).
 #![tactic(auto)]
 
+mod batch;
 mod block;
 mod check;
 mod columns;
+mod cores;
 mod displaced;
 mod divide;
 mod earlier;
 mod equal;
 mod follow;
+mod kept;
 mod laws;
 mod leaf;
 mod like;
@@ -32,6 +35,9 @@ mod look;
 mod part;
 mod plan;
 mod progress;
+mod shared;
+mod solve;
+mod things;
 
 pub use check::{MAX_SHOWN, check_columns, lists_of_columns};
 pub use follow::columns_follow_on;

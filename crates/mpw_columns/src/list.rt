@@ -57,7 +57,7 @@ fn list_boxes(
 }
 
 /// Lists the rectangles of a shape, where it is on one of the layers. An error is want of memory.
-fn list_shape(
+pub(crate) fn list_shape(
     alloc: Global,
     listed: &mut Vec<Rectangle>,
     layers: &[Layer],

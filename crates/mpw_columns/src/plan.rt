@@ -8,6 +8,7 @@ ghost use Rattle.mpw_keys.specs.Columns.{AreColumnsOf};
 ghost use Rattle.mpw_columns.specs.Plan.{AreColumnsOfLayout};
 ghost use Rattle.mpw_columns.specs.Internal.Checked.{IsCounted};
 
+use crate::batch::is_placed;
 use crate::columns::{View, columns_in};
 use crate::list::seen_box;
 use mpw_cuts::{Counts, lattices_of};
@@ -16,6 +17,9 @@ use mpw_geom::Box2;
 use mpw_keys::Column;
 use mpw_tiles::{Snapshot, greatest_distance};
 use std::alloc::{AllocError, Global};
+
+/// So many times as many shapes a column may show where they come from few structures: its things are fewer.
+const MORE_PLACED: u32 = 16;
 
 /// The columns of an axis.
 fn columns_along(
@@ -40,6 +44,11 @@ fn columns_along(
         seen,
         distance: greatest_distance(snapshot.deck().rules().as_slice()),
         most,
+        most_elsewhere: if is_placed(snapshot) {
+            most.saturating_mul(MORE_PLACED)
+        } else {
+            most
+        },
     };
     columns_in(alloc, &view)
 }

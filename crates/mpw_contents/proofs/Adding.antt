@@ -161,6 +161,26 @@ module _ (l : Layout) {X : Type 0} (f : X → List Item) (old mid new : List Thi
       new h k)
 
 module _ (l : Layout) where
+  -- things that show a list are added, and by it what it shows of another
+  pub adds_through : (xs ys : List Item) (old new : List Thing) → Shows l.window xs ys
+      → Adds l ys old new → Adds l xs old new
+  adds_through xs ys old new h k = record {
+    made = k.made;
+    is = k.is;
+    are = k.are;
+    shows = shows_again l.window xs ys (things_items l.shelf.now k.made) h k.shows;
+  }
+
+  -- all that there are
+  pub adds_all : (new : List Thing) → All (IsThing l.nodes.now) new
+      → Adds l (things_items l.shelf.now new) [] new
+  adds_all new h = record {
+    made = new;
+    is = refl;
+    are = h;
+    shows = shows_same l.window (things_items l.shelf.now new) (things_items l.shelf.now new) refl;
+  }
+
   -- a pass over what was made
   pub adds_again : (items : List Item) (mid new : List Thing) → Adds l items [] mid
       → Adds l (things_items l.shelf.now mid) [] new → Adds l items [] new

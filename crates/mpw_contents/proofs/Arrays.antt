@@ -1,6 +1,7 @@
 -- An array as it is added: as much of it as may meet the window.
 use Rattle.std.proofs.Common.{◌≡◌, ◌++◌, ◌∷◌, [], false, true, List, map, Some, None, sym, ap, subst, ◌∙◌}
 use Rattle.std.specs.Prelude.{slice_get, Contains, option_map, IfSome}
+use Rattle.mpw_geom.specs.Plane.{IsInPlane}
 use Rattle.mpw_geom.specs.declared.plane.Box2.{Box2}
 use Rattle.mpw_geom.specs.declared.placing.Placing.{Placing}
 use Rattle.mpw_hier.specs.declared.node.Node.{Node}
@@ -21,6 +22,12 @@ use Rattle.mpw_contents.proofs.Instances.{away_missed, fitted_shows}
 use Rattle.mpw_contents.proofs.Layouts.{node_extent, node_near}
 use Rattle.mpw_contents.proofs.Members.{part_of}
 use Rattle.mpw_contents.proofs.Missing.{placed_missed}
+
+-- an array whose node is its structure's
+pub own_array : (l : Layout) (a : Array) (node : Node) → slice_get l.nodes.now a.node ≡ Some node
+    → node.structure ≡ a.structure → IsInPlane a.first.by → IsArray l.nodes.now a
+own_array l a node at structure near =
+    record { node = node; at = at; structure = structure; near = near }
 
 module _ (law : NamesAreOpened) (l : Layout) (w : IsLayout l) (a : Array)
     (h : IsArray l.nodes.now a) (node : Node)
@@ -62,16 +69,26 @@ module _ (law : NamesAreOpened) (l : Layout) (w : IsLayout l) (a : Array)
       (shows_none l.window (placed_items (reference_of a) items)
       (away_missed l.window items node.size.extent missed a e is away))
 
+  pub left_is : (e : Box2) (b : Array) → IsFitted a l.window e b → IsArray l.nodes.now b
+  left_is e b fit = record {
+    node = node;
+    at = subst (λ place. slice_get l.nodes.now place ≡ Some node) (sym fit.node) at;
+    structure = structure_is ∙ sym fit.structure;
+    near = fit.near;
+  }
+
+  pub left_shows : (e : Box2) → node.size.extent ≡ Some e → (b : Array) → IsFitted a l.window e b
+      → Shows l.window (thing_items l.shelf.now (things.Array a))
+      (thing_items l.shelf.now (things.Array b))
+  unfolding thing_items
+  left_shows e is b fit =
+      subst (λ place. Shows l.window (placed_items (reference_of a) items)
+      (placed_items (reference_of b) (place_shown l.shelf.now place)))
+      (sym fit.structure) (fitted_shows l.window items node.size.extent missed a b e is fit)
+
   pub some_left : (e : Box2) → node.size.extent ≡ Some e → (b : Array) → IsFitted a l.window e b
       → (old new : List Thing)
       → new ≡ old ++ things.Array b ∷ [] → Adds l (thing_items l.shelf.now (things.Array a)) old new
-  unfolding thing_items
   some_left e is b fit old new made =
-      adds_one l (placed_items (reference_of a) items) old new (things.Array b) made (record {
-        node = node;
-        at = subst (λ place. slice_get l.nodes.now place ≡ Some node) (sym fit.node) at;
-        structure = structure_is ∙ sym fit.structure;
-        near = fit.near;
-      }) (subst (λ place. Shows l.window (placed_items (reference_of a) items)
-      (placed_items (reference_of b) (place_shown l.shelf.now place)))
-      (sym fit.structure) (fitted_shows l.window items node.size.extent missed a b e is fit))
+      adds_one l (thing_items l.shelf.now (things.Array a)) old new (things.Array b) made
+      (left_is e b fit) (left_shows e is b fit)

@@ -104,6 +104,11 @@ instance_box a e row column =
     ∙ ap (λ b. box_on b a.row_step row)
     (box_stepped a.first.orient a.first.by column a.column_step e)
 
+box_still : (b : Box2) (s : Point) → box_on b s 0 ≡ b
+box_still b s =
+    same_box _ _ (omega (arith, ints)) (omega (arith, ints)) (omega (arith, ints))
+    (omega (arith, ints))
+
 module _ (a : Array) (there window e : Box2) (is : there ≡ placed_box a.first e) where
   at_box : (row column : ℕ) → do_meet (box_at there a row column) window ≡ false
       → IsInstanceAway a window e row column
@@ -118,6 +123,16 @@ module _ (a : Array) (there window e : Box2) (is : there ≡ placed_box a.first 
 
   pub no_rows : (p : Places) → RowsMissed there window a p → p.end ≤ p.from → IsAway a window e
   no_rows p missed h row column lt less = at_box row column (missed row column lt (nowhere p h row))
+
+  -- the only one of an array
+  pub single_away : a.columns ≡ 1 → a.rows ≡ 1 → do_meet there window ≡ false → IsAway a window e
+  single_away columns rows miss row column lt less =
+      let r : row ≡ 0 = omega (arith, lt, rows) in
+      let c : column ≡ 0 = omega (arith, less, columns) in
+      at_box row column (ap (λ n. do_meet (box_at there a n column) window) r
+      ∙ ap (λ n. do_meet (box_at there a 0 n) window) c
+      ∙ ap (λ b. do_meet b window) (box_still (box_on there a.column_step 0) a.row_step
+      ∙ box_still there a.column_step) ∙ miss)
 
   -- ---- an array of some of them
 

@@ -12,4 +12,5 @@ pub mod Spans
 pub mod Instances
 pub mod Arrays
 pub mod Coded
+pub mod Layered
 pub mod Examples

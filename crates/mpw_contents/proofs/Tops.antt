@@ -1,7 +1,8 @@
 -- The top as an array of one, and what all things show.
-use Rattle.std.proofs.Common.{◌≡◌, ℕ, ◌-◌, List, [], ◌∷◌, length, map, take, Option, Some, refl, sym, ap, subst, ◌∙◌, arith}
+use Rattle.std.proofs.Common.{◌≡◌, ℕ, ◌-◌, List, [], ◌∷◌, ◌++◌, length, map, take, Option, Some, refl, sym, ap, subst, ◌∙◌, arith}
 use Rattle.std.specs.Prelude.{slice_get, IfSome, option_copied}
 use Rattle.std.specs.Borrow.{Bor}
+use Rattle.std.specs.List.{flat_map}
 use Rattle.std.proofs.lemmas.Int.{ints}
 use Rattle.std.proofs.lemmas.List.{append-nil}
 use Rattle.mpw_geom.proofs.Chains.{same_point}
@@ -19,8 +20,9 @@ use Rattle.mpw_walk.proofs.Fronts.{one}
 use Rattle.mpw_walk.proofs.Placings.{same_placing, here}
 use Rattle.mpw_contents.specs.declared.layout.Layout.{Layout}
 use Rattle.mpw_contents.specs.declared.thing.Array.{Array}
+use Rattle.mpw_contents.specs.declared.thing.Thing.{Thing}
 use Rattle.mpw_contents.specs.declared.thing.Thing.TheVariants as things
-use Rattle.mpw_contents.specs.Things.{place_shown, thing_items}
+use Rattle.mpw_contents.specs.Things.{place_shown, thing_items, things_items}
 use Rattle.mpw_contents.specs.Internal.Making.{IsLayout}
 use Rattle.mpw_contents.specs.Internal.Opening.{NamesAreOpened}
 use Rattle.mpw_contents.proofs.Layouts.{named_is, node_named}
@@ -81,6 +83,17 @@ top_shown law l w top at node =
     one_shown ss top.structure node
     ∙ sym (node_named l w top (record { place = length l.nodes.now - 1; at = at }) s.top named)
     ∙ named_is l w s.top ∙ sym (flat_is law ss s w.nodes.is)
+
+-- the top alone
+pub top_alone : (l : Layout) (ss : List Submission) (a : Array) (old new : List Thing)
+    → l.shelf.now ≡ ss → old ≡ [] → new ≡ old ++ things.Array a ∷ []
+    → thing_items l.shelf.now (things.Array a) ≡ flat l.shelf.now 0
+    → things_items ss new ≡ flat ss 0
+unfolding things_items
+top_alone l ss a old new shelf none is shown =
+    ap (flat_map (thing_items ss)) (is ∙ ap (λ ts. ts ++ things.Array a ∷ []) none)
+    ∙ append-nil (thing_items ss (things.Array a))
+    ∙ subst (λ s. thing_items s (things.Array a) ≡ flat s 0) shelf shown
 
 -- what a shelf gives is a layout
 pub layout_is : (l : Layout) (o : Option (Bor (List Node))) → o ≡ Some l.nodes

@@ -1,12 +1,17 @@
 -- What contents of a window are, by what they show.
-use Rattle.std.specs.Prelude.{◌≡◌, true, List, Contains}
+use Rattle.std.specs.Prelude.{◌≡◌, true, List, Contains, IsSomeAnd}
 use Rattle.mpw_geom.specs.Plane.{IsInPlane}
 use Rattle.mpw_geom.specs.declared.plane.Box2.{Box2}
+use Rattle.mpw_geom.specs.declared.plane.Layer.{Layer}
+use Rattle.mpw_structures.specs.declared.element.Element.{Element}
+use Rattle.mpw_structures.specs.declared.element.Element.TheVariants as elements
 use Rattle.mpw_hier.specs.Boxes.{item_box}
 use Rattle.mpw_hier.specs.Items.{Item}
+use Rattle.mpw_hier.specs.declared.submission.Submission.{Submission}
 use Rattle.mpw_walk.specs.Window.{is_met}
 use Rattle.mpw_contents.specs.declared.thing.Thing.{Thing}
 use Rattle.mpw_contents.specs.declared.thing.Thing.TheVariants as things
+use Rattle.mpw_contents.specs.Things.{element_in}
 
 -- Each item that meets the window is shown.
 abbrev pub AreWhole : Box2 → (all shown : List Item) → Type 0
@@ -21,3 +26,15 @@ AreSound all shown = (i : Item) → Contains shown i → Contains all i
 abbrev pub IsNear : Thing → Type 0
 IsNear (things.Shape shape) = IsInPlane shape.placing.by
 IsNear (things.Array a) = IsInPlane a.first.by
+
+-- An element is a shape on one of the layers.
+abbrev pub IsOn : List Layer → Element → Type 0
+IsOn layers (elements.Boundary b) = Contains layers b.layer
+IsOn layers (elements.Path p) = Contains layers p.layer
+IsOn layers (elements.Reference r) = ⊥
+
+-- A thing is an array, or a shape on one of the layers.
+abbrev pub IsThingOn : List Submission → List Layer → Thing → Type 0
+IsThingOn ss layers (things.Shape shape) =
+    IsSomeAnd (element_in ss shape.structure shape.element) (IsOn layers)
+IsThingOn ss layers (things.Array a) = Unit {0}

@@ -3,3 +3,4 @@ pub mod Making
 pub mod Opening
 pub mod Moving
 pub mod Fitting
+pub mod Layers

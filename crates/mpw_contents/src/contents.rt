@@ -1,9 +1,10 @@
 //! Contents: a list of things.
 
-ghost use Rattle.std.specs.Prelude.{◌≡◌, All};
+ghost use Rattle.std.specs.Prelude.{◌≡◌, All, IfOk};
 ghost use Rattle.mpw_contents.specs.Contents.{IsNear};
 
 use crate::thing::Thing;
+use std::alloc::{AllocError, Global};
 use std::marker::Model;
 
 /// Things in order, which contracts see as their list. Each is displaced by 2^48 nm at most.
@@ -37,5 +38,17 @@ impl Contents {
         ensures near { All IsNear self.now }
     {
         &self.things
+    }
+
+    /// The same things once more.
+    ///
+    /// # Errors
+    /// Want of memory.
+    pub fn copy(&self, alloc: Global) -> Result<Contents, AllocError>
+        ensures { IfOk result (λ things. things ≡ self.now) }
+    {
+        let mut things = Vec::new(alloc);
+        things.extend_from_slice(&self.things)?;
+        Ok(Contents { things })
     }
 }

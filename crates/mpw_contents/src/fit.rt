@@ -292,9 +292,8 @@ fn cut(array: &Array, columns: Places, rows: Places) -> Option<Array>
     })
 }
 
-/// An array without the columns and the rows that division tells miss a window, where its structure has that extent; none
-/// where there are no others. It may keep too much, as it does where columns and rows lead along one axis.
-pub fn fitted(array: &Array, window: Box2, extent: Box2) -> Option<Array>
+/// An array without the columns and the rows that division tells miss a window.
+fn divided(array: &Array, window: Box2, extent: Box2) -> Option<Array>
     requires near { is_box_near extent ≡ true }
     requires first { IsInPlane array.now.first.by }
     ensures some { IfSome result (IsFitted array.now window extent) }
@@ -310,4 +309,35 @@ pub fn fitted(array: &Array, window: Box2, extent: Box2) -> Option<Array>
         Some(array) => Some(array),
         None => Some(*array),
     }
+}
+
+/// An array of one instance, if that may meet a window.
+fn single(array: &Array, window: Box2, extent: Box2) -> Option<Array>
+    requires near { is_box_near extent ≡ true }
+    requires first { IsInPlane array.now.first.by }
+    requires columns { array.now.columns ≡ 1 }
+    requires rows { array.now.rows ≡ 1 }
+    ensures some { IfSome result (IsFitted array.now window extent) }
+    ensures none { IfNone result (IsAway array.now window extent) }
+{
+    if do_meet(placed_box(array.first, extent), window) {
+        Some(*array)
+    } else {
+        None
+    }
+}
+
+/// An array without the columns and the rows that division tells miss a window, where its structure has that extent; none
+/// where there are no others. It may keep too much, as it does where columns and rows lead along one axis. Of an array of
+/// one instance the box is held against the window, without a division.
+pub fn fitted(array: &Array, window: Box2, extent: Box2) -> Option<Array>
+    requires near { is_box_near extent ≡ true }
+    requires first { IsInPlane array.now.first.by }
+    ensures some { IfSome result (IsFitted array.now window extent) }
+    ensures none { IfNone result (IsAway array.now window extent) }
+{
+    if array.columns == 1 && array.rows == 1 {
+        return single(array, window, extent);
+    }
+    divided(array, window, extent)
 }

@@ -1,7 +1,12 @@
 //! A submission by its nodes and structures, and what is wanted of it.
 
+ghost use Rattle.std.specs.Prelude.{◌≡◌, ◌<◌, length};
+ghost use Rattle.mpw_contents.specs.Internal.Making.{IsLayout};
+
+use crate::placed::{is_in_plane, placed_box};
+use crate::thing::Array;
 use mpw_geom::Box2;
-use mpw_hier::{Node, Shelf};
+use mpw_hier::{Node, Shelf, is_box_near};
 use mpw_structures::Structure;
 
 /// What contents are to be like.
@@ -15,6 +20,25 @@ pub struct Wanted {
     pub is_along_y: bool,
 }
 
+/// Which arrays are opened.
+#[derive(Clone, Copy)]
+pub enum Opened {
+    /// Those whose instances are wider than this, in nm.
+    Wide {
+        /// The greatest width of the others.
+        width: u64,
+        /// Widths are taken along the y axis, and not along the x axis.
+        is_along_y: bool,
+    },
+    /// Those of few instances of large structures.
+    Few {
+        /// The greatest number of instances.
+        instances: u32,
+        /// The greatest number of shapes that a structure of the others shows.
+        shapes: u64,
+    },
+}
+
 /// The first submission of a shelf, and what is wanted of it.
 #[derive(Clone, Copy)]
 pub struct Layout<'a> {
@@ -26,6 +50,61 @@ pub struct Layout<'a> {
     pub structures: &'a [Structure],
     /// What doesn't meet this is left out.
     pub window: Box2,
-    /// What the contents are to be like.
-    pub wanted: Wanted,
+    /// The greatest number of things.
+    pub most: usize,
+    /// Which arrays are opened.
+    pub opened: Opened,
+}
+
+/// Whether what a node shows is wider than so much where an array's first instance stands.
+fn is_wide(array: &Array, node: &Node, width: u64, is_along_y: bool) -> bool {
+    let Some(b) = node.size.extent else {
+        return false;
+    };
+    if !is_box_near(b) || !is_in_plane(array.first.by) {
+        return false;
+    }
+    let there = placed_box(array.first, b);
+    let there = if is_along_y {
+        there.y1.abs_diff(there.y0)
+    } else {
+        there.x1.abs_diff(there.x0)
+    };
+    there > width
+}
+
+/// Whether an array has so many instances at most, of a structure that shows more than so many shapes.
+fn is_few(array: &Array, node: &Node, instances: u32, shapes: u64) -> bool {
+    node.size.count > shapes
+        && u32::from(array.columns).saturating_mul(u32::from(array.rows)) <= instances
+}
+
+impl<'a> Layout<'a> {
+    /// The first submission of a shelf, of which that is wanted.
+    pub fn of(shelf: &'a Shelf, window: Box2, most: usize, opened: Opened) -> Layout<'a>
+        requires { 0 < length shelf.now }
+        ensures layout { IsLayout result }
+        ensures shelf { result.shelf.now ≡ shelf.now }
+        ensures window { result.window ≡ window }
+    {
+        Layout {
+            shelf,
+            nodes: shelf.nodes(0).unwrap(),
+            structures: shelf.get(0).unwrap().library.structures(),
+            window,
+            most,
+            opened,
+        }
+    }
+
+    /// Whether an array is to be opened.
+    pub fn is_opened(&self, array: &Array) -> bool {
+        let Some(node) = self.nodes.get(array.node) else {
+            return false;
+        };
+        match self.opened {
+            Opened::Wide { width, is_along_y } => is_wide(array, node, width, is_along_y),
+            Opened::Few { instances, shapes } => is_few(array, node, instances, shapes),
+        }
+    }
 }

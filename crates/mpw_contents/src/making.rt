@@ -4,17 +4,16 @@ ghost use Rattle.std.specs.Prelude.{◌≡◌, ◌<◌, [], length, All, OnOk, I
 ghost use Rattle.mpw_hier.specs.Values.{flat};
 ghost use Rattle.mpw_contents.specs.Contents.{AreWhole, AreSound};
 ghost use Rattle.mpw_contents.specs.Things.{thing_items, things_items};
-ghost use Rattle.mpw_contents.specs.Internal.Making.{IsLayout, IsThing, Adds, Shows};
+ghost use Rattle.mpw_contents.specs.Internal.Making.{IsLayout, IsArray, IsThing, Adds, Shows};
 ghost use Rattle.mpw_contents.specs.declared.thing.Thing.TheVariants as variants;
 
 use crate::contents::Contents;
 use crate::laws::names_are_opened;
-use crate::layout::{Layout, Wanted};
-use crate::placed::{is_in_plane, placed_box};
+use crate::layout::{Layout, Opened, Wanted};
 use crate::stop::Stop;
 use crate::thing::{Array, Thing};
 use mpw_geom::{Box2, Orient, Placing, Point};
-use mpw_hier::{Shelf, is_box_near};
+use mpw_hier::Shelf;
 use std::alloc::{AllocError, Global};
 
 /// The most passes: one for each level of a shelf, of which there are 64 at most, and one that opens nothing.
@@ -31,55 +30,44 @@ const HERE: Placing = Placing {
 
 /// Things behind a pass, and whether one was opened.
 #[derive(Drop)]
-struct Passed {
-    things: Vec<Thing>,
-    is_open: bool,
+pub struct Passed {
+    /// The things.
+    pub things: Vec<Thing>,
+    /// Whether one was opened.
+    pub is_open: bool,
 }
 
 impl<'a> Layout<'a> {
-    /// Whether the instances of an array are wider than wanted.
-    fn is_wide(&self, array: &Array) -> bool {
-        let Some(node) = self.nodes.get(array.node) else {
-            return false;
-        };
-        let Some(b) = node.size.extent else {
-            return false;
-        };
-        if !is_box_near(b) || !is_in_plane(array.first.by) {
-            return false;
-        }
-        let there = placed_box(array.first, b);
-        let width = if self.wanted.is_along_y {
-            there.y1.abs_diff(there.y0)
-        } else {
-            there.x1.abs_diff(there.x0)
-        };
-        width > self.wanted.width
-    }
-
-    /// The array that a thing is, if its instances are wider than wanted.
-    fn wide_array(&self, thing: Thing) -> Option<Array>
-        ensures { IfSome result (λ array. thing ≡ variants.Array array) }
+    /// Adds an array, or what it shows one level down where it is to be opened. The result is whether it is opened so.
+    ///
+    /// # Errors
+    /// As those of [`Layout::open`].
+    pub fn pass_array(&self, array: Array, things: &mut Vec<Thing>) -> Result<bool, Stop>
+        requires layout { IsLayout self.now }
+        requires array { IsArray self.now.nodes.now array }
+        ensures { OnOk result (Adds self.now (thing_items self.now.shelf.now (variants.Array array)) things.old.items things.new.items) }
     {
-        match thing {
-            Thing::Array(array) if self.is_wide(&array) => Some(array),
-            _ => None,
+        if self.is_opened(&array) {
+            self.open(&array, things)?;
+            return Ok(true);
         }
+        self.push(Thing::Array(array), things)?;
+        Ok(false)
     }
 
-    /// Adds a thing, or what it shows one level down where its instances are wider than wanted. The result is whether it is
-    /// opened so.
+    /// Adds a thing, or what it shows one level down where it is to be opened. The result is whether it is opened so.
     fn pass_thing(&self, thing: Thing, things: &mut Vec<Thing>) -> Result<bool, Stop>
         requires layout { IsLayout self.now }
         requires thing { IsThing self.now.nodes.now thing }
         ensures { OnOk result (Adds self.now (thing_items self.now.shelf.now thing) things.old.items things.new.items) }
     {
-        let Some(array) = self.wide_array(thing) else {
-            self.push(thing, things)?;
-            return Ok(false);
-        };
-        self.open(&array, things)?;
-        Ok(true)
+        match thing {
+            Thing::Shape(_) => {
+                self.push(thing, things)?;
+                Ok(false)
+            }
+            Thing::Array(array) => self.pass_array(array, things),
+        }
     }
 
     /// The things behind a pass over others.
@@ -101,41 +89,16 @@ impl<'a> Layout<'a> {
         Ok(Passed { things, is_open })
     }
 
-    /// The top, as an array of one.
-    ///
-    /// # Errors
-    /// As those of [`Layout::push`].
-    fn begin(&self, alloc: Global) -> Result<Vec<Thing>, Stop>
-        requires { IsLayout self.now }
-        ensures { IfOk result (λ things. Adds self.now (flat self.now.shelf.now 0) [] things.items) }
-    {
-        names_are_opened();
-        let mut things = Vec::new(alloc);
-        let Some(top) = self.nodes.last() else {
-            return Err(Stop::Outside);
-        };
-        let array = Array {
-            structure: top.structure,
-            node: self.nodes.len() - 1,
-            first: HERE,
-            columns: 1,
-            rows: 1,
-            column_step: STILL,
-            row_step: STILL,
-        };
-        self.put_array(array, &mut things)?;
-        Ok(things)
-    }
-
-    /// The contents, by one pass after another.
+    /// The contents that things are once one pass after another has opened them.
     ///
     /// # Errors
     /// As those of [`Layout::open`], and where things are still opened behind the last level.
-    fn fill(&self, alloc: Global) -> Result<Contents, Stop>
-        requires { IsLayout self.now }
-        ensures { IfOk result (λ contents. Shows self.now.window (flat self.now.shelf.now 0) (things_items self.now.shelf.now contents)) }
+    pub fn finish(&self, alloc: Global, from: Vec<Thing>) -> Result<Contents, Stop>
+        requires layout { IsLayout self.now }
+        requires things { All (IsThing self.now.nodes.now) from.items }
+        ensures { IfOk result (λ contents. Shows self.now.window (things_items self.now.shelf.now from.items) (things_items self.now.shelf.now contents)) }
     {
-        let mut things = self.begin(alloc)?;
+        let mut things = from;
         for _ in 0..PASSES {
             let passed = self.pass(alloc, &things)?;
             let Passed {
@@ -148,6 +111,55 @@ impl<'a> Layout<'a> {
             things = next;
         }
         Err(Stop::Many)
+    }
+
+    /// The top, as an array of one; none where there is no node.
+    pub fn top(&self) -> Option<Array>
+        requires { IsLayout self.now }
+        ensures array { IfSome result (λ a. IsArray self.now.nodes.now a) }
+        ensures shown { IfSome result (λ a. thing_items self.now.shelf.now (variants.Array a) ≡ flat self.now.shelf.now 0) }
+    {
+        names_are_opened();
+        let Some(top) = self.nodes.last() else {
+            return None;
+        };
+        Some(Array {
+            structure: top.structure,
+            node: self.nodes.len() - 1,
+            first: HERE,
+            columns: 1,
+            rows: 1,
+            column_step: STILL,
+            row_step: STILL,
+        })
+    }
+
+    /// As much of the top as may meet the window.
+    ///
+    /// # Errors
+    /// As those of [`Layout::push`].
+    fn begin(&self, alloc: Global) -> Result<Vec<Thing>, Stop>
+        requires { IsLayout self.now }
+        ensures { IfOk result (λ things. Adds self.now (flat self.now.shelf.now 0) [] things.items) }
+    {
+        let mut things = Vec::new(alloc);
+        let Some(top) = self.top() else {
+            return Err(Stop::Outside);
+        };
+        self.put_array(top, &mut things)?;
+        Ok(things)
+    }
+
+    /// The contents of the window.
+    ///
+    /// # Errors
+    /// As those of [`Layout::finish`].
+    fn fill(&self, alloc: Global) -> Result<Contents, Stop>
+        requires { IsLayout self.now }
+        ensures { IfOk result (λ contents. Shows self.now.window (flat self.now.shelf.now 0) (things_items self.now.shelf.now contents)) }
+    {
+        let things = self.begin(alloc)?;
+        self.finish(alloc, things)
     }
 }
 
@@ -170,13 +182,11 @@ pub fn contents_in(
     ensures whole { IfOk result (λ contents. IfSome contents (λ things. AreWhole window (flat shelf.now 0) (things_items shelf.now things))) }
     ensures sound { IfOk result (λ contents. IfSome contents (λ things. AreSound (flat shelf.now 0) (things_items shelf.now things))) }
 {
-    let layout = Layout {
-        shelf,
-        nodes: shelf.nodes(0).unwrap(),
-        structures: shelf.get(0).unwrap().library.structures(),
-        window,
-        wanted,
+    let opened = Opened::Wide {
+        width: wanted.width,
+        is_along_y: wanted.is_along_y,
     };
+    let layout = Layout::of(shelf, window, wanted.most, opened);
     match layout.fill(alloc) {
         Ok(contents) => Ok(Some(contents)),
         Err(Stop::Memory) => Err(AllocError),

@@ -1,25 +1,39 @@
 //! An array, one level down: for each instance that may meet the window the structure's own shapes, and an array for each of its
 //! children.
 
-ghost use Rattle.std.specs.Prelude.{◌≡◌, ◌<◌, ◌++◌, ◌∷◌, [], map, slice_get, option_copied, OnOk, IfOk, IfSome, IfNone, Contains};
+ghost use Rattle.std.specs.Prelude.{◌≡◌, ◌<◌, ◌++◌, ◌∷◌, [], length, map, slice_get, option_copied, OnOk, IfOk, IfSome, IfNone, Contains};
 ghost use Rattle.std.specs.List.{flat_map};
 ghost use Rattle.mpw_geom.specs.Plane.{IsInPlane};
 ghost use Rattle.mpw_structures.specs.Element.{IsElement, IsReference};
 ghost use Rattle.mpw_hier.specs.Items.{placed_item, placed_items, row_of};
-ghost use Rattle.mpw_contents.specs.Things.{drawn, element_at, place_shown, reference_of, thing_items};
+ghost use Rattle.mpw_contents.specs.Things.{drawn, element_at, element_in, place_shown, reference_of, thing_items};
 ghost use Rattle.mpw_contents.specs.Internal.Making.{IsLayout, IsNodeOf, IsArray, IsThing, LeadsTo, Adds, Shows};
 ghost use Rattle.mpw_contents.specs.Internal.Opening.{name_shown, as_reference, child_shown, structure_shapes, structure_children, instances_shown, IsPlacedReference};
 ghost use Rattle.mpw_contents.specs.declared.thing.Thing.TheVariants as variants;
 
 use crate::fit::{fitted, may_meet};
 use crate::laws::names_are_opened;
-use crate::layout::Layout;
+use crate::layout::{Layout, Opened};
 use crate::placed::{instance, is_in_plane};
 use crate::stop::Stop;
 use crate::thing::{Array, Shape, Thing};
-use mpw_geom::Placing;
-use mpw_hier::{Child, Node, Target, element_box};
+use mpw_geom::{Box2, Placing};
+use mpw_hier::{Child, Node, Shelf, Target, element_box};
 use mpw_structures::{Element, Reference};
+
+/// A window that holds one point.
+const NOWHERE: Box2 = Box2 {
+    x0: 0,
+    y0: 0,
+    x1: 0,
+    y1: 0,
+};
+
+/// No array is opened.
+const NONE: Opened = Opened::Few {
+    instances: 0,
+    shapes: 0,
+};
 
 /// The array of a node that a reference places, as it is placed itself.
 fn placed_array(placing: Placing, reference: &Reference, place: usize, node: &Node) -> Array
@@ -42,6 +56,16 @@ fn placed_array(placing: Placing, reference: &Reference, place: usize, node: &No
         column_step: placing.orient.apply(reference.column_step),
         row_step: placing.orient.apply(reference.row_step),
     }
+}
+
+/// The element of the library of a shelf's first submission that a shape is, if there is one. Constant.
+pub fn element_of<'a>(shelf: &'a Shelf, shape: &Shape) -> Option<&'a Element>
+    requires { 0 < length shelf.now }
+    ensures is { option_copied result ≡ element_in shelf.now shape.now.structure shape.now.element }
+    ensures read { IfSome result (λ e. IsElement e.now) }
+{
+    let layout = Layout::of(shelf, NOWHERE, 0, NONE);
+    layout.element(shape.structure, shape.element)
 }
 
 impl<'a> Layout<'a> {
@@ -74,7 +98,7 @@ impl<'a> Layout<'a> {
     pub fn push(&self, thing: Thing, things: &mut Vec<Thing>) -> Result<(), Stop>
         ensures { OnOk result (things.new.items ≡ things.old.items ++ thing ∷ []) }
     {
-        if things.len() >= self.wanted.most {
+        if things.len() >= self.most {
             return Err(Stop::Many);
         }
         things.push(thing)?;
@@ -82,7 +106,7 @@ impl<'a> Layout<'a> {
     }
 
     /// Adds a shape, if there is one that may meet the window.
-    fn put_shape(&self, shape: Shape, things: &mut Vec<Thing>) -> Result<(), Stop>
+    pub fn put_shape(&self, shape: Shape, things: &mut Vec<Thing>) -> Result<(), Stop>
         requires layout { IsLayout self.now }
         requires near { IsInPlane shape.placing.by }
         ensures { OnOk result (Adds self.now (drawn shape.placing (element_at (slice_get self.now.structures.now shape.structure) shape.element)) things.old.items things.new.items) }

@@ -1,19 +1,23 @@
 -- A layout as it is checked, and its columns.
-use Rattle.std.specs.Prelude.{◌≡◌, ◌<◌, ◌+◌, ◌^◌, ℕ, List, length, Some}
+use Rattle.std.specs.Prelude.{◌≡◌, ◌<◌, ◌+◌, ◌^◌, ℕ, List, length, Some, IfSome}
 use Rattle.std.specs.List.{AllZip}
 use Rattle.mpw_tiles.specs.Snapshots.{Snapshot, shown, shown_extent}
 use Rattle.mpw_tiles.specs.declared.listing.Rectangle.{Rectangle}
 use Rattle.mpw_job.specs.Answers.{listed_on}
 use Rattle.mpw_job.specs.Computed.{shown_on}
 use Rattle.mpw_keys.specs.Columns.{seen_box, upright, across}
-use Rattle.mpw_columns.specs.declared.check.Shared.{Shared}
+use Rattle.mpw_columns.specs.declared.shared.Shared.{Shared}
 use Rattle.mpw_columns.specs.Seen.{seen_on}
 use Rattle.mpw_markers.specs.declared.marker.Key.{Key}
 use Rattle.mpw_keys.specs.declared.column.Column.{Column}
+use Rattle.mpw_columns.specs.declared.batch.Batch.{Batch}
+use Rattle.mpw_columns.specs.declared.batch.Listed.{Listed}
+use Rattle.mpw_columns.specs.declared.batch.Top.{Top}
 use Rattle.mpw_columns.specs.declared.check.Layout.{Layout}
 use Rattle.mpw_columns.specs.Plan.{AreColumnsOfLayout}
 use Rattle.mpw_columns.specs.Lists.{IsColumnList}
 use Rattle.mpw_columns.specs.Internal.Found.{IsLook, AgreeIn}
+use Rattle.mpw_columns.specs.Internal.Pieces.{AreThingsIn, whole_core}
 
 -- The shapes are of one submission, and the layers and the distance are those of the rules.
 pub record IsLayout (l : Layout) : Type 0 where
@@ -31,6 +35,18 @@ AgreeInColumn l c rectangles =
 -- So the shared rectangles in the window of theirs.
 abbrev pub IsShared : Layout → Shared → Type 0
 IsShared l shared = AgreeInColumn l shared.whole shared.rectangles.items
+
+-- The things of the whole layout; those in the window of the column of a batch; and what a batch shares.
+abbrev pub IsTop : Layout → Top → Type 0
+IsTop l top = IfSome top.things (AreThingsIn l top.axis (whole_core l top.axis))
+
+abbrev pub HasThings : Layout → Listed → Type 0
+HasThings l listed = AreThingsIn l listed.whole.axis
+    (upright (seen_box listed.whole.axis l.extent) listed.whole) listed.things
+
+pub record IsBatch (l : Layout) (b : Batch) : Type 0 where
+  pub rectangles : IfSome b.rectangles (IsShared l)
+  pub things : IfSome b.things (HasThings l)
 
 -- The columns of a layout, of which so many are of V.
 pub record IsCounted (s : Snapshot) (count : ℕ) (columns : List Column) : Type 0 where

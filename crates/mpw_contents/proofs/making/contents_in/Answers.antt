@@ -1,14 +1,10 @@
-use Rattle.mpw_contents.proofs.Tops.{layout_is}
+use Rattle.std.proofs.Common.{subst}
+use Rattle.mpw_hier.specs.Values.{flat}
+use Rattle.mpw_contents.specs.Contents.{AreSound}
+use Rattle.mpw_contents.specs.Things.{things_items}
 use Rattle.mpw_contents.proofs.making.contents_in.Goals as goal
 
-pub fill-requires : goal.fill-requires
-fill-requires c =
-    layout_is (record {
-      shelf = c.args.shelf;
-      nodes = c.unwrap.result;
-      structures = c.structures.result;
-      window = c.args.window;
-      wanted = c.args.wanted;
-    })
-    c.nodes.result c.unwrap.ensures c.nodes.ensures.some c.get.result c.unwrap-2.result
-    c.unwrap-2.ensures c.get.ensures c.structures.ensures
+pub returns-in-Ok-clause-sound : goal.returns-in-Ok-clause-sound
+returns-in-Ok-clause-sound c =
+    subst (λ ss. AreSound (flat ss 0) (things_items ss c.in-Ok.contents)) c.of-layout.ensures.shelf
+    c.in-Ok.ensures.sound

@@ -1,23 +1,15 @@
-use Rattle.std.proofs.Common.{[], subst}
+use Rattle.std.proofs.lemmas.Result.{IfOk-weaker}
 use Rattle.mpw_hier.specs.Values.{flat}
 use Rattle.mpw_contents.specs.Things.{things_items}
-use Rattle.mpw_contents.specs.Internal.Making.{Adds}
-use Rattle.mpw_contents.proofs.Adding.{adds_again, adds_shows}
+use Rattle.mpw_contents.proofs.Adding.{adds_shows, shows_again}
 use Rattle.mpw_contents.proofs.layout.Layout.fill.Goals as goal
 
-pub returns-then-not-is_open : goal.returns-then-not-is_open
-returns-then-not-is_open c =
+pub returns : goal.returns
+returns c =
     let l = c.args.self.now in
-    let all = flat l.shelf.now 0 in
-    let new = c.in_ok-passed.passed.things.items in
-    adds_shows l all new (adds_again l all c.loop.things.items new c.loop.invariant
-    (subst (λ ts. Adds l (things_items l.shelf.now ts) [] new) c.deref.ensures.value
-    c.in_ok-passed.ensures))
-
-pub loop-preserved : goal.loop-preserved
-loop-preserved c =
-    let l = c.args.self.now in
-    let new = c.in_ok-passed.passed.things.items in
-    adds_again l (flat l.shelf.now 0) c.loop.things.items new c.loop.invariant
-    (subst (λ ts. Adds l (things_items l.shelf.now ts) [] new) c.deref.ensures.value
-    c.in_ok-passed.ensures)
+    let ss = l.shelf.now in
+    let first = c.in_ok-things.things.items in
+    IfOk-weaker c.finish.result _ _
+    (λ contents h. shows_again l.window (flat ss 0) (things_items ss first)
+    (things_items ss contents) (adds_shows l (flat ss 0) first c.in_ok-things.ensures) h)
+    c.finish.ensures

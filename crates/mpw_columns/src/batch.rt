@@ -1,0 +1,211 @@
+//! What the columns of a batch share: the things of their windows, where the layout places few structures often, or else their rectangles, where one
+//! list of them is worth it.
+
+ghost use Rattle.std.specs.Prelude.{◌≡◌, ◌+◌, ◌≤◌, ◌<◌, ◌↔◌, length, Contains, IfOk, IfSome};
+ghost use Rattle.mpw_markers.specs.declared.marker.Key.{Key as KeyValue};
+ghost use Rattle.mpw_keys.specs.Columns.{seen_box, upright};
+ghost use Rattle.mpw_columns.specs.Found.{IsFound};
+ghost use Rattle.mpw_columns.specs.Internal.Blocks.{IsUprightIn, AreUprightIn};
+ghost use Rattle.mpw_columns.specs.Internal.Checked.{IsLayout, IsShared, IsTop, IsBatch, HasThings};
+ghost use Rattle.mpw_columns.specs.Internal.Pieces.{seen_layout};
+
+use crate::block::{is_part, whole_of};
+use crate::check::Layout;
+use crate::cores::{core_of, keys_in};
+use crate::equal::{is_first_alone, is_same_axis};
+use crate::shared::{Shared, rectangles_of, shared_of};
+use crate::solve::runs_in;
+use crate::things::{Task, all_things, is_inside, things_in, whole_core};
+use mpw_contents::Contents;
+use mpw_edges::Axis;
+use mpw_keys::Column;
+use mpw_markers::Key;
+use mpw_tiles::Snapshot;
+use std::alloc::{AllocError, Global};
+
+/// So many shapes for each that is drawn, and for each reference, make a layout one of things.
+const MANY_PLACED: u64 = 4;
+
+/// The things of the layout, to be cut along an axis; none where rectangles serve better.
+#[derive(Drop)]
+pub(crate) struct Top {
+    axis: Axis,
+    things: Option<Contents>,
+}
+
+/// The things of the window of a column, listed once for columns that lie in it.
+#[derive(Drop)]
+pub(crate) struct Listed {
+    whole: Column,
+    things: Contents,
+}
+
+/// What the columns of a batch share.
+#[derive(Drop)]
+pub(crate) struct Batch {
+    rectangles: Option<Shared>,
+    things: Option<Listed>,
+}
+
+/// Whether the layout shows many shapes for each that is drawn.
+pub(crate) fn is_placed(snapshot: &Snapshot) -> bool {
+    let Some(nodes) = snapshot.shelf().nodes(0) else {
+        return false;
+    };
+    let mut drawn = 0u64;
+    for node in nodes {
+        let own = (node.shapes.len() as u64).saturating_add(node.children.len() as u64);
+        drawn = drawn.saturating_add(own);
+    }
+    match nodes.last() {
+        Some(top) => top.size.count >= drawn.saturating_mul(MANY_PLACED),
+        None => false,
+    }
+}
+
+/// The things of the layout along an axis. Linear in what the top has; an error is want of memory.
+pub(crate) fn top_of(alloc: Global, layout: &Layout<'_>, axis: Axis) -> Result<Top, AllocError>
+    requires { IsLayout layout.now }
+    ensures { IfOk result (IsTop layout.now) }
+{
+    let task = Task { layout, axis };
+    if !is_placed(layout.snapshot) || !is_first_alone(layout.snapshot) {
+        return Ok(Top { axis, things: None });
+    }
+    let Some(core) = whole_core(&task) else {
+        return Ok(Top { axis, things: None });
+    };
+    let things = all_things(alloc, &task, &core)?;
+    Ok(Top { axis, things })
+}
+
+impl Top {
+    /// The things along an axis: these, or others where these are along the other axis. An error is want of memory.
+    pub(crate) fn turned(
+        self,
+        alloc: Global,
+        layout: &Layout<'_>,
+        axis: Axis,
+    ) -> Result<Top, AllocError>
+        requires layout { IsLayout layout.now }
+        requires top { IsTop layout.now self }
+        ensures { IfOk result (IsTop layout.now) }
+    {
+        if is_same_axis(self.axis, axis) {
+            return Ok(self);
+        }
+        drop(self);
+        top_of(alloc, layout, axis)
+    }
+
+    /// The things in the window of the column of all places of these columns; none where there is no such list. A pass over the things; an error is want
+    /// of memory.
+    fn listed(
+        &self,
+        alloc: Global,
+        layout: &Layout<'_>,
+        columns: &[Column],
+    ) -> Result<Option<Listed>, AllocError>
+        requires layout { IsLayout layout.now }
+        requires upright { AreUprightIn layout.now columns.now }
+        requires top { IsTop layout.now self.now }
+        ensures { IfOk result (λ o. IfSome o (HasThings layout.now)) }
+    {
+        let Some(things) = &self.things else {
+            return Ok(None);
+        };
+        if columns.is_empty() {
+            return Ok(None);
+        }
+        let Some(whole) = whole_of(layout, columns, 0, columns.len()) else {
+            return Ok(None);
+        };
+        let task = Task {
+            layout,
+            axis: self.axis,
+        };
+        let core = core_of(layout, &whole);
+        let Some(outer) = whole_core(&task) else {
+            return Ok(None);
+        };
+        if !is_same_axis(whole.axis, self.axis) || !is_inside(&core, &outer) {
+            return Ok(None);
+        }
+        match things_in(alloc, &task, &core, things)? {
+            Some(things) => Ok(Some(Listed { whole, things })),
+            None => Ok(None),
+        }
+    }
+
+    /// What columns share. An error is want of memory.
+    pub(crate) fn batch(
+        &self,
+        alloc: Global,
+        layout: &Layout<'_>,
+        columns: &[Column],
+    ) -> Result<Batch, AllocError>
+        requires layout { IsLayout layout.now }
+        requires upright { AreUprightIn layout.now columns.now }
+        requires top { IsTop layout.now self.now }
+        ensures { IfOk result (IsBatch layout.now) }
+    {
+        if let Some(listed) = self.listed(alloc, layout, columns)? {
+            return Ok(Batch {
+                rectangles: None,
+                things: Some(listed),
+            });
+        }
+        let rectangles = shared_of(alloc, layout, columns)?;
+        Ok(Batch {
+            rectangles,
+            things: None,
+        })
+    }
+}
+
+impl Batch {
+    /// The keys of the maximal runs in the core of a column: from the things that the batch shares, or from rectangles. An error is want of memory.
+    pub(crate) fn keys_of(
+        &self,
+        alloc: Global,
+        layout: &Layout<'_>,
+        column: &Column,
+    ) -> Result<Vec<Key>, AllocError>
+        requires layout { IsLayout layout.now }
+        requires upright { IsUprightIn layout.now column.now }
+        requires batch { IsBatch layout.now self.now }
+        ensures { IfOk result (λ v. (k : KeyValue) → Contains v.items k ↔ IsFound layout.now.snapshot.now.deck.rules column.now.axis
+            (seen_layout layout.now column.now.axis) (upright (seen_box column.now.axis layout.now.extent) column.now) k) }
+    {
+        let core = core_of(layout, column);
+        match &self.things {
+            Some(listed) if is_part(column, &listed.whole) => {
+                let task = Task {
+                    layout,
+                    axis: column.axis,
+                };
+                runs_in(alloc, &task, &core, &listed.things)
+            }
+            _ => {
+                let rectangles = rectangles_of(alloc, layout, &self.rectangles, column)?;
+                keys_in(alloc, layout, column.axis, &core, rectangles.as_slice())
+            }
+        }
+    }
+}
+
+/// How many columns from a place on are of one axis, of so many at most.
+pub(crate) fn count_along(columns: &[Column], from: usize, most: usize) -> usize
+    requires some { 1 ≤ most }
+    requires within { from + most ≤ length columns.now }
+    ensures some { 1 ≤ result }
+    ensures few { result ≤ most }
+{
+    let axis = columns[from].axis;
+    for count in 1..most {
+        if !is_same_axis(columns[from + count].axis, axis) {
+            return count;
+        }
+    }
+    most
+}

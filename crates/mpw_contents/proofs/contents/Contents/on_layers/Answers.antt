@@ -1,0 +1,44 @@
+use Rattle.std.proofs.Common.{take, ◌+◌, sym, subst, ◌∙◌}
+use Rattle.std.specs.Prelude.{All}
+use Rattle.std.proofs.lemmas.List.{take_all}
+use Rattle.mpw_contents.specs.Contents.{IsNear}
+use Rattle.mpw_contents.specs.Things.{things_items}
+use Rattle.mpw_contents.specs.Internal.Layers.{KeepsOn, AreLayered}
+use Rattle.mpw_contents.proofs.Layered.{layered_more, layered_less}
+use Rattle.mpw_contents.proofs.contents.Contents.on_layers.Goals as goal
+
+pub loop-thing-preserved-then-not-stays : goal.loop-thing-preserved-then-not-stays
+loop-thing-preserved-then-not-stays c =
+    layered_less c.args.shelf.now c.args.layers.now c.things-all.result.now
+    c.loop-thing.thing-index _ c.loop-thing.things.items c.loop-thing-test.true
+    c.loop-thing.invariant c.if-not-stays.ensures
+
+pub loop-thing-preserved : goal.loop-thing-preserved
+loop-thing-preserved c =
+    let ss = c.args.shelf.now in
+    let layers = c.args.layers.now in
+    let all = c.things-all.result.now in
+    let i = c.loop-thing.thing-index in
+    subst (AreLayered ss layers (take (i + 1) all)) (sym c.in_ok-push.ensures.items)
+    (layered_more ss layers all i _ c.loop-thing.things.items c.loop-thing-test.true
+    c.loop-thing.invariant
+    (subst (All IsNear) (sym c.things-all.ensures.things) c.things-all.ensures.near)
+    c.if-not-stays.ensures)
+
+pub returns-clause-kept : goal.returns-clause-kept
+returns-clause-kept c =
+    let ss = c.args.shelf.now in
+    let all = c.things-all.result.now in
+    (subst (λ ts. KeepsOn c.args.layers.now (things_items ss ts)
+    (things_items ss c.loop-thing.things.items))
+    (take_all c.loop-thing.thing-index all c.loop-thing-test.false ∙ c.things-all.ensures.things)
+    c.loop-thing.invariant.keeps).kept
+
+pub returns-clause-sound : goal.returns-clause-sound
+returns-clause-sound c =
+    let ss = c.args.shelf.now in
+    let all = c.things-all.result.now in
+    (subst (λ ts. KeepsOn c.args.layers.now (things_items ss ts)
+    (things_items ss c.loop-thing.things.items))
+    (take_all c.loop-thing.thing-index all c.loop-thing-test.false ∙ c.things-all.ensures.things)
+    c.loop-thing.invariant.keeps).sound

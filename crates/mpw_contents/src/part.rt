@@ -1,0 +1,179 @@
+//! A part of contents: what of them meets a window, opened as wanted.
+//!
+//! The first pass holds each thing against the window, so that only what is left is looked at again, and further passes run
+//! only where an array was opened. For an array of one instance, as nearly all are, that is a box against the window.
+
+ghost use Rattle.std.specs.Prelude.{◌≡◌, ◌<◌, [], length, All, OnOk, IfOk, IfSome};
+ghost use Rattle.mpw_geom.specs.Plane.{IsInPlane};
+ghost use Rattle.mpw_hier.specs.Values.{flat};
+ghost use Rattle.mpw_contents.specs.Contents.{AreWhole, AreSound, IsNear};
+ghost use Rattle.mpw_contents.specs.Things.{thing_items, things_items};
+ghost use Rattle.mpw_contents.specs.Internal.Making.{IsLayout, Adds, Shows};
+ghost use Rattle.mpw_contents.specs.Internal.Opening.{NamesAreOpened};
+ghost use Rattle.mpw_contents.specs.declared.thing.Thing.TheVariants as variants;
+
+use crate::contents::Contents;
+use crate::fit::fitted;
+use crate::laws::names_are_opened;
+use crate::layout::{Layout, Opened};
+use crate::making::Passed;
+use crate::stop::Stop;
+use crate::thing::{Array, Thing};
+use mpw_geom::Box2;
+use mpw_hier::Shelf;
+use std::alloc::{AllocError, Global};
+
+/// Of what a part of contents is made.
+#[derive(Clone, Copy)]
+pub struct Part {
+    /// What doesn't meet this is left out.
+    pub window: Box2,
+    /// The greatest number of things.
+    pub most: usize,
+    /// Arrays of at most so many instances, columns times rows once those that miss the window are left out, are opened,
+    pub instances: u32,
+    /// where the structure shows more than so many shapes.
+    pub shapes: u64,
+}
+
+impl<'a> Layout<'a> {
+    /// Adds as much of an array as may meet the window, or what that shows one level down where it is to be opened. The
+    /// result is whether it is opened so.
+    ///
+    /// # Errors
+    /// As those of [`Layout::open`], and where the array's node isn't its structure's.
+    fn fit_array(&self, array: &Array, things: &mut Vec<Thing>) -> Result<bool, Stop>
+        requires law { NamesAreOpened }
+        requires layout { IsLayout self.now }
+        requires near { IsInPlane array.now.first.by }
+        ensures { OnOk result (Adds self.now (thing_items self.now.shelf.now (variants.Array array.now)) things.old.items things.new.items) }
+    {
+        let Some(node) = self.nodes.get(array.node) else {
+            return Err(Stop::Outside);
+        };
+        if node.structure != array.structure {
+            return Err(Stop::Outside);
+        }
+        let Some(extent) = node.size.extent else {
+            return Ok(false);
+        };
+        match fitted(array, self.window, extent) {
+            Some(array) => self.pass_array(array, things),
+            None => Ok(false),
+        }
+    }
+
+    /// Adds as much of a thing as may meet the window, as [`Layout::fit_array`] does.
+    fn fit_thing(&self, thing: &Thing, things: &mut Vec<Thing>) -> Result<bool, Stop>
+        requires law { NamesAreOpened }
+        requires layout { IsLayout self.now }
+        requires near { IsNear thing.now }
+        ensures { OnOk result (Adds self.now (thing_items self.now.shelf.now thing.now) things.old.items things.new.items) }
+    {
+        match thing {
+            Thing::Shape(shape) => {
+                self.put_shape(*shape, things)?;
+                Ok(false)
+            }
+            Thing::Array(array) => self.fit_array(array, things),
+        }
+    }
+
+    /// As much of things as may meet the window.
+    ///
+    /// # Errors
+    /// As those of [`Layout::fit_array`].
+    fn fit(&self, alloc: Global, old: &[Thing]) -> Result<Passed, Stop>
+        requires layout { IsLayout self.now }
+        requires near { All IsNear old.now }
+        ensures { IfOk result (λ passed. Adds self.now (things_items self.now.shelf.now old.now) [] passed.things.items) }
+    {
+        names_are_opened();
+        let mut things = Vec::new(alloc);
+        let mut is_open = false;
+        for thing in old {
+            if self.fit_thing(thing, &mut things)? {
+                is_open = true;
+            }
+        }
+        Ok(Passed { things, is_open })
+    }
+
+    /// What of things meets the window, opened as wanted.
+    ///
+    /// # Errors
+    /// As those of [`Layout::fit`] and [`Layout::finish`].
+    fn part(&self, alloc: Global, old: &[Thing]) -> Result<Contents, Stop>
+        requires layout { IsLayout self.now }
+        requires near { All IsNear old.now }
+        ensures { IfOk result (λ contents. Shows self.now.window (things_items self.now.shelf.now old.now) (things_items self.now.shelf.now contents)) }
+    {
+        let passed = self.fit(alloc, old)?;
+        let Passed { things, is_open } = passed;
+        if is_open {
+            return self.finish(alloc, things);
+        }
+        Ok(Contents { things })
+    }
+}
+
+impl Contents {
+    /// The top of a shelf's first submission, as an array of one instance; none where there is no node.
+    ///
+    /// # Errors
+    /// Want of memory.
+    pub fn top(alloc: Global, shelf: &Shelf) -> Result<Option<Contents>, AllocError>
+        requires { 0 < length shelf.now }
+        ensures { IfOk result (λ o. IfSome o (λ things. things_items shelf.now things ≡ flat shelf.now 0)) }
+    {
+        let window = Box2 {
+            x0: 0,
+            y0: 0,
+            x1: 0,
+            y1: 0,
+        };
+        let opened = Opened::Few {
+            instances: 0,
+            shapes: 0,
+        };
+        let layout = Layout::of(shelf, window, 1, opened);
+        let Some(array) = layout.top() else {
+            return Ok(None);
+        };
+        let mut things = Vec::new(alloc);
+        things.push(Thing::Array(array))?;
+        Ok(Some(Contents { things }))
+    }
+
+    /// What of these meets a window, opened as wanted: shapes and arrays that miss it, by their boxes or by division, are left
+    /// out, and arrays of few instances of large structures are opened, one level after another. None where there would be
+    /// more things than wanted, where an array's node isn't its structure's, where a name is bound outside the library, or
+    /// where a displacement lies beyond 2^48 nm.
+    ///
+    /// Takes time by the number of things, each array a constant one while it isn't opened, and by what is opened; memory for
+    /// what is left, and twice that where something is opened.
+    ///
+    /// # Errors
+    /// Want of memory.
+    pub fn within(
+        &self,
+        alloc: Global,
+        shelf: &Shelf,
+        part: &Part,
+    ) -> Result<Option<Contents>, AllocError>
+        requires { 0 < length shelf.now }
+        ensures whole { IfOk result (λ o. IfSome o (λ things. AreWhole part.now.window (things_items shelf.now self.now) (things_items shelf.now things))) }
+        ensures sound { IfOk result (λ o. IfSome o (λ things. AreSound (things_items shelf.now self.now) (things_items shelf.now things))) }
+    {
+        let opened = Opened::Few {
+            instances: part.instances,
+            shapes: part.shapes,
+        };
+        let layout = Layout::of(shelf, part.window, part.most, opened);
+        match layout.part(alloc, self.things()) {
+            Ok(contents) => Ok(Some(contents)),
+            Err(Stop::Memory) => Err(AllocError),
+            Err(_) => Ok(None),
+        }
+    }
+}

@@ -1,0 +1,134 @@
+//! The edge at which most of a core's instances begin or end.
+
+use crate::cutting::Cut;
+use crate::room::{Span, span_of};
+use crate::sample::Sample;
+use crate::view::View;
+use mpw_contents::Thing;
+use std::alloc::{AllocError, Global};
+
+/// What it costs to cross an instance, in nm of the side that is cut.
+const CROSSED: i64 = 1_000_000;
+
+/// What it costs to cut off less than a quarter, in nm of the side that is cut.
+const NEAR_A_SIDE: i64 = 500_000;
+
+/// A place at which edges are, so many times.
+#[derive(Clone, Copy)]
+struct Place {
+    at: i64,
+    times: u64,
+}
+
+/// A line, and what it costs.
+#[derive(Clone, Copy)]
+struct Priced {
+    cut: Cut,
+    cost: i64,
+}
+
+impl Place {
+    /// Whether there are more edges than at another, or as many and it is nearer to a place.
+    fn is_better(self, other: Place, middle: i64) -> bool {
+        self.times > other.times
+            || (self.times == other.times && self.at.abs_diff(middle) < other.at.abs_diff(middle))
+    }
+}
+
+/// Of places in order the one that comes most, and the nearest to a place of several.
+fn most_common(places: &[i64], middle: i64) -> Option<i64> {
+    let mut best: Option<Place> = None;
+    let mut last = Place { at: 0, times: 0 };
+    for at in places {
+        let times = if last.at == *at { last.times } else { 0 };
+        last = Place {
+            at: *at,
+            times: times.saturating_add(1),
+        };
+        best = match best {
+            Some(found) if !last.is_better(found, middle) => Some(found),
+            _ => Some(last),
+        };
+    }
+    best.map(|place| place.at)
+}
+
+/// Lines beyond the edges of a sample along y, or along x, that lie strictly inside a span, in order. An error is want of memory.
+fn edges_inside(
+    alloc: Global,
+    view: &View<'_>,
+    sample: &Sample,
+    are_rows: bool,
+    inside: Span,
+) -> Result<Vec<i64>, AllocError> {
+    let mut edges = Vec::with_capacity(alloc, sample.boxes().len().saturating_mul(2))?;
+    for b in sample.boxes() {
+        let Span { low, high } = span_of(b, are_rows).moved_apart(view.margin(are_rows));
+        if inside.has(low) {
+            edges.push(low)?;
+        }
+        if inside.has(high) {
+            edges.push(high)?;
+        }
+    }
+    edges.sort_unstable();
+    Ok(edges)
+}
+
+/// The line along y, or along x, at which most of a sample begins or ends, among those inside a span. An error is want of memory.
+fn common_inside(
+    alloc: Global,
+    view: &View<'_>,
+    sample: &Sample,
+    are_rows: bool,
+    inside: Span,
+) -> Result<Option<Priced>, AllocError> {
+    let edges = edges_inside(alloc, view, sample, are_rows, inside)?;
+    let Some(at) = most_common(&edges, inside.middle()) else {
+        return Ok(None);
+    };
+    let cut = Cut { are_rows, at };
+    let crossed = i64::try_from(sample.crossed(cut, view.slack())).unwrap_or(0);
+    let length = i64::try_from(view.span(are_rows).length()).unwrap_or(i64::MAX);
+    let cost = crossed.saturating_mul(CROSSED).saturating_sub(length);
+    Ok(Some(Priced { cut, cost }))
+}
+
+/// The line along y, or along x, at which most of a sample begins or ends: in the middle half of a core, if there is one. An error is want of
+/// memory.
+fn common_along(
+    alloc: Global,
+    view: &View<'_>,
+    sample: &Sample,
+    are_rows: bool,
+) -> Result<Option<Priced>, AllocError> {
+    let span = view.span(are_rows);
+    let middle = common_inside(alloc, view, sample, are_rows, span.middle_half())?;
+    if middle.is_some() {
+        return Ok(middle);
+    }
+    let anywhere = common_inside(alloc, view, sample, are_rows, span)?;
+    Ok(anywhere.map(|priced| Priced {
+        cost: priced.cost.saturating_add(NEAR_A_SIDE),
+        ..priced
+    }))
+}
+
+/// The line at which most of a core's instances begin or end, in about: about 64 of them are looked at, of which there are so many among the things;
+/// none where no edge is inside. An error is want of memory.
+pub(crate) fn common_edge(
+    alloc: Global,
+    view: &View<'_>,
+    things: &[Thing],
+    instances: usize,
+) -> Result<Option<Cut>, AllocError> {
+    let sample = Sample::of_instances(alloc, view, things, instances)?;
+    let rows = common_along(alloc, view, &sample, true)?;
+    let columns = common_along(alloc, view, &sample, false)?;
+    let best = match (rows, columns) {
+        (Some(row), Some(column)) if column.cost < row.cost => Some(column),
+        (None, column) => column,
+        (row, _) => row,
+    };
+    Ok(best.map(|priced| priced.cut))
+}

@@ -1,0 +1,132 @@
+//! The things of a layout as a core sees them.
+
+ghost use Rattle.std.specs.Prelude.{IfSome};
+ghost use Rattle.mpw_structures.specs.Element.{IsElement};
+ghost use Rattle.mpw_structures.specs.Library.{IsLibrary};
+ghost use Rattle.mpw_hier.specs.Nodes.{AreNodes, AreNodesOf};
+
+use crate::cutting::Core;
+use crate::room::{Room, Span, seen_step, seen_where_placed, span_of};
+use mpw_contents::{Array, Shape, Thing};
+use mpw_geom::{Box2, Point};
+use mpw_hier::{Node, Shelf, element_box};
+use mpw_structures::{Element, Structure};
+
+/// No step.
+const STILL: Point = Point { x: 0, y: 0 };
+
+/// A core, and the first submission of a shelf, whose things it sees.
+#[derive(Clone, Copy)]
+pub(crate) struct View<'a> {
+    /// The core.
+    pub core: Core,
+    nodes: &'a [Node],
+    shelf: &'a Shelf,
+}
+
+/// The structures of the first submission of a shelf.
+fn structures_of(shelf: &Shelf) -> Option<&[Structure]>
+    ensures { IfSome result (λ structures. IsLibrary structures.now) }
+{
+    let _nodes = shelf.nodes(0)?;
+    let submission = shelf.get(0)?;
+    Some(submission.library.structures())
+}
+
+impl<'a> View<'a> {
+    /// The first submission of a shelf as a core sees it.
+    pub fn of(shelf: &'a Shelf, core: &Core) -> Option<View<'a>> {
+        Some(View {
+            core: *core,
+            nodes: shelf.nodes(0)?,
+            shelf,
+        })
+    }
+
+    /// How far the core reaches along y, or along x.
+    pub fn span(&self, are_rows: bool) -> Span {
+        span_of(&self.core.area, are_rows)
+    }
+
+    /// How far beyond an instance its lines stand: along x where the core's window no longer meets it, and along y at its edges.
+    pub fn margin(&self, are_rows: bool) -> i64 {
+        if are_rows { 0 } else { self.core.margin }
+    }
+
+    /// How far into an instance a line may cross it.
+    pub fn slack(&self) -> i64 {
+        self.core.margin.saturating_mul(4)
+    }
+
+    /// How many shapes each instance of an array shows.
+    pub fn shown_by_each(&self, array: &Array) -> u64 {
+        self.nodes.get(array.node).map_or(0, |node| node.size.count)
+    }
+
+    /// The element of a shape.
+    fn element(&self, shape: &Shape) -> Option<&'a Element>
+        ensures { IfSome result (λ e. IsElement e.now) }
+    {
+        let structure = structures_of(self.shelf)?.get(shape.structure)?;
+        structure.elements.as_slice().get(shape.element)
+    }
+
+    /// Where a shape stands.
+    fn shape_room(&self, shape: &Shape) -> Option<Room> {
+        let element = self.element(shape)?;
+        let first = seen_where_placed(self.core.axis, shape.placing, element_box(element)?)?;
+        Some(Room {
+            first,
+            columns: 1,
+            rows: 1,
+            column_step: STILL,
+            row_step: STILL,
+        })
+    }
+
+    /// Where the instances of an array stand.
+    pub fn array_room(&self, array: &Array) -> Option<Room> {
+        let extent = self.nodes.get(array.node)?.size.extent?;
+        let axis = self.core.axis;
+        let first = seen_where_placed(axis, array.first, extent)?;
+        Some(Room {
+            first,
+            columns: array.columns,
+            rows: array.rows,
+            column_step: seen_step(axis, array.column_step),
+            row_step: seen_step(axis, array.row_step),
+        })
+    }
+
+    /// Where the instances stand that a thing is; none where it is a shape.
+    pub fn instance_room(&self, thing: &Thing) -> Option<Room> {
+        match thing {
+            Thing::Array(array) => self.array_room(array),
+            Thing::Shape(_) => None,
+        }
+    }
+
+    /// Where a thing stands.
+    pub fn room(&self, thing: &Thing) -> Option<Room> {
+        match thing {
+            Thing::Array(array) => self.array_room(array),
+            Thing::Shape(shape) => self.shape_room(shape),
+        }
+    }
+
+    /// Whether over half of a box lies in the core.
+    pub fn is_mostly_inside(&self, b: &Box2) -> bool {
+        let inside = self.core.area.intersection(*b);
+        if inside.x0 >= inside.x1 || inside.y0 >= inside.y1 {
+            return false;
+        }
+        area_of(&inside) > area_of(b) / 2
+    }
+}
+
+/// The area of a box.
+fn area_of(b: &Box2) -> u64 {
+    span_of(b, false)
+        .length()
+        .saturating_mul(span_of(b, true).length())
+}

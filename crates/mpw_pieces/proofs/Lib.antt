@@ -1,0 +1,4 @@
+pub mod Order
+pub mod Runs
+pub mod Exact
+pub mod Made

@@ -1,0 +1,5 @@
+use Rattle.mpw_pieces.proofs.Runs.{ComeTo}
+use Rattle.mpw_pieces.proofs.pieces.runs_from.Given as goal
+
+abbrev pub invariant-loop-piece : goal.invariant-loop-piece
+invariant-loop-piece l = ComeTo l.fn.first l.rest l.runs.items l.run l.piece-index

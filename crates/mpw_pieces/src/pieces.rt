@@ -1,0 +1,123 @@
+//! Pieces in order, and the runs that they make.
+
+ghost use Rattle.std.specs.Prelude.{◌≡◌, ◌≤◌, ◌↔◌, ◌∷◌, filter, All, Contains, IfOk, IsTrue, MatchBool, int_lt};
+ghost use Rattle.std.specs.List.Sorted.{IsPermutation, IsSorted};
+ghost use Rattle.mpw_markers.specs.declared.marker.Key.{Key as KeyValue};
+ghost use Rattle.mpw_markers.specs.Markers.{line_of_key};
+ghost use Rattle.mpw_keys.specs.Keys.{list_number, key_cmp, AreInOrder};
+ghost use Rattle.mpw_pieces.specs.Pieces.{IsRunOfPieces};
+ghost use Rattle.mpw_pieces.specs.Internal.{has_rows, lengthened, GoesOn, IsApart, AreRunsFrom, AreRunsOf};
+
+use mpw_markers::Key;
+use std::alloc::{AllocError, Global};
+use std::cmp::Ordering;
+
+/// The number of the key's list among those of its axis.
+fn list_number(key: &Key) -> u64
+    ensures { result ≡ list_number key.now }
+{
+    2 * u64::from(key.rule) + u64::from(key.side)
+}
+
+/// Which of two keys of one axis comes first.
+fn key_order(first: &Key, second: &Key) -> Ordering
+    ensures { result ≡ key_cmp first.now second.now }
+{
+    let lists = list_number(first).cmp(&list_number(second));
+    let edges = first.x1.cmp(&second.x1);
+    let rows = first.x2.cmp(&second.x2).then(first.y0.cmp(&second.y0));
+    lists.then(edges.then(rows))
+}
+
+/// The pieces that have a row.
+fn with_rows(pieces: Vec<Key>) -> Vec<Key>
+    ensures { result.items ≡ filter has_rows pieces.items }
+{
+    let mut pieces = pieces;
+    pieces.retain(
+        |piece: &Key| -> bool
+            ensures { result ≡ has_rows piece.now }
+        { piece.y0 < piece.y1 },
+    );
+    pieces
+}
+
+/// The pieces of one axis, sorted.
+fn sorted(pieces: Vec<Key>) -> Vec<Key>
+    ensures same { IsPermutation pieces.items result.items }
+    ensures sorted { IsSorted key_cmp result.items }
+{
+    let mut pieces = pieces;
+    pieces.sort_unstable_by(|a, b| key_order(a, b));
+    pieces
+}
+
+/// Whether the two lie on one line.
+fn is_on_line_of(run: &Key, piece: &Key) -> bool
+    ensures { IsTrue result ↔ (line_of_key run.now ≡ line_of_key piece.now) }
+{
+    run.line() == piece.line()
+}
+
+/// Whether the piece goes on with the run: it lies on the run's line, and begins at the run's end or before.
+fn goes_on(run: &Key, piece: &Key) -> bool
+    ensures { MatchBool result (GoesOn run.now piece.now) (IsApart run.now piece.now) }
+{
+    is_on_line_of(run, piece) && piece.y0 <= run.y1
+}
+
+/// The run, lengthened to the end of the piece.
+fn lengthened(run: &Key, piece: &Key) -> Key
+    ensures { result ≡ lengthened run.now piece.now }
+{
+    Key {
+        y1: run.y1.max(piece.y1),
+        ..*run
+    }
+}
+
+/// The runs of the first piece and the others, which are in order.
+fn runs_from(alloc: Global, first: Key, rest: &[Key]) -> Result<Vec<Key>, AllocError>
+    ensures { IfOk result (λ v. AreRunsFrom first rest.now v.items) }
+{
+    let mut runs = Vec::with_capacity(alloc, rest.len().saturating_add(1))?;
+    let mut run = first;
+    for piece in rest {
+        if goes_on(&run, piece) {
+            run = lengthened(&run, piece);
+        } else {
+            runs.push(run)?;
+            run = *piece;
+        }
+    }
+    runs.push(run)?;
+    Ok(runs)
+}
+
+/// The runs of pieces that are in order.
+fn runs_of(alloc: Global, pieces: &[Key]) -> Result<Vec<Key>, AllocError>
+    ensures { IfOk result (λ v. AreRunsOf pieces.now v.items) }
+{
+    match pieces {
+        [] => Ok(Vec::new(alloc)),
+        [first, rest @ ..] => runs_from(alloc, *first, rest),
+    }
+}
+
+/// The maximal runs of the rows that the pieces have, each once, in order. The pieces may be in any order, overlap, and stand there more
+/// than once; those without a row add nothing. All are of one axis, and their sides are 0 or 1.
+///
+/// The cost is that of a sort, in place, and of one pass. The result has room for as many runs as there are pieces with a row.
+///
+/// # Errors
+/// Want of memory.
+pub fn joined(alloc: Global, pieces: Vec<Key>) -> Result<Vec<Key>, AllocError>
+    requires axis { (k l : KeyValue) → Contains pieces.items k → Contains pieces.items l → k.axis ≡ l.axis }
+    requires sides { All (λ k. k.side ≤ 1) pieces.items }
+
+    ensures exact { IfOk result (λ v. (k : KeyValue) → Contains v.items k ↔ IsRunOfPieces pieces.items k) }
+    ensures ordered { IfOk result (λ v. AreInOrder v.items) }
+{
+    let pieces = sorted(with_rows(pieces));
+    runs_of(alloc, pieces.as_slice())
+}
