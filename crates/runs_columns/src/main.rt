@@ -6,7 +6,8 @@
 //! - `alike MOST | RULES | LIBRARY` tells how many books of columns differ from that of tiles, by that number and four others;
 //! - `told MOST | RULES | LIBRARY` tells what a check by columns tells of how far it came, first and last;
 //! - `whole SIDE | RULES | LIBRARY` tells by what `check_layout` goes, with tiles of 256 nm and of SIDE, and whether both find the same;
-//! - `random N` checks N random libraries so by five numbers, and tells how many books differ.
+//! - `random N` checks N random libraries so by five numbers, and tells how many books differ;
+//! - `rows N` does so with random libraries of rows of cells.
 #![tactic(auto)]
 
 mod book;
@@ -28,7 +29,8 @@ fn answer(rt: &(impl Print + AllocGlobal + Threads + Sync), line: &str) -> Resul
         ["alike", most] => book::print_alike(rt, most, rules, library),
         ["told", most] => book::print_told(rt, most, rules, library),
         ["whole", side] => book::print_whole(rt, side, rules, library),
-        ["random", count] => random::compared(rt, count),
+        ["random", count] => random::compared(rt, false, count),
+        ["rows", count] => random::compared(rt, true, count),
         _ => bail!("a command"),
     }
 }

@@ -1,4 +1,4 @@
-//! Random libraries: boxes, in the top and in a cell that the top places in arrays, and turned.
+//! Random libraries: boxes, in the top and in a cell that the top places in arrays, and turned; and rows of cells.
 
 use crate::book::compared as books_that_differ;
 use anyhow::Result;
@@ -14,6 +14,13 @@ const RULES: &str =
 const OF_TOP: u32 = 24;
 
 const OF_CELL: u32 = 5;
+
+/// How many rows there are, how many cells each has, and how high it is, in nm.
+const ROWS: u32 = 6;
+
+const IN_ROW: u32 = 12;
+
+const HEIGHT: u32 = 100;
 
 /// Adds a box within `reach` nm of the origin, at most `longest` nm long and wide.
 fn add_box(
@@ -48,13 +55,73 @@ fn library(alloc: Global, random: &mut Random) -> Result<String> {
     Ok(text)
 }
 
-/// Checks random libraries, and prints how many markers they have and how many books differ.
-pub fn compared(rt: &(impl Print + AllocGlobal + Threads + Sync), count: &str) -> Result<()> {
+/// Adds a row of cells of three kinds, side by side.
+fn add_row(text: &mut String, alloc: Global, random: &mut Random, row: u32) -> Result<()> {
+    let is_mirrored = row % 2 == 1;
+    let y = if is_mirrored {
+        (row + 1) * HEIGHT
+    } else {
+        row * HEIGHT
+    };
+    let orient = if is_mirrored { "M0" } else { "R0" };
+    let mut x = 0u32;
+    for _ in 0..IN_ROW {
+        let (name, width) = match random.below(3) {
+            0 => ("E", 60),
+            1 => ("F", 90),
+            _ => ("G", 120),
+        };
+        let one = format!(in alloc; "; s {name} {x} {y} {orient}")?;
+        text.push_str(one.as_str())?;
+        x += width;
+    }
+    Ok(())
+}
+
+/// Adds a cell with two rails, which it shares with the rows below and above, and boxes between them.
+fn add_cell(
+    text: &mut String,
+    alloc: Global,
+    random: &mut Random,
+    name: &str,
+    width: u32,
+) -> Result<()> {
+    let rails = format!(in alloc; "; {name}: b 1/0 0 -8 {width} 8; b 1/0 0 92 {width} 108")?;
+    text.push_str(rails.as_str())?;
+    for _ in 0..OF_CELL {
+        add_box(text, alloc, random, 70, 40)?;
+    }
+    Ok(())
+}
+
+/// A random library of rows of cells, every second row mirrored, an array beside them, and a wire over all.
+fn rows(alloc: Global, random: &mut Random) -> Result<String> {
+    let mut text = String::from_str(alloc, "TOP: b 2/0 -20 333 1100 341; b 7/0 100 0 140 600")?;
+    for row in 0..ROWS {
+        add_row(&mut text, alloc, random, row)?;
+    }
+    text.push_str("; a E 4 5 -400 0 -80 0 -400 500")?;
+    add_cell(&mut text, alloc, random, "E", 60)?;
+    add_cell(&mut text, alloc, random, "F", 90)?;
+    add_cell(&mut text, alloc, random, "G", 120)?;
+    Ok(text)
+}
+
+/// Checks random libraries, of rows or not, and prints how many books differ.
+pub fn compared(
+    rt: &(impl Print + AllocGlobal + Threads + Sync),
+    are_rows: bool,
+    count: &str,
+) -> Result<()> {
     let count: u32 = count.parse()?;
     let mut random = Random::new(7);
     let mut differ = 0u32;
     for _ in 0..count {
-        let text = library(rt.alloc(), &mut random)?;
+        let text = if are_rows {
+            rows(rt.alloc(), &mut random)?
+        } else {
+            library(rt.alloc(), &mut random)?
+        };
         let different = books_that_differ(rt, rt.alloc(), 6, RULES, text.as_str())?;
         differ = differ.saturating_add(different);
     }
