@@ -15,11 +15,12 @@ use Rattle.mpw_structures.specs.declared.element.Element.{Element}
 use Rattle.mpw_hier.specs.declared.submission.Submission.{Submission}
 use Rattle.mpw_hier.specs.Items.{Item}
 use Rattle.mpw_contents.specs.declared.thing.Thing.{Thing}
-use Rattle.mpw_contents.specs.Contents.{AreWhole, AreSound}
+use Rattle.mpw_contents.specs.Contents.{AreWhole, AreSound, IsOn}
 use Rattle.mpw_contents.specs.declared.thing.Shape.{Shape}
 use Rattle.mpw_contents.specs.declared.thing.Thing.TheVariants as variants
 use Rattle.mpw_contents.specs.Things.{drawn, element_in, thing_items, things_items}
 use Rattle.mpw_tiles.specs.declared.listing.Rectangle.{Rectangle}
+use Rattle.mpw_tiles.specs.Snapshots.{shown}
 use Rattle.mpw_tiles.specs.Laws.{SquaresLieInBoxes}
 use Rattle.mpw_tiles.specs.Placed.{IsSquareInPlane}
 use Rattle.mpw_tiles.specs.Shown.{ShowsSquare}
@@ -35,7 +36,7 @@ use Rattle.mpw_columns.specs.Internal.Listed.{AddsShown, ShowSeen}
 use Rattle.mpw_columns.specs.Internal.Pieces.{AreThingsIn, AreRectanglesIn, MeetsSquaresOf}
 use Rattle.mpw_columns.proofs.Looking.{window_in_plane}
 use Rattle.mpw_columns.proofs.Showing.{none_listed, item_listed}
-use Rattle.mpw_columns.proofs.ThingsShown.{things_within}
+use Rattle.mpw_columns.proofs.ThingsShown.{things_within, things_on}
 
 -- ---- what a part is told to show
 
@@ -151,3 +152,30 @@ rectangles_told l axis core window things listed slice parts made short u are sh
     ∙ ap (λ (rs : List Rectangle). listed_on rs layer i j) (sym same)
     ∙ subst (λ (b : Box2). AgreeAll b (listed_on slice) (listed_on parts)) w agree layer i j f g low high
     ∙ ap (λ (on : Coverage). on layer i j) (sym last)
+
+-- ---- the whole layout
+
+-- what shows the layout shows it in any window
+top_shows : (l : Layout) (axis : Axis) (core : Box2) (top : List Thing)
+    → things_items l.snapshot.now.shelf top ≡ shown l.snapshot.now → AreThingsIn l axis core top
+top_shows l axis core top e layer c i j f g low high =
+    ap (λ (items : List Item). seen_on axis (shown_on items) layer i j) (sym e)
+
+-- the things of the layout, made of the top: what meets a window, on the layers
+pub all_told : {E : Type 0} → SquaresLieInBoxes → (l : Layout) (axis : Axis) (core window : Box2)
+    (top all on : List Thing) (shelf : List Submission) (r : Result (Option (List Thing)) E)
+    (o : Option (List Thing)) → r ≡ Ok o → o ≡ Some all
+    → MeetsSquaresOf (seen_box axis (across core (l.distance + 1))) window
+    → shelf ≡ l.snapshot.now.shelf → things_items l.snapshot.now.shelf top ≡ shown l.snapshot.now
+    → IfOk r (λ p. IfSome p (λ part. AreWhole window (things_items shelf top) (things_items shelf part)))
+    → IfOk r (λ p. IfSome p (λ part. AreSound (things_items shelf top) (things_items shelf part)))
+    → ((i : Item) → Contains (things_items shelf all) i → IsOn l.layers.now i.element
+    → Contains (things_items shelf on) i) → AreSound (things_items shelf all) (things_items shelf on)
+    → AreThingsIn l axis core on
+all_told law l axis core window top all on shelf r o e f meets s shows whole sound kept own =
+    things_on l axis core all on
+    (subst (λ (ss : List Submission). (i : Item) → Contains (things_items ss all) i
+    → IsOn l.layers.now i.element → Contains (things_items ss on) i) s kept)
+    (subst (λ (ss : List Submission). AreSound (things_items ss all) (things_items ss on)) s own)
+    (of_some r o all (AreThingsIn l axis core) e f
+    (part_told law l axis core window top shelf r meets s (top_shows l axis core top shows) whole sound))

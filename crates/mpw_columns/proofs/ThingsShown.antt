@@ -26,8 +26,8 @@ use Rattle.mpw_columns.specs.Seen.{seen_on}
 use Rattle.mpw_columns.specs.declared.batch.Listed.{Listed}
 use Rattle.mpw_columns.specs.declared.check.Layout.{Layout}
 use Rattle.mpw_columns.specs.Internal.Blocks.{IsPart}
-use Rattle.mpw_columns.specs.Internal.Checked.{HasThings}
-use Rattle.mpw_columns.specs.Internal.Pieces.{AreThingsIn, IsInside, MeetsSquaresOf, seen_things, seen_way}
+use Rattle.mpw_columns.specs.Internal.Checked.{AreAllThings, HasThings}
+use Rattle.mpw_columns.specs.Internal.Pieces.{AreThingsIn, IsInside, MeetsSquaresOf, seen_things, seen_way, whole_core}
 use Rattle.mpw_columns.proofs.Moved.{shows_square, moved_shown}
 use Rattle.mpw_columns.proofs.PiecesMoved.{AreSquaresMoved}
 use Rattle.mpw_columns.proofs.Windowed.{is_met_by}
@@ -136,3 +136,8 @@ part_things l c listed core part has e =
     (things_inside l c.axis (upright (seen_box c.axis l.extent) c)
     (upright (seen_box c.axis l.extent) whole) listed.things
     (record { left = part.from; right = part.to; bottom = omega (arith, ints); top = omega (arith, ints) }) wide)
+
+pub along_either : (l : Layout) (axis : Axis) (things : List Thing) → AreAllThings l things
+    → AreThingsIn l axis (whole_core l axis) things
+along_either l V things h = h.0
+along_either l H things h = h.1

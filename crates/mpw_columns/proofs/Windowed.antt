@@ -7,7 +7,7 @@ use Rattle.std.proofs.lemmas.Int.{ints, clamps}
 use Rattle.std.proofs.lemmas.List.Elements.{All-contains, All-filter, All-contains_itself, Contains-append_right, Contains-append_cases, Contains-push_cases}
 use Rattle.mpw_geom.specs.declared.plane.Box2.{Box2}
 use Rattle.mpw_geom.specs.declared.plane.Layer.{Layer}
-use Rattle.mpw_geom.specs.Plane.{Square, has_square}
+use Rattle.mpw_geom.specs.Plane.{Square, has_square, joined}
 use Rattle.mpw_geom.proofs.Tests.{same_tests, test_from_le, SquareIn-from_test, test_from_SquareIn}
 use Rattle.mpw_edges.specs.declared.run.Axis.{Axis}
 use Rattle.mpw_edges.specs.declared.run.Axis.TheVariants.{V, H}
@@ -88,6 +88,29 @@ pub is_met_by : (window met : Box2) (o : Option Box2) (s : Square) → MeetsSqua
     → IsInBox o s → has_square window s ≡ true → is_met met o ≡ true
 is_met_by window met o s meets h k = subst (λ (x : Option Box2). is_met met x ≡ true) (sym h.is)
     (meets h.corners s k h.has)
+
+-- what has a square of either of two boxes meets that of both
+pub meets_first : (a b : Box2) → MeetsSquaresOf a (joined a b)
+meets_first a b o s h k =
+    let p = SquareIn-from_test a s h in
+    let l = p.left in let r = p.right in let low = p.bottom in let high = p.top in
+    shares o (joined a b) s k (test_from_SquareIn (joined a b) s (record {
+      left = omega (arith, ints, clamps);
+      right = omega (arith, ints, clamps);
+      bottom = omega (arith, ints, clamps);
+      top = omega (arith, ints, clamps);
+    }))
+
+pub meets_second : (a b : Box2) → MeetsSquaresOf b (joined a b)
+meets_second a b o s h k =
+    let p = SquareIn-from_test b s h in
+    let l = p.left in let r = p.right in let low = p.bottom in let high = p.top in
+    shares o (joined a b) s k (test_from_SquareIn (joined a b) s (record {
+      left = omega (arith, ints, clamps);
+      right = omega (arith, ints, clamps);
+      bottom = omega (arith, ints, clamps);
+      top = omega (arith, ints, clamps);
+    }))
 
 pub meets_itself : (window : Box2) → MeetsSquaresOf window window
 meets_itself window b s h k = shares b window s k h

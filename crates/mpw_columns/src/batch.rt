@@ -26,10 +26,9 @@ use std::alloc::{AllocError, Global};
 /// So many shapes for each that is drawn, and for each reference, make a layout one of things.
 const MANY_PLACED: u64 = 4;
 
-/// The things of the layout, to be cut along an axis; none where rectangles serve better.
+/// The things of the whole layout; none where rectangles serve better.
 #[derive(Drop)]
 pub(crate) struct Top {
-    axis: Axis,
     things: Option<Contents>,
 }
 
@@ -63,41 +62,33 @@ pub(crate) fn is_placed(snapshot: &Snapshot) -> bool {
     }
 }
 
-/// The things of the layout along an axis. Linear in what the top has; an error is want of memory.
-pub(crate) fn top_of(alloc: Global, layout: &Layout<'_>, axis: Axis) -> Result<Top, AllocError>
+/// The things of the whole layout. Linear in what the top has; an error is want of memory.
+pub(crate) fn top_of(alloc: Global, layout: &Layout<'_>) -> Result<Top, AllocError>
     requires { IsLayout layout.now }
     ensures { IfOk result (IsTop layout.now) }
 {
-    let task = Task { layout, axis };
     if !is_placed(layout.snapshot) || !is_first_alone(layout.snapshot) {
-        return Ok(Top { axis, things: None });
+        return Ok(Top { things: None });
     }
-    let Some(core) = whole_core(&task) else {
-        return Ok(Top { axis, things: None });
+    let Some(upright) = whole_core(&task_along(layout, Axis::V)) else {
+        return Ok(Top { things: None });
     };
-    let things = all_things(alloc, &task, &core)?;
-    Ok(Top { axis, things })
+    let Some(lying) = whole_core(&task_along(layout, Axis::H)) else {
+        return Ok(Top { things: None });
+    };
+    let things = all_things(alloc, layout, &upright, &lying)?;
+    Ok(Top { things })
+}
+
+/// The layout, along an axis.
+fn task_along<'a>(layout: &'a Layout<'a>, axis: Axis) -> Task<'a>
+    ensures layout { result.layout.now ≡ layout.now }
+    ensures axis { result.axis ≡ axis }
+{
+    Task { layout, axis }
 }
 
 impl Top {
-    /// The things along an axis: these, or others where these are along the other axis. An error is want of memory.
-    pub(crate) fn turned(
-        self,
-        alloc: Global,
-        layout: &Layout<'_>,
-        axis: Axis,
-    ) -> Result<Top, AllocError>
-        requires layout { IsLayout layout.now }
-        requires top { IsTop layout.now self }
-        ensures { IfOk result (IsTop layout.now) }
-    {
-        if is_same_axis(self.axis, axis) {
-            return Ok(self);
-        }
-        drop(self);
-        top_of(alloc, layout, axis)
-    }
-
     /// The things in the window of the column of all places of these columns; none where there is no such list. A pass over the things; an error is want
     /// of memory.
     fn listed(
@@ -122,13 +113,13 @@ impl Top {
         };
         let task = Task {
             layout,
-            axis: self.axis,
+            axis: whole.axis,
         };
         let core = core_of(layout, &whole);
         let Some(outer) = whole_core(&task) else {
             return Ok(None);
         };
-        if !is_same_axis(whole.axis, self.axis) || !is_inside(&core, &outer) {
+        if !is_inside(&core, &outer) {
             return Ok(None);
         }
         match things_in(alloc, &task, &core, things)? {

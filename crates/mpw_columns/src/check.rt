@@ -17,7 +17,7 @@ use crate::look::layers_of;
 use crate::plan::counted_columns;
 use crate::progress::Progress;
 use mpw_deck::Rule;
-use mpw_edges::{Axis, test_decides_pair_steps};
+use mpw_edges::test_decides_pair_steps;
 use mpw_geom::{Box2, Layer};
 use mpw_keys::{Column, ColumnKeys, together};
 use mpw_markers::{Book, Marker};
@@ -140,11 +140,9 @@ fn all_lists<P: Progress>(
     let (total, batch) = (own.columns.len(), batch_of(rt));
     progress.tell(0, total, 0);
     let mut lists = Vec::with_capacity(alloc, total)?;
-    let mut top = top_of(alloc, layout, Axis::V)?;
+    let top = top_of(alloc, layout)?;
     let (mut reached, mut markers) = (0, 0usize);
     while reached < total {
-        let turned = top.turned(alloc, layout, own.columns[reached].axis)?;
-        top = turned;
         let count = count_along(own.columns, reached, batch.min(total - reached));
         let columns = batch_at(own.columns, reached, count);
         let mut more = lists_of(rt, alloc, layout, &top, columns)?;

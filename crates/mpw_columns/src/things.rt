@@ -7,6 +7,8 @@ ghost use Rattle.std.specs.Prelude.{◌≡◌, ◌+◌, ◌++◌, ◌∷◌, ◌
 ghost use Rattle.mpw_hier.specs.Items.{Item};
 ghost use Rattle.mpw_walk.specs.Roots.{root_at_origin};
 ghost use Rattle.mpw_contents.specs.Things.{drawn, element_in, things_items};
+ghost use Rattle.mpw_tiles.specs.Snapshots.{shown};
+ghost use Rattle.mpw_edges.specs.declared.run.Axis.TheVariants.{V, H};
 ghost use Rattle.mpw_job.specs.Answers.{listed_on};
 ghost use Rattle.mpw_keys.specs.Columns.{seen_box, across};
 ghost use Rattle.mpw_columns.specs.Internal.Checked.{IsLayout};
@@ -151,27 +153,47 @@ pub(crate) fn things_in(
     things.within(alloc, task.layout.snapshot.shelf(), &part)
 }
 
-/// The things of the whole layout, without the top's shapes on other layers; none where the layout is too large. Linear in what the top has; an
-/// error is want of memory.
-pub(crate) fn all_things(
-    alloc: Global,
-    task: &Task<'_>,
-    core: &Box2,
-) -> Result<Option<Contents>, AllocError>
-    requires layout { IsLayout task.now.layout.now }
-    requires upright { IsUpright core.now }
-    requires alone { task.now.layout.now.snapshot.now.roots ≡ root_at_origin 0 ∷ [] }
-    ensures { IfOk result (λ o. IfSome o (AreThingsIn task.now.layout.now task.now.axis core.now)) }
+/// The top, as a thing that shows the whole layout. An error is want of memory.
+fn top_thing(alloc: Global, layout: &Layout<'_>) -> Result<Option<Contents>, AllocError>
+    requires layout { IsLayout layout.now }
+    requires alone { layout.now.snapshot.now.roots ≡ root_at_origin 0 ∷ [] }
+    ensures { IfOk result (λ o. IfSome o (λ things. things_items layout.now.snapshot.now.shelf things ≡ shown layout.now.snapshot.now)) }
 {
     roots_at_origin_show_their_submission();
-    let shelf = task.layout.snapshot.shelf();
-    let Some(top) = Contents::top(alloc, shelf)? else {
+    Contents::top(alloc, layout.snapshot.shelf())
+}
+
+/// The things of the whole layout, without the top's shapes on other layers, for cores of either axis; none where the layout is too large. Linear in
+/// what the top has; an error is want of memory.
+pub(crate) fn all_things(
+    alloc: Global,
+    layout: &Layout<'_>,
+    upright: &Box2,
+    lying: &Box2,
+) -> Result<Option<Contents>, AllocError>
+    requires layout { IsLayout layout.now }
+    requires upright { IsUpright upright.now }
+    requires lying { IsUpright lying.now }
+    requires alone { layout.now.snapshot.now.roots ≡ root_at_origin 0 ∷ [] }
+    ensures { IfOk result (λ o. IfSome o (λ things. AreThingsIn layout.now V upright.now things × AreThingsIn layout.now H lying.now things)) }
+{
+    squares_lie_in_boxes();
+    let shelf = layout.snapshot.shelf();
+    let Some(top) = top_thing(alloc, layout)? else {
         return Ok(None);
     };
-    let Some(all) = things_in(alloc, task, core, &top)? else {
+    let wide = window_of(upright, layout.distance);
+    let high = seen_box(Axis::H, &window_of(lying, layout.distance));
+    let part = Part {
+        window: wide.join(high),
+        most: MOST_THINGS,
+        instances: FEW_INSTANCES,
+        shapes: MANY_SHAPES,
+    };
+    let Some(all) = top.within(alloc, shelf, &part)? else {
         return Ok(None);
     };
-    let on_layers = all.on_layers(alloc, shelf, task.layout.layers)?;
+    let on_layers = all.on_layers(alloc, shelf, layout.layers)?;
     Ok(Some(on_layers))
 }
 

@@ -16,6 +16,9 @@ use std::alloc::{AllocError, Global};
 /// How many bins there are.
 const BINS: u64 = 1 << 14;
 
+/// What is no wider than one bin and so many more is counted at once, with all that it shows: a hundredth of the layout or so.
+const FEW_BINS: usize = 128;
+
 /// The most levels that are gone down.
 const MOST_LEVELS: u32 = 64;
 
@@ -81,9 +84,9 @@ impl Counts {
         count_in(&mut self.ended, end, times);
     }
 
-    /// Whether what reaches so far isn't wider than two bins.
+    /// Whether what reaches so far is no wider than one bin and [`FEW_BINS`] more.
     fn is_narrow(&self, reach: Reach) -> bool {
-        self.bin_of(reach.low).abs_diff(self.bin_of(reach.high)) <= 1
+        self.bin_of(reach.low).abs_diff(self.bin_of(reach.high)) <= FEW_BINS
     }
 
     /// Counts the shapes of a node where it is placed, at most so many levels down.
@@ -143,7 +146,7 @@ impl Counts {
     }
 
     /// The counts of a layout of one submission alone, placed where it was drawn, whose extent is seen so along the axis. It takes a
-    /// step for each instance that is wider than two bins, or stands in one that is, where those at the same places along the axis are
+    /// step for each instance that is wider than [`FEW_BINS`], or stands in one that is, where those at the same places along the axis are
     /// one; and for the shapes of these.
     pub fn of(
         alloc: Global,

@@ -58,11 +58,12 @@ fn library(alloc: Global, random: &mut Random) -> Result<String> {
 /// Adds a row of cells of three kinds, side by side.
 fn add_row(text: &mut String, alloc: Global, random: &mut Random, row: u32) -> Result<()> {
     let is_mirrored = row % 2 == 1;
-    let y = if is_mirrored {
-        (row + 1) * HEIGHT
+    let from = if is_mirrored {
+        row.saturating_add(1)
     } else {
-        row * HEIGHT
+        row
     };
+    let y = from.saturating_mul(HEIGHT);
     let orient = if is_mirrored { "M0" } else { "R0" };
     let mut x = 0u32;
     for _ in 0..IN_ROW {
@@ -73,7 +74,7 @@ fn add_row(text: &mut String, alloc: Global, random: &mut Random, row: u32) -> R
         };
         let one = format!(in alloc; "; s {name} {x} {y} {orient}")?;
         text.push_str(one.as_str())?;
-        x += width;
+        x = x.saturating_add(width);
     }
     Ok(())
 }

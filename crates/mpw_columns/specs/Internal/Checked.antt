@@ -1,6 +1,8 @@
 -- A layout as it is checked, and its columns.
 use Rattle.std.specs.Prelude.{◌≡◌, ◌<◌, ◌+◌, ◌^◌, ℕ, List, length, Some, IfSome}
 use Rattle.std.specs.List.{AllZip}
+use Rattle.mpw_edges.specs.declared.run.Axis.TheVariants.{V, H}
+use Rattle.mpw_contents.specs.declared.thing.Thing.{Thing}
 use Rattle.mpw_tiles.specs.Snapshots.{Snapshot, shown, shown_extent}
 use Rattle.mpw_tiles.specs.declared.listing.Rectangle.{Rectangle}
 use Rattle.mpw_job.specs.Answers.{listed_on}
@@ -36,9 +38,12 @@ AgreeInColumn l c rectangles =
 abbrev pub IsShared : Layout → Shared → Type 0
 IsShared l shared = AgreeInColumn l shared.whole shared.rectangles.items
 
--- The things of the whole layout; those in the window of the column of a batch; and what a batch shares.
+-- The things of the whole layout, for either axis; those in the window of the column of a batch; and what a batch shares.
+abbrev pub AreAllThings : Layout → List Thing → Type 0
+AreAllThings l things = AreThingsIn l V (whole_core l V) things × AreThingsIn l H (whole_core l H) things
+
 abbrev pub IsTop : Layout → Top → Type 0
-IsTop l top = IfSome top.things (AreThingsIn l top.axis (whole_core l top.axis))
+IsTop l top = IfSome top.things (AreAllThings l)
 
 abbrev pub HasThings : Layout → Listed → Type 0
 HasThings l listed = AreThingsIn l listed.whole.axis

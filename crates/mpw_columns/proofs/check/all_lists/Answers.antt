@@ -15,12 +15,9 @@ loop-reached-preserved g c =
     let Is = IsColumnList c.args.layout.now.snapshot.now in
     let least = c.min.ensures in let few = c.count_along-count.ensures.few in (
       omega (arith, few, least, c.loop-reached.invariant.0),
-      (
-        subst (AllZip Is (take (reached + count) columns)) (sym c.in_ok-append.ensures.items)
-            (subst (λ (cs : List Column). AllZip Is cs (lists ++ more)) (sym (take-add reached count columns))
-            (zip_append Is (take reached columns) (take count (drop reached columns)) lists more
-            c.loop-reached.invariant.1.0
-            (subst (λ (cs : List Column). AllZip Is cs more) c.batch_at-columns.ensures c.in_ok-more.ensures))),
-        c.in_ok-turned.ensures,
-      ),
+      subst (AllZip Is (take (reached + count) columns)) (sym c.in_ok-append.ensures.items)
+          (subst (λ (cs : List Column). AllZip Is cs (lists ++ more)) (sym (take-add reached count columns))
+          (zip_append Is (take reached columns) (take count (drop reached columns)) lists more
+          c.loop-reached.invariant.1
+          (subst (λ (cs : List Column). AllZip Is cs more) c.batch_at-columns.ensures c.in_ok-more.ensures))),
     )

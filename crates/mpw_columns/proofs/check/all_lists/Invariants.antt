@@ -1,13 +1,11 @@
 use Rattle.std.proofs.Common.{◌≤◌, ◌-◌, length, take}
 use Rattle.std.specs.List.{AllZip}
 use Rattle.mpw_columns.specs.Lists.{IsColumnList}
-use Rattle.mpw_columns.specs.Internal.Checked.{IsTop}
 use Rattle.mpw_columns.proofs.check.all_lists.Given as goal
 
 abbrev pub invariant-loop-reached : goal.invariant-loop-reached
 invariant-loop-reached g l = (l.reached ≤ length l.fn.own.columns.now)
-    × (AllZip (IsColumnList l.fn.layout.snapshot.now) (take l.reached l.fn.own.columns.now) l.lists.items
-    × IsTop l.fn.layout l.top)
+    × AllZip (IsColumnList l.fn.layout.snapshot.now) (take l.reached l.fn.own.columns.now) l.lists.items
 
 abbrev pub decreases-loop-reached : goal.decreases-loop-reached
 decreases-loop-reached g l = length l.fn.own.columns.now - l.reached

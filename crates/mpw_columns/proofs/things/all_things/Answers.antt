@@ -1,23 +1,35 @@
-use Rattle.std.proofs.Common.{List, subst, IfSome}
-use Rattle.std.specs.Prelude.{Contains}
-use Rattle.mpw_hier.specs.Items.{Item}
-use Rattle.mpw_hier.specs.declared.submission.Submission.{Submission}
-use Rattle.mpw_contents.specs.Contents.{AreSound, IsOn}
+use Rattle.std.proofs.Common.{◌≡◌, ◌∙◌, ap, sym, subst, IfSome}
+use Rattle.mpw_geom.specs.declared.plane.Box2.{Box2}
+use Rattle.mpw_edges.specs.declared.run.Axis.TheVariants.{V, H}
 use Rattle.mpw_contents.specs.Things.{things_items}
-use Rattle.mpw_columns.specs.Internal.Pieces.{AreThingsIn}
-use Rattle.mpw_columns.proofs.ThingsShown.{things_on}
+use Rattle.mpw_tiles.specs.Snapshots.{shown}
+use Rattle.mpw_keys.specs.Columns.{seen_box}
+use Rattle.mpw_columns.specs.Internal.Pieces.{MeetsSquaresOf}
+use Rattle.mpw_columns.proofs.ThingsListed.{all_told}
+use Rattle.mpw_columns.proofs.Windowed.{meets_first, meets_second}
 use Rattle.mpw_columns.proofs.things.all_things.Goals as goal
 
 pub returns : goal.returns
 returns c =
-    let l = c.args.task.now.layout.now in
-    let all = c.in-Some-2.all in
-    let on = c.in_ok-on_layers.on_layers in
-    things_on l c.args.task.now.axis c.args.core.now all on
-    (subst (λ (ss : List Submission). (i : Item) → Contains (things_items ss all) i
-    → IsOn l.layers.now i.element → Contains (things_items ss on) i) c.shelf-shelf.ensures
-    c.in_ok-on_layers.ensures.kept)
-    (subst (λ (ss : List Submission). AreSound (things_items ss all) (things_items ss on))
-    c.shelf-shelf.ensures c.in_ok-on_layers.ensures.sound)
-    (subst (λ o. IfSome o (AreThingsIn l c.args.task.now.axis c.args.core.now)) c.in-Some-2.is
-    c.in_ok-all.ensures)
+    let l = c.args.layout.now in
+    let wide = c.window_of-wide.result in
+    let high = c.seen_box-high.result in
+    let both = c.join.result in
+    let shows = subst (λ o. IfSome o (λ things. things_items l.snapshot.now.shelf things ≡ shown l.snapshot.now))
+    c.in-Some.is c.in_ok-top.ensures in
+    let first = subst (λ (b : Box2). MeetsSquaresOf b both) c.window_of-wide.ensures
+    (subst (MeetsSquaresOf wide) (sym c.join.ensures) (meets_first wide high)) in
+    let second = subst (λ (b : Box2). MeetsSquaresOf b both)
+    (c.seen_box-high.ensures ∙ ap (seen_box H) c.window_of.ensures)
+    (subst (MeetsSquaresOf high) (sym c.join.ensures) (meets_second wide high)) in (
+      all_told c.squares_lie_in_boxes.ensures.boxes l V c.args.upright.now both c.in-Some.top
+          c.in-Some-2.all c.in_ok-on_layers.on_layers c.shelf-shelf.result.now c.within.result
+          c.in_ok-all.field-0 c.in_ok-all.was c.in-Some-2.is first c.shelf-shelf.ensures shows
+          c.within.ensures.whole c.within.ensures.sound c.in_ok-on_layers.ensures.kept
+          c.in_ok-on_layers.ensures.sound,
+      all_told c.squares_lie_in_boxes.ensures.boxes l H c.args.lying.now both c.in-Some.top
+          c.in-Some-2.all c.in_ok-on_layers.on_layers c.shelf-shelf.result.now c.within.result
+          c.in_ok-all.field-0 c.in_ok-all.was c.in-Some-2.is second c.shelf-shelf.ensures shows
+          c.within.ensures.whole c.within.ensures.sound c.in_ok-on_layers.ensures.kept
+          c.in_ok-on_layers.ensures.sound,
+    )

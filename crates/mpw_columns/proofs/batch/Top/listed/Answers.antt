@@ -1,15 +1,17 @@
 use Rattle.std.proofs.Common.{sym, subst, IfSome}
 use Rattle.mpw_geom.specs.declared.plane.Box2.{Box2}
-use Rattle.mpw_columns.specs.Internal.Pieces.{AreThingsIn, whole_core}
-use Rattle.mpw_columns.proofs.ThingsShown.{things_inside}
+use Rattle.mpw_columns.specs.Internal.Checked.{AreAllThings}
+use Rattle.mpw_columns.specs.Internal.Pieces.{AreThingsIn}
+use Rattle.mpw_columns.proofs.ThingsShown.{things_inside, along_either}
 use Rattle.mpw_columns.proofs.batch.Top.listed.Goals as goal
 
 pub things_in-requires-clause-things : goal.things_in-requires-clause-things
 things_in-requires-clause-things c =
     let l = c.args.layout.now in
-    let axis = c.args.self.now.axis in
+    let axis = c.in-Some-whole_of.whole.axis in
     things_inside l axis c.core_of-core.result c.in-Some-whole_core.outer c.in-Some.things
     (c.is_inside.ensures c.if-not-is_inside.false)
     (subst (λ (b : Box2). AreThingsIn l axis b c.in-Some.things)
     (sym c.in-Some-whole_core.ensures.core)
-    (subst (λ o. IfSome o (AreThingsIn l axis (whole_core l axis))) c.in-Some.is c.requires.top))
+    (along_either l axis c.in-Some.things
+    (subst (λ o. IfSome o (AreAllThings l)) c.in-Some.is c.requires.top)))
