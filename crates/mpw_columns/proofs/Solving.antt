@@ -1,5 +1,5 @@
 -- Cores that are solved, kept, moved and cut.
-use Rattle.std.proofs.Common.{◌≡◌, ◌∙◌, ℕ, ◌+◌, ◌+ℤ◌, List, [], ◌∷◌, ◌++◌, map, drop, length, Option, Some, None, inl, inr, refl, sym, subst, ap, arith, IfSome}
+use Rattle.std.proofs.Common.{◌≡◌, ◌∙◌, ◌+◌, ◌+ℤ◌, List, [], ◌∷◌, ◌++◌, map, Option, Some, None, inl, inr, sym, subst, ap, arith, IfSome}
 use Rattle.std.specs.Prelude.{All}
 use Rattle.std.proofs.lemmas.Int.{ints}
 use Rattle.std.proofs.lemmas.List.Elements.{All-push}
@@ -167,16 +167,6 @@ cut_joined l axis core first second old mid new c p q =
     (cut_parts l.snapshot.now.deck.rules axis (seen_layout l axis) core first second c) p q
 
 -- ---- pieces behind others
-
-drop_length : {X : Type 0} (xs ys : List X) → drop (length xs) (xs ++ ys) ≡ ys
-drop_length [] ys = refl
-drop_length (x ∷ xs) ys = drop_length xs ys
-
-pub added_pieces : (l : Layout) (axis : Axis) (core : Box2) (old new : List Key) (from : ℕ)
-    → from ≡ length old → AddsLayoutPieces l axis core old new
-    → AreLayoutPieces l axis core (drop from new)
-added_pieces l axis core old new from e p = subst (AreLayoutPieces l axis core)
-    (sym (ap (λ (n : ℕ). drop n new) e ∙ ap (drop (length old)) p.is ∙ drop_length old p.added)) p.pieces
 
 pub behind_others : (l : Layout) (axis : Axis) (core : Box2) (old new added : List Key)
     → new ≡ old ++ added → AreLayoutPieces l axis core added → AddsLayoutPieces l axis core old new

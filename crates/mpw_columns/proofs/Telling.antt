@@ -137,14 +137,3 @@ one_place law s c k l m n e =
     tied.x2 in
     same_key k l line tied.y0 (same_end (steps_of s.deck.rules (shown_on (shown s))) k l m.run n.run
     line tied.y0)
-
--- the keys of a core that is the column's
-pub keys_of_core : (s : Snapshot) (extent : Box2) (c : Column) (seen core : Box2)
-    (keys : List Key) → seen ≡ seen_box c.axis extent → core ≡ upright seen c
-    → ((k : Key) → Contains keys k
-    ↔ IsFound s.deck.rules c.axis (seen_on c.axis (shown_on (shown s))) core k)
-    → AreKeysOf s extent c keys
-keys_of_core s extent c seen core keys e f h k =
-    subst (λ (b : Box2). Contains keys k
-    ↔ IsFound s.deck.rules c.axis (seen_on c.axis (shown_on (shown s))) b k)
-    (f ∙ ap (λ (b : Box2). upright b c) e) (h k)
