@@ -10,7 +10,7 @@ ghost use Rattle.mpw_check.specs.Internal.Tiled.{IsCut, jobs_of, markers_in, IsA
 
 use crate::laws::tiles_make_the_layout;
 use mpw_columns::{MAX_SHOWN, Progress, check_columns};
-use mpw_cuts::repeats;
+use mpw_cuts::{is_placed, repeats};
 use mpw_job::{Answer, Job, tile_job};
 use mpw_markers::{Book, TileMarkers, stitch};
 use mpw_tiles::{Plan, Snapshot, Windows, cut};
@@ -26,6 +26,9 @@ const MAX_BATCH: u32 = 128;
 
 /// The most shapes of a layout that is checked by tiles, whose windows are all held at once.
 const MAX_IN_TILES: u64 = 1 << 20;
+
+/// More shapes than these go by columns where few structures show them.
+const MANY_PLACED: u64 = 1 << 16;
 
 /// A snapshot with its plan, and the windows into which it is cut for it.
 #[derive(Clone, Copy)]
@@ -247,13 +250,17 @@ fn shape_count(snapshot: &Snapshot) -> u64 {
 }
 
 /// How many tiles [`check_layout`] checks a layout by; none where it goes by columns, as it does where the layout shows more than 2^20 shapes, where more than
-/// 4096 tiles of the deck's side cover it, and where arrays show half of it, since equal columns of these are checked once. A look at the children of
-/// a structure each level of these arrays.
+/// 4096 tiles of the deck's side cover it, where arrays show half of it, since equal columns of these are checked once, and where it shows more than 2^16 and
+/// four at least for each that is drawn and each reference, since equal parts of columns are. A look at the children of
+/// a structure each level of these arrays, and one pass over the structures.
 pub fn checked_tiles(snapshot: &Snapshot) -> Option<u32>
     ensures { IfSome result (λ tiles. tile_count snapshot.now ≡ Some tiles) }
 {
-    let is_large = shape_count(snapshot) > MAX_IN_TILES;
-    if is_large || repeats(snapshot) {
+    let count = shape_count(snapshot);
+    if count > MAX_IN_TILES || repeats(snapshot) {
+        return None;
+    }
+    if count > MANY_PLACED && is_placed(snapshot) {
         return None;
     }
     tile_count(snapshot)
@@ -262,7 +269,7 @@ pub fn checked_tiles(snapshot: &Snapshot) -> Option<u32>
 /// The markers of the flat layout of a snapshot's roots under its deck, in the order of their keys, where the shelf has one submission
 /// alone.
 ///
-/// A layout of at most 2^20 shapes that at most 4096 tiles of the deck's side cover is checked by tiles, unless arrays show half of it ([`checked_tiles`]):
+/// A layout of at most 2^20 shapes that at most 4096 tiles of the deck's side cover is checked by tiles, unless few structures show most of it ([`checked_tiles`]):
 /// that costs what [`check_tiles`] does for all tiles, and [`mpw_markers::stitch`]. Every other one goes by columns, and costs what [`check_columns`] does with
 /// [`MAX_SHOWN`]: which way it goes takes no part in what is found. Progress is told of tiles or of columns. What goes by columns may be
 /// made to take long, or much memory, since

@@ -17,14 +17,11 @@ use crate::shared::{Shared, rectangles_of, shared_of};
 use crate::solve::runs_in;
 use crate::things::{Task, all_things, is_inside, things_in, whole_core};
 use mpw_contents::Contents;
+use mpw_cuts::is_placed;
 use mpw_edges::Axis;
 use mpw_keys::Column;
 use mpw_markers::Key;
-use mpw_tiles::Snapshot;
 use std::alloc::{AllocError, Global};
-
-/// So many shapes for each that is drawn, and for each reference, make a layout one of things.
-const MANY_PLACED: u64 = 4;
 
 /// The things of the whole layout; none where rectangles serve better.
 #[derive(Drop)]
@@ -44,22 +41,6 @@ pub(crate) struct Listed {
 pub(crate) struct Batch {
     rectangles: Option<Shared>,
     things: Option<Listed>,
-}
-
-/// Whether the layout shows many shapes for each that is drawn.
-pub(crate) fn is_placed(snapshot: &Snapshot) -> bool {
-    let Some(nodes) = snapshot.shelf().nodes(0) else {
-        return false;
-    };
-    let mut drawn = 0u64;
-    for node in nodes {
-        let own = (node.shapes.len() as u64).saturating_add(node.children.len() as u64);
-        drawn = drawn.saturating_add(own);
-    }
-    match nodes.last() {
-        Some(top) => top.size.count >= drawn.saturating_mul(MANY_PLACED),
-        None => false,
-    }
 }
 
 /// The things of the whole layout. Linear in what the top has; an error is want of memory.

@@ -8,10 +8,9 @@ ghost use Rattle.mpw_keys.specs.Columns.{AreColumnsOf};
 ghost use Rattle.mpw_columns.specs.Plan.{AreColumnsOfLayout};
 ghost use Rattle.mpw_columns.specs.Internal.Checked.{IsCounted};
 
-use crate::batch::is_placed;
 use crate::columns::{View, columns_in};
 use crate::list::seen_box;
-use mpw_cuts::{Counts, lattices_of};
+use mpw_cuts::{Counts, is_placed, lattices_of};
 use mpw_edges::Axis;
 use mpw_geom::Box2;
 use mpw_keys::Column;

@@ -292,3 +292,23 @@ pub fn line_between(lattices: &[Lattice], from: i64, to: i64) -> Option<i64> {
     }
     None
 }
+
+/// So many shapes for each that is drawn, and for each reference, are many.
+const MANY_PLACED: u64 = 4;
+
+/// Whether a layout shows many shapes for each that is drawn and for each reference, so that the things of a window are far fewer than its shapes. One pass over
+/// the structures.
+pub fn is_placed(snapshot: &Snapshot) -> bool {
+    let Some(nodes) = snapshot.shelf().nodes(0) else {
+        return false;
+    };
+    let mut drawn = 0u64;
+    for node in nodes {
+        let own = (node.shapes.len() as u64).saturating_add(node.children.len() as u64);
+        drawn = drawn.saturating_add(own);
+    }
+    match nodes.last() {
+        Some(top) => top.size.count >= drawn.saturating_mul(MANY_PLACED),
+        None => false,
+    }
+}

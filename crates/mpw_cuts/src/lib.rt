@@ -20,5 +20,6 @@ mod view;
 pub use counts::Counts;
 pub use cutting::{Core, Cuts, cuts_of};
 pub use lattice::{
-    Lattice, is_within_cell, lattices_of, line_between, repeats, shown_by_cells, width_of_cells,
+    Lattice, is_placed, is_within_cell, lattices_of, line_between, repeats, shown_by_cells,
+    width_of_cells,
 };
