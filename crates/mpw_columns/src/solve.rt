@@ -23,6 +23,9 @@ use std::alloc::{AllocError, Global};
 /// How often a core is cut.
 const MAX_DEPTH: u32 = 256;
 
+/// How often each thing of a column is looked at for cuts; what is left then is checked as it is.
+const AS_OFTEN: u64 = 512;
+
 /// A core that is seen along the axis, the things of its window, and the lines along which it is still to be cut: rows, or places across them.
 #[derive(Clone, Copy)]
 struct Work<'a> {
@@ -41,11 +44,12 @@ struct Halves<'a> {
     behind: &'a [i64],
 }
 
-/// Pieces that were found, and the cores that were solved.
+/// Pieces that were found, the cores that were solved, and how many things may still be looked at for cuts.
 #[derive(Drop)]
 struct Solution {
     keys: Vec<Key>,
     kept: Kept,
+    left: u64,
 }
 
 /// The parts of a core left and right of a place, if that is inside.
@@ -163,6 +167,17 @@ fn add_leaf(
 }
 
 impl Solution {
+    /// Whether a core of so many things may be cut; they are looked at.
+    fn may_cut(&mut self, count: usize) -> bool
+        ensures keys { self.new.keys.items ≡ self.old.keys.items }
+        ensures kept { self.new.kept.solved.items ≡ self.old.kept.solved.items }
+    {
+        let cost = (count as u64).saturating_add(1);
+        let is_left = cost <= self.left;
+        self.left = self.left.saturating_sub(cost);
+        is_left
+    }
+
     /// Adds the pieces of a core, if one that is it, moved, was kept. The result is whether it is so.
     fn add_kept(
         &mut self,
@@ -251,6 +266,9 @@ fn solve(
     if depth == 0 {
         return add_leaf(alloc, &mut solution.keys, task, &work.core, work.things);
     }
+    if !solution.may_cut(work.things.things().len()) {
+        return add_leaf(alloc, &mut solution.keys, task, &work.core, work.things);
+    }
     if let Some(halves) = work.halves() {
         let part = things_in(alloc, task, &halves.first, work.things)?;
         let first = Work {
@@ -298,10 +316,18 @@ fn seen_core(task: &Task<'_>, work: &Work<'_>) -> Core {
     }
 }
 
+/// How many things are looked at for cuts of a core with these.
+fn looks_at(things: &Contents) -> u64 {
+    (things.things().len() as u64)
+        .saturating_add(AS_OFTEN)
+        .saturating_mul(AS_OFTEN)
+}
+
 /// The keys of the maximal runs in a core that is seen along the axis, from things that show what the layout does in its window.
 ///
 /// A core is cut along lines that its things suggest until few shapes are left, and a part that shows what an earlier one does, elsewhere, takes that one's
-/// pieces. Each cut is a pass over the part's things; the pieces of all parts are sorted, and those that touch are joined. What is kept of solved
+/// pieces. Each cut is a pass over the part's things, and there are no more of them than look at each thing of the core 512 times: where many instances lie over
+/// one another, what is left is checked as it is. The pieces of all parts are sorted, and those that touch are joined. What is kept of solved
 /// parts is at most 2^20 things and pieces. An error is want of memory.
 pub(crate) fn runs_in(
     alloc: Global,
@@ -325,6 +351,7 @@ pub(crate) fn runs_in(
     let mut solution = Solution {
         keys: Vec::new(alloc),
         kept: Kept::new(alloc),
+        left: looks_at(work.things),
     };
     solve(alloc, task, &mut solution, &work, MAX_DEPTH)?;
     joined(alloc, solution.keys)

@@ -1,5 +1,8 @@
-use Rattle.std.proofs.Common.{arith}
+use Rattle.std.proofs.Common.{List, sym, subst, arith}
+use Rattle.std.specs.Prelude.{All}
 use Rattle.std.proofs.lemmas.Result.{on_ok_weaker}
+use Rattle.mpw_markers.specs.declared.marker.Key.{Key}
+use Rattle.mpw_columns.specs.Internal.Pieces.{AddsLayoutPieces, IsSolved}
 use Rattle.mpw_columns.proofs.Solving.{cut_first, cut_second, cut_upright_first, cut_upright_second, cut_joined}
 use Rattle.mpw_columns.proofs.ThingsShown.{things_inside}
 use Rattle.mpw_columns.proofs.solve.+solve.Goals as goal
@@ -24,7 +27,7 @@ solve-requires t c = (
     (
       cut_upright_first c.args.work.now.core c.in-Some.halves.first c.in-Some.halves.second
           c.requires.upright c.in-Some.ensures,
-      (c.or_all.ensures, c.requires.solved),
+      (c.or_all.ensures, subst (All (IsSolved c.args.task.now.layout.now c.args.task.now.axis)) (sym c.may_cut.ensures.kept) c.requires.solved),
     ),
   ),
 )
@@ -59,7 +62,9 @@ returns-in-Some-clause-pieces t c = on_ok_weaker c.solve-in-Some.result
     (λ h. cut_joined c.args.task.now.layout.now c.args.task.now.axis c.args.work.now.core
     c.in-Some.halves.first c.in-Some.halves.second c.args.solution.now.keys.items
     c.solve.new.solution.keys.items c.solve-in-Some.new.solution.keys.items c.in-Some.ensures
-    c.in_ok-solve.ensures.pieces h) c.solve-in-Some.ensures.pieces
+    (subst (λ (ks : List Key). AddsLayoutPieces c.args.task.now.layout.now c.args.task.now.axis
+    c.in-Some.halves.first ks c.solve.new.solution.keys.items) c.may_cut.ensures.keys
+    c.in_ok-solve.ensures.pieces) h) c.solve-in-Some.ensures.pieces
 
 pub solve-requires-2 : goal.solve-requires-2
 solve-requires-2 t c = (
@@ -69,3 +74,13 @@ solve-requires-2 t c = (
     (c.requires.upright, (c.requires.things, c.in_ok-add_kept.ensures.kept)),
   ),
 )
+
+pub returns-then-not-may_cut-clause-solved : goal.returns-then-not-may_cut-clause-solved
+returns-then-not-may_cut-clause-solved t c = on_ok_weaker c.add_leaf-then-not-may_cut.result
+    (λ _. subst (All (IsSolved c.args.task.now.layout.now c.args.task.now.axis))
+    (sym c.may_cut.ensures.kept) c.requires.solved) c.add_leaf-then-not-may_cut.ensures
+
+pub add_kept-requires-clause-solved : goal.add_kept-requires-clause-solved
+add_kept-requires-clause-solved t c =
+    subst (All (IsSolved c.args.task.now.layout.now c.args.task.now.axis))
+    (sym c.may_cut.ensures.kept) c.requires.solved
