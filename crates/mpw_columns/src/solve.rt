@@ -44,6 +44,9 @@ struct Halves<'a> {
     behind: &'a [i64],
 }
 
+/// What it costs to choose lines for a thing, or to list its shapes, in looks at it.
+const LISTED: usize = 16;
+
 /// Pieces that were found, the cores that were solved, and how many things may still be looked at for cuts.
 #[derive(Drop)]
 struct Solution {
@@ -107,6 +110,16 @@ fn cut(core: &Box2, at: i64, is_row: bool) -> Option<(Box2, Box2)>
 }
 
 impl<'a> Work<'a> {
+    /// How many things are looked at: each once where lines are given, or else, to choose them or to list shapes, as often as so few shapes take.
+    fn cost(&self) -> usize {
+        let count = self.things.things().len();
+        if self.lines.is_empty() {
+            count.saturating_mul(LISTED)
+        } else {
+            count
+        }
+    }
+
     /// The parts of the core at the middle one of its lines; none where there is none, or it isn't inside.
     fn halves(&self) -> Option<Halves<'a>>
         ensures { IfSome result (λ h. IsCut self.now.core h.first h.second) }
@@ -266,7 +279,7 @@ fn solve(
     if depth == 0 {
         return add_leaf(alloc, &mut solution.keys, task, &work.core, work.things);
     }
-    if !solution.may_cut(work.things.things().len()) {
+    if !solution.may_cut(work.cost()) {
         return add_leaf(alloc, &mut solution.keys, task, &work.core, work.things);
     }
     if let Some(halves) = work.halves() {
