@@ -2,3 +2,6 @@ pub mod SameKey
 pub mod KeyOrder
 pub mod Ordered
 pub mod Added
+pub mod Room
+pub mod Agree
+pub mod FirstOf

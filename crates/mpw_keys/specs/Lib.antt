@@ -1,3 +1,4 @@
 pub mod Columns
+pub mod Firsts
 pub mod Keys
 pub mod Laws

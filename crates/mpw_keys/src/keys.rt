@@ -74,7 +74,7 @@ fn each_once(keys: Vec<Key>) -> Vec<Key>
 }
 
 /// The key, displaced across its edges.
-fn displaced_key(key: &Key, by: i64) -> Key
+pub(crate) fn displaced_key(key: &Key, by: i64) -> Key
     requires edges { HasNearEdges key.now }
     requires by { IsNear by }
     ensures { result ≡ displaced_key by key.now }

@@ -11,7 +11,7 @@ use mpw_markers::{Key, Marker, Met};
 use std::alloc::{AllocError, Global};
 
 /// The marker of this key, which meets these submissions.
-fn marker(key: &Key, met: Met) -> Marker
+pub(crate) fn marker(key: &Key, met: Met) -> Marker
     ensures { met ≡ 0 ∷ [] → result ≡ of_first key.now }
 {
     Marker {
