@@ -32,3 +32,4 @@ pub mod ThingsShown
 pub mod RunThrough
 pub mod ThingsListed
 pub mod Solving
+pub mod ListingMade

@@ -3,6 +3,7 @@ pub mod Within
 pub mod Plan
 pub mod Runs
 pub mod Lists
+pub mod First
 pub mod Found
 pub mod Displaced
 pub mod FollowingOn

@@ -1,13 +1,13 @@
 //! Checking by columns.
 
-ghost use Rattle.std.specs.Prelude.{◌≡◌, ◌+◌, ◌≤◌, length, take, drop, All, IfOk};
+ghost use Rattle.std.specs.Prelude.{◌≡◌, ◌+◌, ◌≤◌, ◌<◌, length, take, drop, All, IfOk};
 ghost use Rattle.std.specs.List.{AllZip};
 ghost use Rattle.mpw_job.specs.Layout.{AreLayoutMarkers};
 ghost use Rattle.mpw_keys.specs.Columns.{seen_box, upright};
 ghost use Rattle.mpw_columns.specs.Plan.{IsColumnWithin};
 ghost use Rattle.mpw_columns.specs.Lists.{IsColumnList};
 ghost use Rattle.mpw_columns.specs.Internal.Found.{IsUpright};
-ghost use Rattle.mpw_columns.specs.Internal.Checked.{IsLayout, HaveLists, IsTop, IsBatch};
+ghost use Rattle.mpw_columns.specs.Internal.Checked.{AreBatches, AreNext, IsLayout, HaveLists, IsTop, IsBatch};
 
 use crate::batch::{Batch, Top, count_along, top_of};
 use crate::earlier::equal_to_earlier;
@@ -110,45 +110,72 @@ fn batch_at(columns: &[Column], from: usize, count: usize) -> &[Column]
 
 /// Columns that are checked, and how many columns of the layout have the keys of each, displaced.
 #[derive(Clone, Copy)]
-struct Own<'a> {
-    columns: &'a [Column],
-    shares: &'a [usize],
+pub(crate) struct Own<'a> {
+    pub(crate) columns: &'a [Column],
+    pub(crate) shares: &'a [usize],
 }
 
-/// How many keys these lists have, which are those of the columns from a place on, with those of columns that share them.
-fn keys_from(own: &Own<'_>, from: usize, lists: &[ColumnKeys]) -> usize {
-    let mut keys = 0usize;
-    for (k, list) in lists.iter().enumerate() {
-        let share = own.shares.get(from.saturating_add(k)).copied().unwrap_or(1);
-        keys = keys.saturating_add(share.saturating_mul(list.as_slice().len()));
+impl Own<'_> {
+    /// How many keys these lists have, which are those of the columns from a place on, with those of columns that share them.
+    pub(crate) fn keys_from(&self, from: usize, lists: &[ColumnKeys]) -> usize {
+        let mut keys = 0usize;
+        for (k, list) in lists.iter().enumerate() {
+            let share = self
+                .shares
+                .get(from.saturating_add(k))
+                .copied()
+                .unwrap_or(1);
+            keys = keys.saturating_add(share.saturating_mul(list.as_slice().len()));
+        }
+        keys
     }
-    keys
+}
+
+/// Columns of a layout that are checked, one batch after another.
+#[derive(Clone, Copy)]
+pub(crate) struct Batches<'a> {
+    pub(crate) layout: &'a Layout<'a>,
+    pub(crate) own: &'a Own<'a>,
+    pub(crate) top: &'a Top,
+}
+
+/// The keys of the columns of the next batch, from a place on, a list for each: of one at least. An error is want of memory.
+pub(crate) fn lists_from(
+    rt: &(impl Threads + Sync),
+    alloc: Global,
+    batches: &Batches<'_>,
+    reached: usize,
+) -> Result<Vec<ColumnKeys>, AllocError>
+    requires batches { AreBatches batches.now }
+    requires within { reached < length batches.now.own.now.columns.now }
+    ensures { IfOk result (λ v. AreNext batches.now.layout.now.snapshot.now batches.now.own.now.columns.now reached v.items) }
+{
+    let columns = batches.own.columns;
+    let most = batch_of(rt).min(columns.len() - reached);
+    let count = count_along(columns, reached, most);
+    let next = batch_at(columns, reached, count);
+    lists_of(rt, alloc, batches.layout, batches.top, next)
 }
 
 /// The keys of columns, a list for each, one batch after another; progress is told before the first and after each.
 fn all_lists<P: Progress>(
     rt: &(impl Threads + Sync),
     alloc: Global,
-    layout: &Layout<'_>,
-    own: &Own<'_>,
+    batches: &Batches<'_>,
     progress: &mut P,
 ) -> Result<Vec<ColumnKeys>, AllocError>
-    requires layout { IsLayout layout.now }
-    requires upright { All (λ c. IsUpright (upright (seen_box c.axis layout.now.extent) c)) own.now.columns.now }
-    ensures { IfOk result (λ v. AllZip (IsColumnList layout.now.snapshot.now) own.now.columns.now v.items) }
+    requires batches { AreBatches batches.now }
+    ensures { IfOk result (λ v. AllZip (IsColumnList batches.now.layout.now.snapshot.now) batches.now.own.now.columns.now v.items) }
 {
-    let (total, batch) = (own.columns.len(), batch_of(rt));
+    let total = batches.own.columns.len();
     progress.tell(0, total, 0);
     let mut lists = Vec::with_capacity(alloc, total)?;
-    let top = top_of(alloc, layout)?;
     let (mut reached, mut markers) = (0, 0usize);
     while reached < total {
-        let count = count_along(own.columns, reached, batch.min(total - reached));
-        let columns = batch_at(own.columns, reached, count);
-        let mut more = lists_of(rt, alloc, layout, &top, columns)?;
-        markers = markers.saturating_add(keys_from(own, reached, more.as_slice()));
+        let mut more = lists_from(rt, alloc, batches, reached)?;
+        markers = markers.saturating_add(batches.own.keys_from(reached, more.as_slice()));
+        reached += more.len();
         lists.append(&mut more)?;
-        reached += count;
         progress.tell(reached, total, markers);
     }
     Ok(lists)
@@ -173,7 +200,13 @@ fn every_list<P: Progress>(
         columns: own.as_slice(),
         shares: shares.as_slice(),
     };
-    let lists = all_lists(rt, alloc, layout, &checked, progress)?;
+    let top = top_of(alloc, layout)?;
+    let batches = Batches {
+        layout: &*layout,
+        own: &checked,
+        top: &top,
+    };
+    let lists = all_lists(rt, alloc, &batches, progress)?;
     lists_with(alloc, layout, columns, likes.as_slice(), lists)
 }
 
@@ -222,7 +255,7 @@ pub fn lists_of_columns<P: Progress>(
 }
 
 /// How many rules there are.
-fn rule_count(rules: &[Rule]) -> u32
+pub(crate) fn rule_count(rules: &[Rule]) -> u32
     requires { length rules.now ≤ 256 }
     ensures { result ≡ length rules.now }
 {

@@ -7,6 +7,7 @@
 //! of a snapshot into columns, [`lists_of_columns`] finds the keys of each of them, or of a share of them ([`columns_lie_within`]), and the lists
 //! of all, put together ([`mpw_keys::together`]), are the flat layout's book ([`lists_make_the_layout`]): a list goes on where the column before
 //! ends ([`columns_follow_on`]), so nothing is sorted as a whole. [`check_columns`] is these three, one after another.
+//! Where the first markers of each rule and their numbers do, [`first_of_columns`] keeps no more of a column (`first`).
 //!
 //! Columns of a regular layout show the same, displaced: these are found once (`earlier`, `equal`), and their lists displaced (`like`). Where arrays
 //! repeat, columns side by side are first taken as one (`block`): so those of an instance of an array are told at once to be like those of another.
@@ -24,6 +25,7 @@ mod displaced;
 mod divide;
 mod earlier;
 mod equal;
+mod first;
 mod follow;
 mod kept;
 mod laws;
@@ -40,6 +42,7 @@ mod solve;
 mod things;
 
 pub use check::{MAX_SHOWN, check_columns, lists_of_columns};
+pub use first::{Bounds, FirstMarkers, first_of_columns};
 pub use follow::columns_follow_on;
 pub use laws::{
     columns_have_whole_runs, columns_lie_within, columns_make_the_layout,

@@ -1,5 +1,5 @@
 -- A layout as it is checked, and its columns.
-use Rattle.std.specs.Prelude.{◌≡◌, ◌<◌, ◌+◌, ◌^◌, ℕ, List, length, Some, IfSome}
+use Rattle.std.specs.Prelude.{◌≡◌, ◌<◌, ◌≤◌, ◌+◌, ◌^◌, ℕ, List, length, take, drop, All, Some, IfSome}
 use Rattle.std.specs.List.{AllZip}
 use Rattle.mpw_edges.specs.declared.run.Axis.TheVariants.{V, H}
 use Rattle.mpw_contents.specs.declared.thing.Thing.{Thing}
@@ -15,10 +15,11 @@ use Rattle.mpw_keys.specs.declared.column.Column.{Column}
 use Rattle.mpw_columns.specs.declared.batch.Batch.{Batch}
 use Rattle.mpw_columns.specs.declared.batch.Listed.{Listed}
 use Rattle.mpw_columns.specs.declared.batch.Top.{Top}
+use Rattle.mpw_columns.specs.declared.check.Batches.{Batches}
 use Rattle.mpw_columns.specs.declared.check.Layout.{Layout}
 use Rattle.mpw_columns.specs.Plan.{AreColumnsOfLayout}
 use Rattle.mpw_columns.specs.Lists.{IsColumnList}
-use Rattle.mpw_columns.specs.Internal.Found.{IsLook, AgreeIn}
+use Rattle.mpw_columns.specs.Internal.Found.{IsLook, IsUpright, AgreeIn}
 use Rattle.mpw_columns.specs.Internal.Pieces.{AreThingsIn, whole_core}
 
 -- The shapes are of one submission, and the layers and the distance are those of the rules.
@@ -52,6 +53,18 @@ HasThings l listed = AreThingsIn l listed.whole.axis
 pub record IsBatch (l : Layout) (b : Batch) : Type 0 where
   pub rectangles : IfSome b.rectangles (IsShared l)
   pub things : IfSome b.things (HasThings l)
+
+-- Columns of a layout that are checked.
+pub record AreBatches (b : Batches) : Type 0 where
+  pub layout : IsLayout b.layout.now
+  pub upright : All (λ c. IsUpright (upright (seen_box c.axis b.layout.now.extent) c)) b.own.now.columns.now
+  pub top : IsTop b.layout.now b.top.now
+
+-- A list for each of the next columns from a place on, one at least.
+pub record AreNext (s : Snapshot) (columns : List Column) (from : ℕ) (lists : List (List Key)) : Type 0 where
+  pub some : 0 < length lists
+  pub within : from + length lists ≤ length columns
+  pub each : AllZip (IsColumnList s) (take (length lists) (drop from columns)) lists
 
 -- The columns of a layout, of which so many are of V.
 pub record IsCounted (s : Snapshot) (count : ℕ) (columns : List Column) : Type 0 where

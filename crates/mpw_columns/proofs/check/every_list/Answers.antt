@@ -6,9 +6,12 @@ use Rattle.mpw_columns.specs.Internal.Found.{IsUpright}
 use Rattle.mpw_columns.proofs.Liked.{own_all}
 use Rattle.mpw_columns.proofs.check.every_list.Goals as goal
 
-pub all_lists-requires-clause-upright : goal.all_lists-requires-clause-upright
-all_lists-requires-clause-upright g c κs alive =
+pub all_lists-requires-clause-batches : goal.all_lists-requires-clause-batches
+all_lists-requires-clause-batches g c κs alive =
     let extent = c.args.layout.now.extent in
-    let P : Column → Type 0 = λ column. IsUpright (upright (seen_box column.axis extent) column) in
-    subst (All P) (sym (c.as_slice-3.ensures.value ∙ c.in_ok-own.ensures))
-    (own_all P c.args.columns.now _ c.requires.upright)
+    let P : Column → Type 0 = λ column. IsUpright (upright (seen_box column.axis extent) column) in record {
+      layout = c.requires.layout;
+      upright = subst (All P) (sym (c.as_slice-3.ensures.value ∙ c.in_ok-own.ensures))
+          (own_all P c.args.columns.now _ c.requires.upright);
+      top = c.in_ok-top.ensures;
+    }

@@ -1,0 +1,13 @@
+-- The first markers of each rule of a layout, and how many there are.
+use Rattle.std.specs.Prelude.{ℕ, List, length}
+use Rattle.mpw_tiles.specs.Snapshots.{Snapshot}
+use Rattle.mpw_markers.specs.declared.marker.Marker.{Marker}
+use Rattle.mpw_job.specs.Layout.{AreLayoutMarkers}
+use Rattle.mpw_keys.specs.Firsts.{AreFirstOf}
+use Rattle.mpw_columns.specs.declared.first.FirstMarkers.{FirstMarkers}
+
+-- They are those of the flat layout's markers, as many of each rule as are wanted, and the numbers are those of all of them.
+pub record IsFirstOfLayout (most : ℕ) (s : Snapshot) (f : FirstMarkers) : Type 0 where
+  pub book : List Marker
+  pub markers : AreLayoutMarkers s book
+  pub are : AreFirstOf most (length s.deck.rules) book f.markers.items f.counts.items f.all

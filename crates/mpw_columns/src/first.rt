@@ -1,0 +1,280 @@
+//! The first markers of each rule of a layout, as many as are wanted, and how many there are.
+//!
+//! Of what a column finds only the first keys of each list are kept, and how many it has; columns that are like an earlier one share these,
+//! displaced. So what is held doesn't grow with the markers that aren't wanted.
+
+ghost use Rattle.std.specs.Prelude.{◌≡◌, ◌*◌, ◌+ℤ◌, ◌-ℤ◌, length, All, IfOk, OnOk};
+ghost use Rattle.std.specs.List.{AllZip};
+ghost use Rattle.mpw_keys.specs.Columns.{seen_box, upright};
+ghost use Rattle.mpw_keys.specs.Keys.{IsNear};
+ghost use Rattle.mpw_columns.specs.First.{IsFirstOfLayout};
+ghost use Rattle.mpw_columns.specs.Plan.{IsColumnWithin};
+ghost use Rattle.mpw_columns.specs.Internal.Checked.{AreBatches, IsLayout};
+ghost use Rattle.mpw_columns.specs.Internal.Firsts.{AddsFirsts, HasFirsts, HasLayoutListing, HasListing, IsPlacedAt, IsSpot};
+ghost use Rattle.mpw_columns.specs.Internal.Found.{IsUpright};
+ghost use Rattle.mpw_columns.specs.Internal.Like.{AreLikes, own_columns};
+
+use crate::batch::top_of;
+use crate::check::{Batches, Layout, Own, lists_from, rule_count};
+use crate::earlier::equal_to_earlier;
+use crate::laws::{
+    columns_lie_within, displaced_columns_have_displaced_lists, lists_make_the_layout,
+};
+use crate::like::{own_columns, shares_of};
+use crate::look::layers_of;
+use crate::plan::counted_columns;
+use crate::progress::Progress;
+use mpw_edges::test_decides_pair_steps;
+use mpw_keys::{Column, ColumnKeys, Firsts, Placed, Shared, shared_lists_have_the_first};
+use mpw_markers::Marker;
+use mpw_tiles::{Snapshot, greatest_distance};
+use std::alloc::{AllocError, Global};
+use std::thread::Threads;
+
+/// The first markers of each rule of a layout, and how many markers there are.
+#[derive(Drop)]
+pub struct FirstMarkers {
+    /// The first markers of each rule, in the order of a book.
+    pub markers: Vec<Marker>,
+    /// How many markers each rule has, by its place in the deck, up to 2^64 - 1.
+    pub counts: Vec<usize>,
+    /// How many markers there are, up to 2^64 - 1.
+    pub all: usize,
+}
+
+/// The first keys of columns, and which of them each column has, displaced.
+#[derive(Drop)]
+struct Listing {
+    firsts: Vec<Firsts>,
+    placed: Vec<Placed>,
+}
+
+/// Columns whose keys are looked for, and how many of each list are wanted.
+#[derive(Clone, Copy)]
+struct Sought<'a> {
+    columns: &'a [Column],
+    most: usize,
+}
+
+/// How many shapes a column may show, and how many markers of each rule are wanted.
+#[derive(Clone, Copy)]
+pub struct Bounds {
+    /// The shapes.
+    pub shapes: u32,
+    /// The markers of a rule.
+    pub markers: usize,
+}
+
+/// How many lists of keys a column has: two for each rule.
+fn list_count(snapshot: &Snapshot) -> u32
+    ensures { result ≡ 2 * length snapshot.now.deck.rules }
+{
+    snapshot.is_snapshot();
+    2 * rule_count(snapshot.deck().rules().as_slice())
+}
+
+/// Adds the first keys of each of these lists. An error is want of memory.
+fn add_firsts(
+    alloc: Global,
+    firsts: &mut Vec<Firsts>,
+    lists: &[ColumnKeys],
+    count: u32,
+    most: usize,
+) -> Result<(), AllocError>
+    ensures { OnOk result (AddsFirsts most count lists.now firsts.old.items firsts.new.items) }
+{
+    for list in lists {
+        firsts.push(Firsts::of(alloc, list, count, most)?)?;
+    }
+    Ok(())
+}
+
+/// The first keys of columns, found one batch after another; progress is told before the first and after each. An error is want of memory.
+fn all_firsts<P: Progress>(
+    rt: &(impl Threads + Sync),
+    alloc: Global,
+    batches: &Batches<'_>,
+    most: usize,
+    progress: &mut P,
+) -> Result<Vec<Firsts>, AllocError>
+    requires batches { AreBatches batches.now }
+    ensures { IfOk result (λ v. AllZip (HasFirsts batches.now.layout.now.snapshot.now most (2 * length batches.now.layout.now.snapshot.now.deck.rules))
+        batches.now.own.now.columns.now v.items) }
+{
+    let total = batches.own.columns.len();
+    let count = list_count(batches.layout.snapshot);
+    progress.tell(0, total, 0);
+    let mut firsts = Vec::with_capacity(alloc, total)?;
+    let (mut reached, mut markers) = (0, 0usize);
+    while reached < total {
+        let more = lists_from(rt, alloc, batches, reached)?;
+        markers = markers.saturating_add(batches.own.keys_from(reached, more.as_slice()));
+        add_firsts(alloc, &mut firsts, more.as_slice(), count, most)?;
+        reached += more.len();
+        progress.tell(reached, total, markers);
+    }
+    Ok(firsts)
+}
+
+/// Which lists a column has that is like an earlier one, which has these.
+fn from_earlier(earlier: &Column, placed: &Placed, column: &Column) -> Placed
+    requires earlier { IsSpot earlier.now.from }
+    requires column { IsSpot column.now.from }
+    requires placed { IsNear placed.now.by }
+    ensures list { result.list ≡ placed.now.list }
+    ensures by { result.by ≡ (placed.now.by +ℤ (column.now.from -ℤ earlier.now.from)) }
+{
+    Placed {
+        list: placed.list,
+        by: placed.by + (column.from - earlier.from),
+    }
+}
+
+/// Which lists each column has, of those of the columns that are like no earlier one. One pass; an error is want of memory.
+fn placed_columns(
+    alloc: Global,
+    layout: &Layout<'_>,
+    columns: &[Column],
+    likes: &[Option<usize>],
+) -> Result<Vec<Placed>, AllocError>
+    requires layout { IsLayout layout.now }
+    requires upright { All (λ c. IsUpright (upright (seen_box c.axis layout.now.extent) c)) columns.now }
+    requires likes { AreLikes layout.now columns.now likes.now }
+    ensures { IfOk result (λ v. AllZip (IsPlacedAt layout.now.snapshot.now (own_columns columns.now likes.now)) columns.now v.items) }
+{
+    test_decides_pair_steps();
+    displaced_columns_have_displaced_lists();
+    let mut placed: Vec<Placed> = Vec::with_capacity(alloc, columns.len())?;
+    let mut own = 0usize;
+    for place in 0..columns.len() {
+        let next = match likes[place] {
+            Some(earlier) => from_earlier(&columns[earlier], &placed[earlier], &columns[place]),
+            None => {
+                let list = own;
+                own += 1;
+                Placed { list, by: 0 }
+            }
+        };
+        placed.push(next)?;
+    }
+    Ok(placed)
+}
+
+/// The first keys of columns of a layout: those that are like no earlier one have some of their own, and the others share them. An error is want of memory.
+fn listing_in<P: Progress>(
+    rt: &(impl Threads + Sync),
+    alloc: Global,
+    layout: &Layout<'_>,
+    sought: &Sought<'_>,
+    progress: &mut P,
+) -> Result<Listing, AllocError>
+    requires layout { IsLayout layout.now }
+    requires upright { All (λ c. IsUpright (upright (seen_box c.axis layout.now.extent) c)) sought.now.columns.now }
+    ensures { IfOk result (HasListing layout.now.snapshot.now sought.now.most sought.now.columns.now) }
+{
+    test_decides_pair_steps();
+    let likes = equal_to_earlier(alloc, layout, sought.columns)?;
+    let own = own_columns(alloc, sought.columns, likes.as_slice())?;
+    let shares = shares_of(alloc, likes.as_slice())?;
+    let checked = Own {
+        columns: own.as_slice(),
+        shares: shares.as_slice(),
+    };
+    let top = top_of(alloc, layout)?;
+    let batches = Batches {
+        layout: &*layout,
+        own: &checked,
+        top: &top,
+    };
+    let firsts = all_firsts(rt, alloc, &batches, sought.most, progress)?;
+    let placed = placed_columns(alloc, layout, sought.columns, likes.as_slice())?;
+    Ok(Listing { firsts, placed })
+}
+
+/// The first keys of columns of a snapshot's layout. An error is want of memory.
+fn listing_of<P: Progress>(
+    rt: &(impl Threads + Sync),
+    alloc: Global,
+    snapshot: &Snapshot,
+    sought: &Sought<'_>,
+    progress: &mut P,
+) -> Result<Listing, AllocError>
+    requires alone { length snapshot.now.shelf ≡ 1 }
+    requires within { All (IsColumnWithin snapshot.now) sought.now.columns.now }
+    ensures { IfOk result (HasListing snapshot.now sought.now.most sought.now.columns.now) }
+{
+    let Some(extent) = snapshot.extent() else {
+        return Ok(Listing {
+            firsts: Vec::new(alloc),
+            placed: Vec::new(alloc),
+        });
+    };
+    snapshot.is_snapshot();
+    let rules = snapshot.deck().rules().as_slice();
+    let layers = layers_of(alloc, rules)?;
+    let layout = Layout {
+        snapshot,
+        extent,
+        layers: layers.as_slice(),
+        distance: greatest_distance(rules),
+    };
+    listing_in(rt, alloc, &layout, sought, progress)
+}
+
+/// The first markers of a layout, from the first keys of its columns, of which so many are of axis `V`. An error is want of memory.
+fn markers_of(
+    alloc: Global,
+    snapshot: &Snapshot,
+    listing: &Listing,
+    upright: usize,
+    most: usize,
+) -> Result<FirstMarkers, AllocError>
+    requires alone { length snapshot.now.shelf ≡ 1 }
+    requires listing { HasLayoutListing snapshot.now most upright listing.now }
+    ensures { IfOk result (IsFirstOfLayout most snapshot.now) }
+{
+    lists_make_the_layout();
+    shared_lists_have_the_first();
+    test_decides_pair_steps();
+    snapshot.is_snapshot();
+    let rules = rule_count(snapshot.deck().rules().as_slice());
+    let (upright, across) = listing.placed.as_slice().split_at(upright);
+    let shared = Shared {
+        firsts: listing.firsts.as_slice(),
+        upright,
+        across,
+    };
+    Ok(FirstMarkers {
+        markers: shared.first_markers(alloc, rules, most)?,
+        counts: shared.counts(alloc, rules)?,
+        all: shared.count(rules),
+    })
+}
+
+/// The first markers of each rule of the flat layout of a snapshot's roots under its deck, as many as are wanted, with how many each rule has,
+/// where the shelf has one submission alone: those of [`check_columns`](crate::check_columns), of which the others aren't held.
+///
+/// It finds what that does, column by column, and keeps of each column that is like no earlier one at most the wanted number of keys of each rule,
+/// axis and side. So with none wanted nothing is held but the lists of the columns at work, and the numbers.
+///
+/// # Errors
+/// Want of memory.
+pub fn first_of_columns<P: Progress>(
+    rt: &(impl Threads + Sync),
+    alloc: Global,
+    snapshot: &Snapshot,
+    bounds: Bounds,
+    progress: &mut P,
+) -> Result<FirstMarkers, AllocError>
+    requires { length snapshot.now.shelf ≡ 1 }
+    ensures { IfOk result (IsFirstOfLayout bounds.markers snapshot.now) }
+{
+    columns_lie_within();
+    let (columns, upright) = counted_columns(alloc, snapshot, bounds.shapes)?;
+    let sought = Sought {
+        columns: columns.as_slice(),
+        most: bounds.markers,
+    };
+    let listing = listing_of(rt, alloc, snapshot, &sought, progress)?;
+    markers_of(alloc, snapshot, &listing, upright, bounds.markers)
+}
