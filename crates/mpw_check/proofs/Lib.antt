@@ -1,3 +1,4 @@
 mod AloneLemmas
+mod FirstLemmas
 mod TileLemmas
 mod ListLemmas

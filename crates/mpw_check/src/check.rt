@@ -224,7 +224,7 @@ pub fn check_tiles<P: Progress>(
 
 /// The markers of so many tiles, which are all.
 #[tactic(auto, using(crate::proofs::TileLemmas::all_there))]
-fn check_all<P: Progress>(
+pub(crate) fn check_all<P: Progress>(
     rt: &(impl Threads + Sync),
     alloc: Global,
     snapshot: &Snapshot,

@@ -4,7 +4,8 @@
 //! tile's markers in at most two threads for each processor, and stitches them, or where it has too many tiles or shapes for that goes by
 //! columns ([`mpw_columns::check_columns`]). The markers are those of the flat
 //! layout of that top alone, whatever the tiles' side ([`markers_are_the_librarys`]). A [`Progress`] is told how many tiles or
-//! columns are checked.
+//! columns are checked. [`first_of_layout`] goes the same way, and gives the first markers of each rule, as many as are wanted, and how many
+//! there are.
 //!
 //! [`check_tiles`] finds the markers of some tiles: the lists of all tiles, stitched, are the layout's markers again
 //! ([`tiles_make_the_layout`]).
@@ -12,11 +13,13 @@
 
 mod check;
 mod fault;
+mod first;
 mod laws;
 mod layout;
 
 pub use check::{check_layout, check_tiles, checked_tiles, tile_count};
 pub use fault::CheckFault;
+pub use first::first_of_layout;
 pub use laws::{markers_are_the_librarys, tiles_follow_on, tiles_make_the_layout};
 pub use layout::read_layout;
-pub use mpw_columns::{Progress, Silent};
+pub use mpw_columns::{FirstMarkers, Progress, Silent};
