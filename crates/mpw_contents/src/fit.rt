@@ -3,7 +3,7 @@
 //! The boxes of an array stand in steps of one length, so along an axis along which its rows don't lead, division tells which
 //! columns miss the window, and so for rows where the columns don't.
 
-ghost use Rattle.std.specs.Prelude.{◌≡◌, ◌<◌, ◌≤◌, ◌*◌, ℕ, pos, neg_ℤ, ◌+ℤ◌, ◌<ℤ◌, false, true, option_map, IfSome, IfNone};
+ghost use Rattle.std.specs.Prelude.{◌≡◌, ◌<◌, ◌≤◌, ◌*◌, ℕ, pos, neg_ℤ, ◌+ℤ◌, ◌<ℤ◌, false, true, option_map, IfSome, IfNone, IsTrue, MatchBool};
 ghost use Rattle.mpw_geom.specs.Plane.{IsInPlane};
 ghost use Rattle.mpw_hier.specs.Boxes.{is_box_near, placed_box};
 ghost use Rattle.mpw_walk.specs.Window.{do_meet, is_met};
@@ -47,9 +47,9 @@ fn do_meet(a: Box2, b: Box2) -> bool
 }
 
 /// Whether a box, if there is one, may meet a window where it is placed. Of near boxes it tells exactly.
-pub fn may_meet(window: Box2, placing: Placing, b: Option<Box2>) -> bool
-    requires { IsInPlane placing.by }
-    ensures { result ≡ false → is_met window (option_map (placed_box placing) b) ≡ false }
+pub fn may_meet(window: &Box2, placing: &Placing, b: Option<Box2>) -> bool
+    requires { IsInPlane placing.now.by }
+    ensures { result ≡ false → is_met window.now (option_map (placed_box placing.now) b) ≡ false }
 {
     let Some(b) = b else {
         return false;
@@ -57,7 +57,7 @@ pub fn may_meet(window: Box2, placing: Placing, b: Option<Box2>) -> bool
     if !is_box_near(b) {
         return true;
     }
-    do_meet(placed_box(placing, b), window)
+    do_meet(placed_box(*placing, b), *window)
 }
 
 /// How many numbers of steps are shorter than a gap, from none on, of so many at most.
@@ -311,33 +311,40 @@ fn divided(array: &Array, window: Box2, extent: Box2) -> Option<Array>
     }
 }
 
-/// An array of one instance, if that may meet a window.
-fn single(array: &Array, window: Box2, extent: Box2) -> Option<Array>
+/// Whether an array is one instance.
+pub fn is_single(array: &Array) -> bool
+    ensures columns { IsTrue result → array.now.columns ≡ 1 }
+    ensures rows { IsTrue result → array.now.rows ≡ 1 }
+{
+    array.columns == 1 && array.rows == 1
+}
+
+/// Whether the only instance of an array may meet a window: its box is held against that, without a division.
+pub fn is_single_met(array: &Array, window: &Box2, extent: Box2) -> bool
     requires near { is_box_near extent ≡ true }
     requires first { IsInPlane array.now.first.by }
     requires columns { array.now.columns ≡ 1 }
     requires rows { array.now.rows ≡ 1 }
-    ensures some { IfSome result (IsFitted array.now window extent) }
-    ensures none { IfNone result (IsAway array.now window extent) }
+    ensures { MatchBool result (IsFitted array.now window.now extent array.now) (IsAway array.now window.now extent) }
 {
-    if do_meet(placed_box(array.first, extent), window) {
-        Some(*array)
-    } else {
-        None
-    }
+    do_meet(placed_box(array.first, extent), *window)
 }
 
 /// An array without the columns and the rows that division tells miss a window, where its structure has that extent; none
 /// where there are no others. It may keep too much, as it does where columns and rows lead along one axis. Of an array of
 /// one instance the box is held against the window, without a division.
-pub fn fitted(array: &Array, window: Box2, extent: Box2) -> Option<Array>
+pub fn fitted(array: &Array, window: &Box2, extent: Box2) -> Option<Array>
     requires near { is_box_near extent ≡ true }
     requires first { IsInPlane array.now.first.by }
-    ensures some { IfSome result (IsFitted array.now window extent) }
-    ensures none { IfNone result (IsAway array.now window extent) }
+    ensures some { IfSome result (IsFitted array.now window.now extent) }
+    ensures none { IfNone result (IsAway array.now window.now extent) }
 {
-    if array.columns == 1 && array.rows == 1 {
-        return single(array, window, extent);
+    if !is_single(array) {
+        return divided(array, *window, extent);
     }
-    divided(array, window, extent)
+    if is_single_met(array, window, extent) {
+        Some(*array)
+    } else {
+        None
+    }
 }

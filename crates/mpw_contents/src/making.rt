@@ -42,16 +42,16 @@ impl<'a> Layout<'a> {
     ///
     /// # Errors
     /// As those of [`Layout::open`].
-    pub fn pass_array(&self, array: Array, things: &mut Vec<Thing>) -> Result<bool, Stop>
+    pub fn pass_array(&self, array: &Array, things: &mut Vec<Thing>) -> Result<bool, Stop>
         requires layout { IsLayout self.now }
-        requires array { IsArray self.now.nodes.now array }
-        ensures { OnOk result (Adds self.now (thing_items self.now.shelf.now (variants.Array array)) things.old.items things.new.items) }
+        requires array { IsArray self.now.nodes.now array.now }
+        ensures { OnOk result (Adds self.now (thing_items self.now.shelf.now (variants.Array array.now)) things.old.items things.new.items) }
     {
-        if self.is_opened(&array) {
-            self.open(&array, things)?;
+        if self.is_opened(array) {
+            self.open(array, things)?;
             return Ok(true);
         }
-        self.push(Thing::Array(array), things)?;
+        self.push(Thing::Array(*array), things)?;
         Ok(false)
     }
 
@@ -66,7 +66,7 @@ impl<'a> Layout<'a> {
                 self.push(thing, things)?;
                 Ok(false)
             }
-            Thing::Array(array) => self.pass_array(array, things),
+            Thing::Array(array) => self.pass_array(&array, things),
         }
     }
 

@@ -106,18 +106,19 @@ impl<'a> Layout<'a> {
     }
 
     /// Adds a shape, if there is one that may meet the window.
-    pub fn put_shape(&self, shape: Shape, things: &mut Vec<Thing>) -> Result<(), Stop>
+    pub fn put_shape(&self, shape: &Shape, things: &mut Vec<Thing>) -> Result<(), Stop>
         requires layout { IsLayout self.now }
-        requires near { IsInPlane shape.placing.by }
-        ensures { OnOk result (Adds self.now (drawn shape.placing (element_at (slice_get self.now.structures.now shape.structure) shape.element)) things.old.items things.new.items) }
+        requires near { IsInPlane shape.now.placing.by }
+        ensures { OnOk result (Adds self.now (drawn shape.now.placing (element_at (slice_get self.now.structures.now shape.now.structure) shape.now.element))
+            things.old.items things.new.items) }
     {
         let Some(element) = self.element(shape.structure, shape.element) else {
             return Ok(());
         };
-        if !may_meet(self.window, shape.placing, element_box(element)) {
+        if !may_meet(&self.window, &shape.placing, element_box(element)) {
             return Ok(());
         }
-        self.push(Thing::Shape(shape), things)
+        self.push(Thing::Shape(*shape), things)
     }
 
     /// Adds an array, or as much of it as may meet the window.
@@ -136,7 +137,7 @@ impl<'a> Layout<'a> {
         let Some(extent) = node.size.extent else {
             return Ok(());
         };
-        match fitted(&array, self.window, extent) {
+        match fitted(&array, &self.window, extent) {
             Some(array) => self.push(Thing::Array(array), things),
             None => Ok(()),
         }
@@ -202,7 +203,7 @@ impl<'a> Layout<'a> {
                 element: node.shapes.at(index),
                 placing,
             };
-            self.put_shape(shape, things)?;
+            self.put_shape(&shape, things)?;
         }
         Ok(())
     }
@@ -238,7 +239,7 @@ impl<'a> Layout<'a> {
         ensures { OnOk result (Adds self.now (map (placed_item placing) (place_shown self.now.shelf.now node.now.structure)) things.old.items things.new.items) }
     {
         names_are_opened();
-        if !may_meet(self.window, placing, node.size.extent) {
+        if !may_meet(&self.window, &placing, node.size.extent) {
             return Ok(());
         }
         self.put_shapes(node, placing, things)?;

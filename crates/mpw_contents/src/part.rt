@@ -8,12 +8,12 @@ ghost use Rattle.mpw_geom.specs.Plane.{IsInPlane};
 ghost use Rattle.mpw_hier.specs.Values.{flat};
 ghost use Rattle.mpw_contents.specs.Contents.{AreWhole, AreSound, IsNear};
 ghost use Rattle.mpw_contents.specs.Things.{thing_items, things_items};
-ghost use Rattle.mpw_contents.specs.Internal.Making.{IsLayout, Adds, Shows};
+ghost use Rattle.mpw_contents.specs.Internal.Making.{HasExtent, IsArray, IsLayout, Adds, Shows};
 ghost use Rattle.mpw_contents.specs.Internal.Opening.{NamesAreOpened};
 ghost use Rattle.mpw_contents.specs.declared.thing.Thing.TheVariants as variants;
 
 use crate::contents::Contents;
-use crate::fit::fitted;
+use crate::fit::{fitted, is_single, is_single_met};
 use crate::laws::names_are_opened;
 use crate::layout::{Layout, Opened};
 use crate::making::Passed;
@@ -37,6 +37,23 @@ pub struct Part {
 }
 
 impl<'a> Layout<'a> {
+    /// The same of an array of one instance, which stays where it is while it is looked at.
+    fn fit_single(&self, array: &Array, extent: Box2, things: &mut Vec<Thing>) -> Result<bool, Stop>
+        requires law { NamesAreOpened }
+        requires layout { IsLayout self.now }
+        requires array { IsArray self.now.nodes.now array.now }
+        requires extent { HasExtent self.now.nodes.now array.now extent }
+        requires columns { array.now.columns ≡ 1 }
+        requires rows { array.now.rows ≡ 1 }
+        ensures { OnOk result (Adds self.now (thing_items self.now.shelf.now (variants.Array array.now)) things.old.items things.new.items) }
+    {
+        if is_single_met(array, &self.window, extent) {
+            self.pass_array(array, things)
+        } else {
+            Ok(false)
+        }
+    }
+
     /// Adds as much of an array as may meet the window, or what that shows one level down where it is to be opened. The
     /// result is whether it is opened so.
     ///
@@ -57,8 +74,11 @@ impl<'a> Layout<'a> {
         let Some(extent) = node.size.extent else {
             return Ok(false);
         };
-        match fitted(array, self.window, extent) {
-            Some(array) => self.pass_array(array, things),
+        if is_single(array) {
+            return self.fit_single(array, extent, things);
+        }
+        match fitted(array, &self.window, extent) {
+            Some(array) => self.pass_array(&array, things),
             None => Ok(false),
         }
     }
@@ -72,7 +92,7 @@ impl<'a> Layout<'a> {
     {
         match thing {
             Thing::Shape(shape) => {
-                self.put_shape(*shape, things)?;
+                self.put_shape(shape, things)?;
                 Ok(false)
             }
             Thing::Array(array) => self.fit_array(array, things),

@@ -42,6 +42,13 @@ pub record IsArray (nodes : List Node) (a : Array) : Type 0 where
   pub structure : node.structure ≡ a.structure
   pub near : IsInPlane a.first.by
 
+-- The array's structure is one of the nodes', which has that extent.
+pub record HasExtent (nodes : List Node) (a : Array) (extent : Box2) : Type 0 where
+  pub node : Node
+  pub at : slice_get nodes a.node ≡ Some node
+  pub structure : node.structure ≡ a.structure
+  pub extent_is : node.size.extent ≡ Some extent
+
 abbrev pub IsThing : List Node → Thing → Type 0
 IsThing nodes (things.Shape shape) = IsInPlane shape.placing.by
 IsThing nodes (things.Array a) = IsArray nodes a

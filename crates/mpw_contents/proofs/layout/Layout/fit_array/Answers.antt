@@ -67,3 +67,22 @@ returns-in-None c =
     c.requires.near in
     none_left c.requires.law l c.requires.layout a h c.in-Some.node.now at
     c.in-Some-extent.extent c.in-Some-extent.is c.in-None.ensures.none c.args.things.now.items
+
+pub fit_single-requires-clause-array : goal.fit_single-requires-clause-array
+fit_single-requires-clause-array c =
+    let l = c.args.self.now in
+    let a = c.args.array.now in
+    let at = found l.nodes.now a.node c.get.result c.in-Some.node c.in-Some.is
+    c.get.ensures.lookup.0 c.get.ensures.lookup.1 in
+    own_array l a c.in-Some.node.now at (omega (arith, c.if-node-array.false)) c.requires.near
+
+pub fit_single-requires-clause-extent : goal.fit_single-requires-clause-extent
+fit_single-requires-clause-extent c =
+    let l = c.args.self.now in
+    let a = c.args.array.now in record {
+      node = c.in-Some.node.now;
+      at = found l.nodes.now a.node c.get.result c.in-Some.node c.in-Some.is
+          c.get.ensures.lookup.0 c.get.ensures.lookup.1;
+      structure = omega (arith, c.if-node-array.false);
+      extent_is = c.in-Some-extent.is;
+    }

@@ -7,7 +7,7 @@ use Rattle.mpw_contents.proofs.layout.Layout.pass_array.Goals as goal
 pub returns : goal.returns
 returns c =
     let l = c.args.self.now in
-    let thing = things.Array c.args.array in
+    let thing = things.Array c.args.array.now in
     let shown = thing_items l.shelf.now thing in
     adds_one l shown c.args.things.now.items c.push.new.things.items thing
     c.in_ok-push.ensures c.requires.array (shows_same l.window shown shown refl)

@@ -13,7 +13,7 @@ use Rattle.mpw_contents.proofs.layout.Layout.put_shape.Goals as goal
 pub returns-in_default : goal.returns-in_default
 returns-in_default c =
     let l = c.args.self.now in
-    let shape = c.args.shape in
+    let shape = c.args.shape.now in
     nothing_drawn l shape.placing (element_at (slice_get l.structures.now shape.structure)
     shape.element) c.args.things.now.items
     (copied_none c.element.result _ c.in_default.is c.element.ensures.is)
@@ -21,7 +21,7 @@ returns-in_default c =
 pub returns-then-not-may_meet : goal.returns-then-not-may_meet
 returns-then-not-may_meet c =
     let l = c.args.self.now in
-    let shape = c.args.shape in
+    let shape = c.args.shape.now in
     let away = c.may_meet.ensures c.if-not-may_meet.true in
     drawn_out l shape.placing (element_at (slice_get l.structures.now shape.structure)
     shape.element) c.in-Some.element.now c.args.things.now.items
@@ -33,7 +33,7 @@ pub returns : goal.returns
 unfolding thing_items
 returns c =
     let l = c.args.self.now in
-    let shape = c.args.shape in
+    let shape = c.args.shape.now in
     let items =
     drawn shape.placing (element_at (slice_get l.structures.now shape.structure) shape.element)
     in
