@@ -177,6 +177,9 @@ fn all_lists<P: Progress>(
         reached += more.len();
         lists.append(&mut more)?;
         progress.tell(reached, total, markers);
+        if !progress.has_room(markers) {
+            return Err(AllocError);
+        }
     }
     Ok(lists)
 }
@@ -227,7 +230,7 @@ fn every_list<P: Progress>(
 /// that is like an earlier one a pass over that one's keys.
 ///
 /// # Errors
-/// Want of memory.
+/// Want of memory; also where the progress has no room for the markers that are found.
 pub fn lists_of_columns<P: Progress>(
     rt: &(impl Threads + Sync),
     alloc: Global,
@@ -287,7 +290,7 @@ fn markers_of(
 /// [`MAX_SHOWN`] for `most` a column fits some ten megabytes. What is held at last is the markers, once as keys of columns and once as the book's.
 ///
 /// # Errors
-/// Want of memory.
+/// Want of memory; also where the progress has no room for the markers that are found.
 pub fn check_columns<P: Progress>(
     rt: &(impl Threads + Sync),
     alloc: Global,

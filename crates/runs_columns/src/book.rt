@@ -3,7 +3,7 @@
 use crate::layout::{SIDE, snapshot, snapshot_of};
 use anyhow::{Context, Result, bail};
 use mpw_check::{Progress, Silent, check_layout, check_tiles, checked_tiles, tile_count};
-use mpw_columns::check_columns;
+use mpw_columns::{Bounds, FirstMarkers, check_columns, first_of_columns};
 use mpw_deck::Rules;
 use mpw_edges::Axis;
 use mpw_markers::{Book, Marker, stitch};
@@ -13,6 +13,9 @@ use std::thread::Threads;
 
 /// How many shapes columns may show, beside what a line names.
 const MOSTS: [u32; 4] = [12, 16, 24, 65536];
+
+/// How many markers of a rule are wanted at most.
+const LIMITS: [usize; 3] = [0, 2, usize::MAX];
 
 /// The book of the snapshot, by columns that show at most so many shapes each.
 fn by_columns(
@@ -34,6 +37,24 @@ fn by_tiles(rt: &(impl Threads + Sync), alloc: Global, snapshot: &Snapshot) -> R
     Ok(stitch(alloc, &lists)?)
 }
 
+/// The first markers of each rule, at most so many, by columns that show at most so many shapes each.
+fn first_by_columns(
+    rt: &(impl Threads + Sync),
+    alloc: Global,
+    snapshot: &Snapshot,
+    most: u32,
+    limit: usize,
+) -> Result<FirstMarkers> {
+    if snapshot.shelf().submissions().len() != 1 {
+        bail!("one submission");
+    }
+    let bounds = Bounds {
+        shapes: most,
+        markers: limit,
+    };
+    Ok(first_of_columns(rt, alloc, snapshot, bounds, &mut Silent)?)
+}
+
 fn is_same(a: &Marker, b: &Marker) -> bool {
     a.key() == b.key() && a.met.as_slice() == b.met.as_slice()
 }
@@ -50,7 +71,60 @@ fn are_same(first: &[Marker], second: &[Marker]) -> bool {
     true
 }
 
-/// Whether the book of columns that show at most so many shapes is another one than this.
+/// How many markers of a rule a book has, where the first of them, at most so many, are those from a place on of others; none where they aren't.
+fn count_first(
+    book: &[Marker],
+    first: &[Marker],
+    rule: usize,
+    limit: usize,
+    from: usize,
+) -> Option<usize> {
+    let mut count = 0usize;
+    for marker in book {
+        if marker.rule as usize == rule {
+            if count < limit && !is_same(marker, first.get(from.saturating_add(count))?) {
+                return None;
+            }
+            count = count.saturating_add(1);
+        }
+    }
+    Some(count)
+}
+
+/// Whether these are the first markers of each rule of a book, at most so many, and the numbers are the book's.
+fn are_first(book: &[Marker], first: &FirstMarkers, rules: usize, limit: usize) -> bool {
+    let mut from = 0usize;
+    for rule in 0..rules {
+        let Some(count) = count_first(book, first.markers.as_slice(), rule, limit, from) else {
+            return false;
+        };
+        if first.counts.get(rule).copied() != Some(count) {
+            return false;
+        }
+        from = from.saturating_add(count.min(limit));
+    }
+    from == first.markers.len() && first.all == book.len() && first.counts.len() == rules
+}
+
+/// Whether the first markers of columns that show at most so many shapes, for some limits, are others than those of this book.
+fn first_differ(
+    rt: &(impl Threads + Sync),
+    alloc: Global,
+    snapshot: &Snapshot,
+    most: u32,
+    book: &Book,
+) -> Result<bool> {
+    let rules = snapshot.deck().rules().as_slice().len();
+    for limit in LIMITS {
+        let first = first_by_columns(rt, alloc, snapshot, most, limit)?;
+        if !are_first(book.as_slice(), &first, rules, limit) {
+            return Ok(true);
+        }
+    }
+    Ok(false)
+}
+
+/// Whether the book of columns that show at most so many shapes, or what is first in it, is another one than this.
 fn differs(
     rt: &(impl Threads + Sync),
     alloc: Global,
@@ -59,7 +133,10 @@ fn differs(
     tiles: &Book,
 ) -> Result<bool> {
     let columns = by_columns(rt, alloc, snapshot, most)?;
-    Ok(!are_same(columns.as_slice(), tiles.as_slice()))
+    if !are_same(columns.as_slice(), tiles.as_slice()) {
+        return Ok(true);
+    }
+    first_differ(rt, alloc, snapshot, most, tiles)
 }
 
 /// How many of the books of columns differ from that of tiles.
@@ -111,6 +188,26 @@ pub fn print_found(
     Ok(())
 }
 
+/// Prints the first markers of each rule that columns find, behind how many each has and how many there are.
+pub fn print_first(
+    rt: &(impl Print + AllocGlobal + Threads + Sync),
+    limit: &str,
+    rules: &str,
+    library: &str,
+) -> Result<()> {
+    let snapshot = snapshot(rt.alloc(), rules, library)?;
+    let first = first_by_columns(rt, rt.alloc(), &snapshot, 65536, limit.parse()?)?;
+    let whole = first_of_layout(rt, rt.alloc(), &snapshot, limit.parse()?, &mut Silent)?;
+    for (rule, count) in snapshot.deck().rules().as_slice().iter().zip(&first.counts) {
+        print!(rt; "    {} {count}", rule.name.as_str())?;
+    }
+    println!(rt; "    all {}, {}", first.all, whole.all)?;
+    for marker in &first.markers {
+        print_marker(rt, snapshot.deck().rules(), marker)?;
+    }
+    Ok(())
+}
+
 /// What a check told, first and last.
 #[derive(Clone, Copy)]
 struct Told {
@@ -129,6 +226,40 @@ impl Progress for Told {
         self.total = total;
         self.markers = markers;
     }
+
+    fn has_room(&mut self, _markers: usize) -> bool {
+        true
+    }
+}
+
+/// A check that has room for so many markers.
+#[derive(Clone, Copy)]
+struct Narrow {
+    most: usize,
+}
+
+impl Progress for Narrow {
+    fn tell(&mut self, _done: usize, _total: usize, _markers: usize) {}
+
+    fn has_room(&mut self, markers: usize) -> bool {
+        markers <= self.most
+    }
+}
+
+/// Prints whether a check by columns that has room for so many markers finds all.
+pub fn print_room(
+    rt: &(impl Print + AllocGlobal + Threads + Sync),
+    room: &str,
+    rules: &str,
+    library: &str,
+) -> Result<()> {
+    let snapshot = snapshot(rt.alloc(), rules, library)?;
+    if snapshot.shelf().submissions().len() != 1 {
+        bail!("one submission");
+    }
+    let mut narrow = Narrow { most: room.parse()? };
+    let found = check_columns(rt, rt.alloc(), &snapshot, 65536, &mut narrow);
+    Ok(println!(rt; "    {}", if found.is_ok() { "found" } else { "no room" })?)
 }
 
 /// Prints what is told of a check by columns: what comes between depends on how many processors there are.
