@@ -1,3 +1,4 @@
 mod Escaped
 mod Exact
+pub mod First
 pub mod Rows

@@ -1,5 +1,5 @@
 -- What a report tells, without references: markers of a structure and faults of elements.
-use Rattle.std.specs.Prelude.{ℕ, ◌==◌, List, map, Option, option_map}
+use Rattle.std.specs.Prelude.{◌≡◌, ℕ, ◌==◌, List, get_or, length, map, take, Option, None, Some, option_map}
 use Rattle.std.specs.List.{filter}
 use Rattle.mpw_geom.specs.declared.plane.Box2.{Box2}
 use Rattle.mpw_geom.specs.declared.plane.Layer.{Layer}
@@ -26,13 +26,14 @@ pub data Noted : Type 0 where
   unnamed : Layer → ℕ → Noted
   unchecked : Noted
 
--- The name of the layout's file, the structure's, the rules, the markers, how many of a rule have an item at most, what is told of what is
--- looked at, and the faults.
+-- The name of the layout's file, the structure's, the rules, the markers, how many each rule has where the markers are just the first of each,
+-- how many of a rule have an item at most, what is told of what is looked at, and the faults.
 pub record Content : Type 0 where
   pub original : Option (List ℕ)
   pub top : List ℕ
   pub rules : List Rule
   pub markers : List Marker
+  pub counts : Option (List ℕ)
   pub limit : ℕ
   pub notes : List Noted
   pub faults : List Told
@@ -57,6 +58,7 @@ content_of r = record {
   top = r.top.now;
   rules = r.rules.now;
   markers = r.markers.now;
+  counts = option_map (λ counts. counts.now) r.counts;
   limit = r.limit;
   notes = map note_of r.notes.now;
   faults = map fault_of r.faults.now;
@@ -65,3 +67,25 @@ content_of r = record {
 -- the markers of the rule with that place in the deck, in order
 abbrev pub of_rule : List Marker → ℕ → List Marker
 of_rule markers place = filter (λ m. m.rule == place) markers
+
+-- how many markers the rule with that place has
+abbrev pub counted : Option (List ℕ) → List Marker → ℕ → ℕ
+counted None markers place = length (of_rule markers place)
+counted (Some counts) markers place = get_or counts place 0
+
+-- the first of each rule, so many at most, are the same of both
+abbrev pub AgreeFirst : (most : ℕ) → List Marker → List Marker → Type 0
+AgreeFirst most a b = (place : ℕ) → take most (of_rule a place) ≡ take most (of_rule b place)
+
+-- the same with other markers
+abbrev pub with_markers : Content → List Marker → Content
+with_markers c markers = record {
+  original = c.original;
+  top = c.top;
+  rules = c.rules;
+  markers = markers;
+  counts = c.counts;
+  limit = c.limit;
+  notes = c.notes;
+  faults = c.faults;
+}

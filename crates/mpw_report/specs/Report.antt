@@ -1,5 +1,5 @@
 -- The text of a report: what a deck's rules and a book's markers are in a report database of KLayout's.
-use Rattle.std.specs.Prelude.{ℕ, ◌-◌, ◌^◌, nat_le, if◌then◌else◌, ℤ, List, [], ◌∷◌, ◌++◌, length, take, codes, Option, None, Some}
+use Rattle.std.specs.Prelude.{◌≡◌, ℕ, ◌-◌, ◌^◌, nat_le, if◌then◌else◌, ℤ, List, [], ◌∷◌, ◌++◌, take, codes, Option, None, Some}
 use Rattle.std.specs.List.{concat, flat_map, enumerate_from}
 use Rattle.std.specs.Fmt.{decimal}
 use Rattle.mpw_geom.specs.declared.plane.Box2.{Box2}
@@ -11,7 +11,7 @@ use Rattle.mpw_deck.specs.declared.rule.Rule.{Rule}
 use Rattle.mpw_edges.specs.declared.run.Axis.{Axis}
 use Rattle.mpw_edges.specs.declared.run.Axis.TheVariants.{V, H}
 use Rattle.mpw_markers.specs.declared.marker.Marker.{Marker}
-use Rattle.mpw_report.specs.Content.{Told, Noted, no_rules, idle, unnamed, unchecked, Content, of_rule}
+use Rattle.mpw_report.specs.Content.{Told, Noted, no_rules, idle, unnamed, unchecked, Content, counted, of_rule, AgreeFirst, with_markers}
 use Rattle.mpw_report.specs.Escapes.{path_character, escaped, path_text}
 use Rattle.mpw_report.specs.Lengths.{micrometres}
 use Rattle.mpw_report.specs.Parts.{part_text}
@@ -60,7 +60,7 @@ left_out_text count limit =
 unfoldable pub category_text : Content → ℕ × Rule → List ℕ
 category_text c row =
     part_text CategoryName ++ escaped row.1.name ++ part_text Description ++ rule_text row.1
-    ++ left_out_text (length (of_rule c.markers row.0)) c.limit
+    ++ left_out_text (counted c.counts c.markers row.0) c.limit
     ++ part_text CategoryEnd
 
 -- that of faults, where there are some
@@ -198,6 +198,7 @@ all_markers rules top markers = record {
   top = top;
   rules = rules;
   markers = markers;
+  counts = None;
   limit = 2 ^ 64 - 1;
   notes = [];
   faults = [];
@@ -205,3 +206,9 @@ all_markers rules top markers = record {
 
 unfoldable pub report_text : List Rule → List ℕ → List Marker → List ℕ
 report_text rules top markers = full_text (all_markers rules top markers)
+
+-- Where it is told how many markers each rule has, the first of each rule, as many as the limit, make the same report as all.
+abbrev pub FirstMarkersHaveTheItems : Type 0
+FirstMarkersHaveTheItems =
+    (c : Content) (counts : List ℕ) (first : List Marker) → c.counts ≡ Some counts
+    → AgreeFirst c.limit first c.markers → full_text (with_markers c first) ≡ full_text c

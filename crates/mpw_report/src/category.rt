@@ -1,7 +1,7 @@
 //! Categories: one for each rule, with the rule's line as its description.
-ghost use Rattle.std.specs.Prelude.{◌≡◌, length};
+ghost use Rattle.std.specs.Prelude.{◌≡◌, get_or, length};
 ghost use Rattle.std.specs.List.{flat_map, enumerate_from};
-ghost use Rattle.mpw_report.specs.Content.{content_of, of_rule};
+ghost use Rattle.mpw_report.specs.Content.{content_of, counted, of_rule};
 ghost use Rattle.mpw_report.specs.Report.{layer_text, check_word, check_layers, rule_text, left_out_text, category_text};
 ghost use Rattle.mpw_text.specs.Writing.{Adds};
 
@@ -103,6 +103,26 @@ fn count_of(markers: &[Marker], place: usize) -> usize
         .count()
 }
 
+/// The number at a place, or 0.
+fn number_at(numbers: &[usize], place: usize) -> usize
+    ensures { result ≡ get_or numbers.now place 0 }
+{
+    match numbers.get(place) {
+        Some(number) => *number,
+        None => 0,
+    }
+}
+
+/// How many markers the rule with that place has, by the report's numbers where it has some.
+fn counted(report: &Report<'_>, place: usize) -> usize
+    ensures { result ≡ counted (content_of report.now).counts report.now.markers.now place }
+{
+    match report.counts {
+        Some(counts) => number_at(counts, place),
+        None => count_of(report.markers, place),
+    }
+}
+
 /// Writes the category of the rule with that place.
 #[tactic(auto, unfolding(crate::specs::Report::category_text))]
 fn put_category<W: Write>(
@@ -117,7 +137,7 @@ fn put_category<W: Write>(
     put_name(writer, &rule.name)?;
     put_part(writer, Part::Description)?;
     put_rule(writer, rule)?;
-    put_left_out(writer, count_of(report.markers, place), report.limit)?;
+    put_left_out(writer, counted(report, place), report.limit)?;
     put_part(writer, Part::CategoryEnd)
 }
 

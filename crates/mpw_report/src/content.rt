@@ -39,8 +39,11 @@ pub struct Report<'a> {
     pub top: &'a Name,
     /// The rules of the deck, each with a category.
     pub rules: &'a [Rule],
-    /// The markers. One whose rule isn't there has no item.
+    /// The markers, or the first of each rule, where there are `counts`. One whose rule isn't there has no item.
     pub markers: &'a [Marker],
+    /// How many markers each rule has, by its place in the deck, where `markers` has only the first of each; none where `markers` has all. A
+    /// rule without a number there has 0.
+    pub counts: Option<&'a [usize]>,
     /// How many markers of a rule have an item at most: the first ones. The others are counted in the category's description.
     pub limit: usize,
     /// What the description tells behind the structure's name.

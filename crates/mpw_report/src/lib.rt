@@ -2,8 +2,9 @@
 //!
 //! [`write_report`] writes a category for each rule of a deck and an item for each marker, one behind another: it takes no
 //! memory. [`write_full_report`] writes a [`Report`] so, which also names the layout's file, has a limit for the items of a rule,
-//! tells in its description which rules look at nothing, and may have the faults of a library's elements, as a category of their own. Lengths are in micrometres, exactly
-//! ([`lengths_are_exact`]). What stands in a name is escaped, for XML and for the path that names a category
+//! tells in its description which rules look at nothing, and may have the faults of a library's elements, as a category of their own.
+//! It may have just the first markers of each rule, with how many each rule has ([`first_markers_have_the_items`]). Lengths are in
+//! micrometres, exactly ([`lengths_are_exact`]). What stands in a name is escaped, for XML and for the path that names a category
 //! ([`names_are_escaped`]). Its parts that other drawings and texts have too are public: [`put_name`], [`put_rule`],
 //! [`put_left_out`] and [`put_micrometres`].
 #![tactic(auto)]
@@ -22,7 +23,7 @@ mod report;
 
 pub use category::{put_left_out, put_rule};
 pub use content::{Fault, Note, Report};
-pub use laws::{lengths_are_exact, names_are_escaped};
+pub use laws::{first_markers_have_the_items, lengths_are_exact, names_are_escaped};
 pub use length::put_micrometres;
 pub use name::put_name;
 pub use report::{write_full_report, write_report};

@@ -72,8 +72,9 @@ fn put_all<W: Write>(writer: &mut W, report: &Report<'_>) -> io::Result<()>
 
 /// Writes a report: the notes in its description; a category for each rule, in order, and one for the faults where there are some; then for each rule an
 /// item for each of its first markers, as many as the limit allows, in order; and an item for each fault. The description of a
-/// rule's category tells how many of its markers are left out. It takes no memory, and costs the text's size, some 300 bytes a marker, and
-/// for each rule two passes over the markers.
+/// rule's category tells how many of its markers are left out. Where it has numbers of markers, the first of each rule make the same report
+/// as all ([`first_markers_have_the_items`](crate::first_markers_have_the_items)). It takes no memory, and costs the text's size, some 300
+/// bytes a marker, and for each rule two passes over the markers, or one where there are numbers.
 ///
 /// # Errors
 /// The writer's; it then holds a part of the text.
@@ -99,6 +100,7 @@ pub fn write_report<'a, W: Write>(
     ensures { Adds W.contents writer.old writer.new result (report_text rules.now top.now markers.now) }
 {
     let original: Option<&'a str> = None;
+    let counts: Option<&'a [usize]> = None;
     let notes: &'a [Note<'a>] = &[];
     let faults: &'a [Fault<'a>] = &[];
     let report = Report {
@@ -106,6 +108,7 @@ pub fn write_report<'a, W: Write>(
         top,
         rules,
         markers,
+        counts,
         limit: usize::MAX,
         notes,
         faults,
