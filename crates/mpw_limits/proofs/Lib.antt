@@ -1,2 +1,3 @@
 -- The lemmas of limited listings.
+mod First
 mod Rows

@@ -1,11 +1,11 @@
 -- The first markers of each rule, as many as a limit allows, and the text of their listing.
-use Rattle.std.specs.Prelude.{ℕ, ◌-◌, ◌^◌, ◌++◌, List, [], ◌∷◌, codes, length, min, take, sum_by}
+use Rattle.std.specs.Prelude.{◌≡◌, ℕ, ◌-◌, ◌^◌, ◌++◌, List, [], ◌∷◌, codes, length, min, take, sum_by}
 use Rattle.std.specs.List.{concat, enumerate_from, flat_map}
 use Rattle.std.specs.Fmt.{decimal}
 use Rattle.mpw_deck.specs.declared.rule.Rule.{Rule}
 use Rattle.mpw_markers.specs.Markers.{key_of}
 use Rattle.mpw_markers.specs.declared.marker.Marker.{Marker}
-use Rattle.mpw_report.specs.Content.{of_rule}
+use Rattle.mpw_report.specs.Content.{of_rule, AgreeFirst}
 use Rattle.mpw_wire.specs.Keys.{key_text, spot_of}
 use Rattle.mpw_limits.specs.declared.listing.Limited as declared
 
@@ -47,3 +47,14 @@ head_text count = concat (codes "OK " ∷ decimal count ∷ codes "\n" ∷ [])
 unfoldable pub limited_text : Limited → List ℕ
 limited_text l =
     head_text (listed_count l) ++ flat_map (rule_lines l) (enumerate_from 0 l.rules)
+
+-- The same with other markers.
+abbrev pub with_markers : Limited → List Marker → Limited
+with_markers l markers =
+    record { top = l.top; rules = l.rules; markers = markers; limit = l.limit }
+
+-- The first markers of each rule, as many as the limit, have the same listing as all.
+abbrev pub FirstMarkersAreListed : Type 0
+FirstMarkersAreListed =
+    (l : Limited) (first : List Marker) → AgreeFirst l.limit first l.markers
+    → limited_text (with_markers l first) ≡ limited_text l

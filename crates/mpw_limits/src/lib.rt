@@ -1,12 +1,15 @@
 //! The listing of some markers of each rule.
 //!
 //! [`write_limited`] writes the first markers of each rule, as many as a limit allows, as a desk lists them: `OK` with their number, and
-//! then a line each with the marker's key and the structure's name. [`count_of_rule`] is how many there are of a rule.
+//! then a line each with the marker's key and the structure's name. Markers beyond a rule's first ones don't show
+//! ([`first_markers_are_listed`]). [`count_of_rule`] is how many there are of a rule.
 #![tactic(auto)]
 
 mod count;
+mod laws;
 mod line;
 mod listing;
 
 pub use count::count_of_rule;
+pub use laws::first_markers_are_listed;
 pub use listing::{Limited, write_limited};

@@ -90,8 +90,8 @@ fn put_lines<W: Write>(writer: &mut W, listing: &Limited<'_>) -> io::Result<()>
 }
 
 /// Writes the first markers of each rule, as many as the limit allows, as a desk lists markers: `OK` with how many are listed, and then a line
-/// each, by the rules' order, with the marker's key and the structure's name. It takes no memory, and for each rule two passes over
-/// the markers.
+/// each, by the rules' order, with the marker's key and the structure's name. So the first markers of each rule have the same listing as
+/// all ([`first_markers_are_listed`](crate::first_markers_are_listed)). It takes no memory, and for each rule two passes over the markers.
 ///
 /// # Errors
 /// The writer's; it then holds a part of the text.
