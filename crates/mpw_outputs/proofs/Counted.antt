@@ -1,12 +1,11 @@
 -- Markers counted by rules.
-use Rattle.std.proofs.Common.{◌≡◌, ◌<◌, ◌≤◌, ◌+◌, ◌==◌, ℕ, cond, List, length, get_or, take, refl, sym, ap, ◌∙◌, arith}
-use Rattle.std.specs.Prelude.{not, slice_index}
-use Rattle.std.proofs.lemmas.List.{get_or_read, length-take-le}
-use Rattle.std.proofs.lemmas.List.FromFn.{get_or-map-range_with_len, length-map-range_with_len}
+use Rattle.std.proofs.Common.{◌≡◌, ◌<◌, ◌≤◌, ◌+◌, ◌-◌, ◌^◌, ◌==◌, ℕ, cond, List, length, get_or, take, refl, sym, ap, ◌∙◌, arith}
+use Rattle.std.specs.Prelude.{min, not, slice_index}
+use Rattle.std.proofs.lemmas.List.{length-take-le}
 use Rattle.std.proofs.lemmas.List.Filters.{length-filter_both, length-filter_more}
 use Rattle.mpw_limits.specs.Limits.{count_of}
 use Rattle.mpw_markers.specs.declared.marker.Marker.{Marker}
-use Rattle.mpw_outputs.specs.Counted.{rule_counts}
+use Rattle.mpw_outputs.specs.Counted.{capped}
 use Rattle.mpw_outputs.specs.Internal.Counted.{AreCounts}
 
 -- One marker more.
@@ -18,6 +17,15 @@ count_more markers i k m inside at =
     length-filter_more (λ (x : Marker). x.rule == k) markers i m inside
     ∙ ap (λ (x : Marker). count_of (take i markers) k + cond (x.rule == k) 1 0) (sym at)
 
+-- A rule has as many markers as there are, at most.
+count_few : (markers : List Marker) (k : ℕ) → count_of markers k ≤ length markers
+count_few markers k =
+    omega (
+      arith,
+      length-filter_both (λ (x : Marker). x.rule == k) (λ (x : Marker). not (x.rule == k)) (λ x. refl)
+          markers,
+    )
+
 -- As many as markers so far, at most.
 pub counts_few : (markers : List Marker) (counts : List ℕ) (i : ℕ) → i < length markers
     → AreCounts (take i markers) counts
@@ -26,8 +34,7 @@ counts_few markers counts i inside are k within =
     omega (
       arith,
       are k within,
-      length-filter_both (λ (x : Marker). x.rule == k) (λ (x : Marker). not (x.rule == k)) (λ x. refl)
-          (take i markers),
+      count_few (take i markers) k,
       length-take-le i markers (omega (arith, inside)),
     )
 
@@ -41,19 +48,12 @@ counts_on markers counts new i m inside at many more are k within =
     more k old ∙ ap (λ n. n + cond (m.rule == k) 1 0) (are k old)
     ∙ sym (count_more markers i k m inside at)
 
--- There is a number for each of so many rules.
-pub counts_long : (rules : ℕ) (markers : List Marker) (counts : List ℕ)
-    → counts ≡ rule_counts rules markers → length counts ≡ rules
-counts_long rules markers counts are =
-    ap (λ (ns : List ℕ). length ns) are ∙ length-map-range_with_len (count_of markers) 0 rules
+small_is : (n many most : ℕ) → n ≤ many → many ≤ most → n ≡ min n most
+small_is n many most few short = omega (arith, few, short)
 
--- The one at a place.
-pub count_at : (rules : ℕ) (markers : List Marker) (counts : List ℕ) (place count : ℕ)
-    → counts ≡ rule_counts rules markers → place < rules → count ≡ get_or counts place count
-    → count ≡ count_of markers place
-count_at rules markers counts place count are within at =
-    let long = counts_long rules markers counts are in
-    let first : 0 + place ≡ place = omega arith in
-    get_or_read counts place count (omega (arith, within, long)) at 0
-    ∙ ap (λ (ns : List ℕ). get_or ns place 0) are
-    ∙ get_or-map-range_with_len (count_of markers) 0 rules place place 0 within first
+-- A slice's markers are no more than the greatest number.
+pub count_whole : (markers : List Marker) (k : ℕ) → length markers < 2 ^ 64
+    → count_of markers k ≡ capped (count_of markers k)
+count_whole markers k short =
+    small_is (count_of markers k) (length markers) (2 ^ 64 - 1) (count_few markers k)
+    (omega (arith, short))

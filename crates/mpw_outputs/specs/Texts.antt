@@ -4,7 +4,7 @@ use Rattle.mpw_outputs.specs.declared.outputs.Place.{Place}
 use Rattle.mpw_outputs.specs.declared.outputs.Place.TheVariants as place
 use Rattle.mpw_outputs.specs.declared.texts.Text.{Text}
 use Rattle.mpw_outputs.specs.declared.texts.Text.TheVariants as text
-use Rattle.mpw_outputs.specs.Counted.{summary_text}
+use Rattle.mpw_outputs.specs.Counted.{counts_text}
 use Rattle.mpw_outputs.specs.Listed.{listed_text}
 use Rattle.mpw_outputs.specs.Outputs.{Kept}
 use Rattle.mpw_limits.specs.Limits.{limited_of, limited_text}
@@ -21,7 +21,7 @@ place_of (place.File name) = Some name.now
 abbrev pub text_of : Text → List ℕ
 text_of (text.Listing layout book) = listed_text layout.now book.now
 text_of (text.Limited listing) = limited_text (limited_of listing.now)
-text_of (text.Summary rules markers) = summary_text rules.now markers.now
+text_of (text.Counts rules counts) = counts_text rules.now counts.now.rules.now counts.now.all
 text_of (text.Report report) = full_text (content_of report.now)
 text_of (text.Picture layout top picture) = picture_text layout.now.deck.rules top.now picture.now
 text_of (text.Part part) = part_text part.now

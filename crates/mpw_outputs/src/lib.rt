@@ -2,7 +2,8 @@
 //!
 //! [`put`] writes a [`Text`] and puts it into its place, whole and at once: it goes over any [`Outputs`], of which contracts see
 //! what was put where. [`Host`] are a process's own: its standard output, and files that are written beside their places and renamed. [`apart`]
-//! refuses an output that is an input or another output. [`rule_counts`] is how many markers each rule has.
+//! refuses an output that is an input or another output. [`rule_counts`] is how many markers each rule has, and [`Counts`] are such
+//! numbers, as [`Text::Counts`] tells them.
 #![tactic(auto)]
 
 mod host;
@@ -16,6 +17,6 @@ mod uses;
 pub use host::Host;
 pub use outputs::{Draft, Outputs, Place, put};
 pub use spot::FileSpot;
-pub use summary::rule_counts;
+pub use summary::{Counts, rule_counts};
 pub use texts::{Text, Writer};
 pub use uses::{Use, apart};

@@ -1,7 +1,7 @@
 //! The numbers of markers by rule, and the text that tells them. `specs/Counted.antt` has what contracts say of it.
-ghost use Rattle.std.specs.Prelude.{◌≡◌, ◌==◌, ◌<◌, ◌+◌, ◌^◌, ◌++◌, ℕ, if◌then◌else◌, length, replicate, slice_index, IfOk};
+ghost use Rattle.std.specs.Prelude.{◌≡◌, ◌==◌, ◌<◌, ◌+◌, ◌^◌, ◌++◌, ℕ, if◌then◌else◌, get_or, length, replicate, slice_index, IfOk};
 ghost use Rattle.std.specs.String.{string_bytes};
-ghost use Rattle.mpw_outputs.specs.Counted.{count_line, rule_counts, rule_lines, summary_text};
+ghost use Rattle.mpw_outputs.specs.Counted.{count_line, counts_text, rule_counts, rule_lines};
 ghost use Rattle.mpw_outputs.specs.Listed.{Lists};
 
 use itoa::Buffer;
@@ -10,6 +10,15 @@ use mpw_markers::Marker;
 use mpw_reply_text::write_bytes;
 use mpw_wire::{Sink, WireFault};
 use std::alloc::{AllocError, Global};
+
+/// How many markers each rule has, by its place in the deck, and how many there are, both up to 2^64 - 1.
+#[derive(Clone, Copy, Drop)]
+pub struct Counts<'a> {
+    /// How many each rule has, by its place in the deck. One without a number has 0.
+    pub rules: &'a [usize],
+    /// How many there are.
+    pub all: usize,
+}
 
 /// So many zeros.
 fn zeros(alloc: Global, count: usize) -> Result<Vec<usize>, AllocError>
@@ -29,7 +38,8 @@ fn count_one(counts: &mut Vec<usize>, place: usize)
     }
 }
 
-/// How many markers each of so many rules has, by the rule's place in the deck. One pass over the markers.
+/// How many markers each of so many rules has, by the rule's place in the deck: the `rules` of [`Counts`]. One pass over the markers; it
+/// takes 8 bytes for each rule.
 ///
 /// # Errors
 /// Want of memory.
@@ -58,41 +68,49 @@ fn add_line(text: &mut String, name: &str, count: usize) -> Result<(), AllocErro
     text.push_str("\n")
 }
 
-/// The lines of the rules that have so many markers.
-fn rule_lines(alloc: Global, rules: &[Rule], markers: &[Marker]) -> Result<String, AllocError>
-    ensures { IfOk result (λ text. string_bytes text ≡ rule_lines rules.now markers.now) }
+/// The number at a place, or 0.
+fn number_at(numbers: &[usize], place: usize) -> usize
+    ensures { result ≡ get_or numbers.now place 0 }
 {
-    let counts = rule_counts(alloc, rules.len(), markers)?;
+    match numbers.get(place) {
+        Some(number) => *number,
+        None => 0,
+    }
+}
+
+/// The lines of the rules that have so many markers.
+fn rule_lines(alloc: Global, rules: &[Rule], counts: &[usize]) -> Result<String, AllocError>
+    ensures { IfOk result (λ text. string_bytes text ≡ rule_lines rules.now counts.now) }
+{
     let mut text = String::new(alloc);
     for (place, rule) in rules.iter().enumerate() {
-        let count = counts[place];
-        add_line(&mut text, rule.name.as_str(), count)?;
+        add_line(&mut text, rule.name.as_str(), number_at(counts, place))?;
     }
     Ok(text)
 }
 
-/// A line for each rule of a deck, with its name and how many of the markers are of it, and one for all.
-fn summary_text(alloc: Global, rules: &[Rule], markers: &[Marker]) -> Result<String, AllocError>
-    ensures { IfOk result (λ text. string_bytes text ≡ summary_text rules.now markers.now) }
+/// A line for each rule of a deck, with its name and how many markers it has, and one for all.
+fn counts_text(alloc: Global, rules: &[Rule], counts: &Counts<'_>) -> Result<String, AllocError>
+    ensures { IfOk result (λ text. string_bytes text ≡ counts_text rules.now counts.now.rules.now counts.now.all) }
 {
-    let mut text = rule_lines(alloc, rules, markers)?;
-    add_line(&mut text, "all", markers.len())?;
+    let mut text = rule_lines(alloc, rules, counts.rules)?;
+    add_line(&mut text, "all", counts.all)?;
     Ok(text)
 }
 
-/// Writes a line for each rule of a deck, with its name and how many of the markers are of it, and one for all. One pass over the markers; it
-/// takes the text's size, and a number for each rule.
+/// Writes a line for each rule of a deck, with its name and how many markers it has, and one for all. A rule without a number has 0. It takes
+/// the text's size, some 20 bytes and a name for each rule.
 ///
 /// # Errors
 /// `Write` where the sink failed, and `Memory`.
-pub fn write_summary<W: Sink>(
+pub fn write_counts<W: Sink>(
     alloc: Global,
     rules: &[Rule],
-    markers: &[Marker],
+    counts: &Counts<'_>,
     writer: &mut W,
 ) -> Result<(), WireFault>
-    ensures { Lists W.contents W.failures writer.old writer.new result (summary_text rules.now markers.now) }
+    ensures { Lists W.contents W.failures writer.old writer.new result (counts_text rules.now counts.now.rules.now counts.now.all) }
 {
-    let text = summary_text(alloc, rules, markers)?;
+    let text = counts_text(alloc, rules, counts)?;
     write_bytes(writer, text.as_bytes())
 }

@@ -4,11 +4,11 @@ ghost use Rattle.std.specs.Io.KnownBytes.{Appends};
 ghost use Rattle.mpw_outputs.specs.Texts.{text_of};
 
 use crate::listing::write_markers;
-use crate::summary::write_summary;
+use crate::summary::{Counts, write_counts};
 use mpw_deck::Rule;
 use mpw_geom::Name;
 use mpw_limits::{Limited, write_limited};
-use mpw_markers::{Book, Marker};
+use mpw_markers::Book;
 use mpw_parts::{Part, write_part};
 use mpw_picture::{Picture, write_picture};
 use mpw_report::{Report, write_full_report};
@@ -26,7 +26,7 @@ pub enum Text<'a> {
     /// The listing of the first markers of each rule.
     Limited(&'a Limited<'a>),
     /// The numbers of markers by rule.
-    Summary(&'a [Rule], &'a [Marker]),
+    Counts(&'a [Rule], &'a Counts<'a>),
     /// A report.
     Report(&'a Report<'a>),
     /// Its picture.
@@ -84,7 +84,7 @@ fn write_bytes<S: Sink>(
     match *text {
         Text::Listing(layout, book) => write_markers(alloc, layout, book.copy()?, &mut writer.sink),
         Text::Limited(listing) => outcome(write_limited(writer, listing)),
-        Text::Summary(rules, markers) => write_summary(alloc, rules, markers, &mut writer.sink),
+        Text::Counts(rules, counts) => write_counts(alloc, rules, counts, &mut writer.sink),
         Text::Report(report) => outcome(write_full_report(writer, report)),
         Text::Picture(layout, top, picture) => {
             let rules = layout.deck().rules().as_slice();

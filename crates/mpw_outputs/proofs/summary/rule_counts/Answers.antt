@@ -3,7 +3,8 @@ use Rattle.std.proofs.lemmas.List.{take_all}
 use Rattle.std.proofs.lemmas.List.FromFn.{fill_by_all}
 use Rattle.mpw_limits.specs.Limits.{count_of}
 use Rattle.mpw_markers.specs.declared.marker.Marker.{Marker}
-use Rattle.mpw_outputs.proofs.Counted.{counts_few, counts_on}
+use Rattle.mpw_outputs.specs.Counted.{capped}
+use Rattle.mpw_outputs.proofs.Counted.{counts_few, counts_on, count_whole}
 use Rattle.mpw_outputs.proofs.summary.rule_counts.Goals as goal
 
 pub count_one-requires : goal.count_one-requires
@@ -24,7 +25,8 @@ pub returns : goal.returns
 returns c =
     let markers = c.args.markers.now in
     let many = c.loop-marker.invariant.0 in
-    fill_by_all (count_of markers) c.loop-marker.counts.items c.args.rules 0 many
+    fill_by_all (λ k. capped (count_of markers k)) c.loop-marker.counts.items c.args.rules 0 many
     (λ k h. c.loop-marker.invariant.1 k (omega (arith, h, many))
     ∙ ap (λ (ms : List Marker). count_of ms k)
-    (take_all c.loop-marker.marker-index markers c.loop-marker-test.false))
+    (take_all c.loop-marker.marker-index markers c.loop-marker-test.false)
+    ∙ count_whole markers k (omega (arith, c.loop-marker-test.false, c.loop-marker.auto.marker-index-end)))

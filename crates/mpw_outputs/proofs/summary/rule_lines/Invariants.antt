@@ -6,4 +6,4 @@ use Rattle.mpw_outputs.proofs.summary.rule_lines.Given as goal
 
 abbrev pub invariant-loop-place : goal.invariant-loop-place
 invariant-loop-place l = string_bytes l.text
-    ≡ flat_map (rule_line l.markers) (take l.place (enumerate_from 0 l.rules))
+    ≡ flat_map (rule_line l.counts) (take l.place (enumerate_from 0 l.rules))
