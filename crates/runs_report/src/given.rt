@@ -37,6 +37,8 @@ pub struct Given {
     pub original: Option<String>,
     /// The most items of a rule.
     pub limit: Option<usize>,
+    /// How many markers each rule has.
+    pub counts: Option<Vec<usize>>,
     notes: Vec<Noted>,
     faults: Vec<Seen>,
     is_deck: bool,
@@ -108,6 +110,15 @@ fn read_note(alloc: Global, line: &str) -> Result<Noted> {
     }
 }
 
+/// The numbers of a line.
+fn read_counts(alloc: Global, line: &str) -> Result<Vec<usize>> {
+    let mut counts = Vec::new(alloc);
+    for word in line.split_whitespace() {
+        counts.push(number(word)? as usize)?;
+    }
+    Ok(counts)
+}
+
 impl Given {
     /// Nothing yet.
     pub fn new(alloc: Global) -> Given {
@@ -117,6 +128,7 @@ impl Given {
             markers: Vec::new(alloc),
             original: None,
             limit: None,
+            counts: None,
             notes: Vec::new(alloc),
             faults: Vec::new(alloc),
             is_deck: true,
@@ -128,6 +140,7 @@ impl Given {
         match line.split_once(" ").unwrap_or((line, "")) {
             ("original", file) => self.original = Some(String::from_str(alloc, file)?),
             ("limit", limit) => self.limit = Some(number(limit)? as usize),
+            ("counts", rest) => self.counts = Some(read_counts(alloc, rest)?),
             ("note", rest) => self.notes.push(read_note(alloc, rest)?)?,
             ("fault", rest) => self.faults.push(read_fault(alloc, rest)?)?,
             _ => self.markers.push(marker(alloc, line)?)?,

@@ -3,6 +3,7 @@
 //! The lines are a deck, a line `--`, the name of the structure, and then a marker a line as `RULE AXIS SIDE X1 X2 Y0 Y1`. The report of all markers is
 //! written. Where there is a line `original FILE`, a full report stands behind it, of that file, with at most `limit N` items a rule, and
 //! with the notes of the lines `note NOTE`, and the faults of the lines `fault CODE BYTE STRUCTURE [X0 Y0 X1 Y1]`, whose structure may be `-` for none.
+//! Where there is a line `counts N..` too, the same report stands behind that by these numbers of markers, rule by rule.
 #![tactic(auto)]
 
 mod given;
@@ -20,8 +21,13 @@ fn print_all(rt: &HostRuntime, given: &Given) -> Result<()> {
     Ok(write_report(&mut output, rules, given.top()?, given.markers.as_slice())?)
 }
 
-/// Writes the full report of a file.
-fn print_full(rt: &HostRuntime, given: &Given, original: &str) -> Result<()> {
+/// Writes the full report of a file, by numbers of markers where there are some.
+fn print_full(
+    rt: &HostRuntime,
+    given: &Given,
+    original: &str,
+    counts: Option<&[usize]>,
+) -> Result<()> {
     let deck = given.deck(rt.alloc())?;
     let notes = given.notes(rt.alloc())?;
     let faults = given.faults(rt.alloc())?;
@@ -31,6 +37,7 @@ fn print_full(rt: &HostRuntime, given: &Given, original: &str) -> Result<()> {
         top: given.top()?,
         rules: deck.rules().as_slice(),
         markers: given.markers.as_slice(),
+        counts,
         limit: given.limit.unwrap_or(usize::MAX),
         notes: notes.as_slice(),
         faults: faults.as_slice(),
@@ -45,8 +52,12 @@ fn main(rt: HostRuntime) -> Result<()> {
         given.take(rt.alloc(), line.as_str())?;
     }
     print_all(&rt, &given)?;
-    match &given.original {
-        Some(original) => print_full(&rt, &given, original.as_str()),
+    let Some(original) = &given.original else {
+        return Ok(());
+    };
+    print_full(&rt, &given, original.as_str(), None)?;
+    match &given.counts {
+        Some(counts) => print_full(&rt, &given, original.as_str(), Some(counts.as_slice())),
         None => Ok(()),
     }
 }
