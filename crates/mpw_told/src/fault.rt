@@ -19,7 +19,7 @@ pub enum FirmFault {
     #[error("error: {0}")]
     Refused(String),
     /// There is no room.
-    #[error("error: out of memory")]
+    #[error("error: out of memory: --summary and --limit hold fewer markers, and --tiles a share of them; or take a larger machine")]
     Memory,
 }
 
