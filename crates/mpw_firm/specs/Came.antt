@@ -19,6 +19,7 @@ use Rattle.mpw_firm.specs.Drawings.{AreFlatOf, IsReadBy, IsReadFrom, IsTopOf}
 use Rattle.mpw_firm.specs.Keys.{IsViewOf}
 use Rattle.mpw_sources.specs.Looks.{IsLookedAt}
 use Rattle.mpw_sources.specs.Notes.{notes_of, rule_notes}
+use Rattle.mpw_outputs.specs.Counted.{capped}
 use Rattle.mpw_outputs.specs.Outputs.{Kept, Grows, in_file, on_output}
 use Rattle.mpw_firm.specs.Ranges.{HasColumnsOf}
 use Rattle.mpw_sources.specs.Sources.{kept_text}
@@ -98,8 +99,8 @@ shown_with notes limit whole = record {
 abbrev pub shown_whole : Option ℕ → Whole → Shown
 shown_whole limit whole = shown_with (rule_notes whole.layout.deck.rules) limit whole
 
--- A deck and a library were checked, their markers are told in all that is wanted, and they are so many. The markers are those of the
--- flat list of the structure, whatever the side of the tiles is.
+-- A deck and a library were checked, their markers are told in all that is wanted, and they are so many, up to 2^64 - 1. The markers are
+-- those of the flat list of the structure, whatever the side of the tiles is.
 pub record IsChecked (options : Options) (choices : Choices) (old new : Option (List Kept))
     (found : ℕ) : Type 0 where
   pub deck : List ℕ
@@ -110,7 +111,7 @@ pub record IsChecked (options : Options) (choices : Choices) (old new : Option (
   pub looked : IsLookedAt options.strict drawn.layout
   pub markers : AreLayoutMarkers drawn.layout book
   pub flat : AreFlatOf deck drawn.top (kept_text read.source) book
-  pub count : found ≡ length book
+  pub count : found ≡ capped (length book)
   pub kept : PutsAll options (shown_by options choices drawn book) old new
 
 -- Some columns of them were, and their part is printed.

@@ -24,6 +24,7 @@ faulty_content file top rules faults = record {
   top = top;
   rules = rules;
   markers = [];
+  counts = None;
   limit = 2 ^ 64 - 1;
   notes = unchecked ∷ [];
   faults = faults;

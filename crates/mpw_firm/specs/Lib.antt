@@ -3,6 +3,7 @@ pub mod Came
 pub mod Counts
 pub mod Drawings
 pub mod Faulty
+pub mod Held
 pub mod Keys
 pub mod Ranges
 pub mod Shown

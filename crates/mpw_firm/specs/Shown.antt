@@ -1,11 +1,15 @@
 -- What is told of a layout's markers: their listing and their report, of the first of each rule where there is a limit; or their numbers by rule.
-use Rattle.std.specs.Prelude.{ℕ, ◌-◌, ◌^◌, Bool, true, false, List, [], map, Option, None, Some, option_map}
-use Rattle.mpw_outputs.specs.Counted.{summary_text}
+use Rattle.std.specs.Prelude.{ℕ, ◌-◌, ◌^◌, Bool, true, false, List, [], ◌∷◌, length, map, Option, None, Some, option_map}
+use Rattle.mpw_outputs.specs.Counted.{counts_text, rule_counts, summary_text}
 use Rattle.mpw_outputs.specs.Listed.{listed_text}
+use Rattle.mpw_outputs.specs.Outputs.{Kept, in_file}
 use Rattle.mpw_firm.specs.declared.checked.Checked.{Checked}
+use Rattle.mpw_firm.specs.declared.found.Held.{Held}
+use Rattle.mpw_firm.specs.declared.found.Held.TheVariants as held
 use Rattle.mpw_limits.specs.Limits.{Limited, limited_text}
 use Rattle.mpw_markers.specs.declared.marker.Marker.{Marker}
 use Rattle.mpw_report.specs.Content.{Content, Noted, note_of}
+use Rattle.mpw_report.specs.Report.{full_text}
 use Rattle.mpw_tiles.specs.Snapshots.{Snapshot}
 
 -- A limit as a number: without one the greatest.
@@ -24,12 +28,13 @@ pub record Shown : Type 0 where
   pub notes : List Noted
   pub summary : Bool
 
-abbrev pub shown_of : Checked → Shown
-shown_of c = record {
+-- What is shown of what was checked, where these are all its markers.
+abbrev pub shown_of : Checked → List Marker → Shown
+shown_of c book = record {
   original = option_map (λ file. file.now) c.original;
   top = c.top.now;
   layout = c.layout.now;
-  book = c.book.now;
+  book = book;
   limit = c.limit;
   notes = map note_of c.notes.now;
   summary = c.summary;
@@ -52,14 +57,49 @@ printed_text s false = listing_by s s.limit
 abbrev pub listing_text : Shown → List ℕ
 listing_text s = printed_text s s.summary
 
--- What the report tells: all markers, of which the first of each rule have an item.
-abbrev pub content_of : Shown → Content
-content_of s = record {
+-- What the report tells with these numbers: the first markers of each rule have an item.
+abbrev pub content_with : Shown → List ℕ → Content
+content_with s counts = record {
   original = s.original;
   top = s.top;
   rules = s.layout.deck.rules;
   markers = s.book;
+  counts = Some counts;
   limit = most_of s.limit;
   notes = s.notes;
   faults = [];
 }
+
+-- What the report tells: all markers, with how many each rule has.
+abbrev pub content_of : Shown → Content
+content_of s = content_with s (rule_counts (length s.layout.deck.rules) s.book)
+
+-- ---- the same by the markers that are held
+
+abbrev pub markers_of : Held → List Marker
+markers_of (held.All book) = book
+markers_of (held.First first) = first.items
+
+-- What is shown, as if these were all.
+abbrev pub held_shown : Checked → Shown
+held_shown c = shown_of c (markers_of c.found.now.held)
+
+abbrev pub held_limited : Checked → Limited
+held_limited c = limited_of (held_shown c) (most_of c.limit)
+
+abbrev pub held_content : Checked → Content
+held_content c = content_with (held_shown c) c.found.now.counts.items
+
+-- All are listed as a desk lists them, where there is no limit.
+abbrev pub held_listing : Checked → Option ℕ → Held → List ℕ
+held_listing c None (held.All book) = listed_text c.layout.now book
+held_listing c None (held.First first) = limited_text (held_limited c)
+held_listing c (Some limit) h = limited_text (held_limited c)
+
+abbrev pub held_printed : Checked → (summary : Bool) → List ℕ
+held_printed c true = counts_text c.layout.now.deck.rules c.found.now.counts.items c.found.now.all
+held_printed c false = held_listing c c.limit c.found.now.held
+
+abbrev pub held_report : Option (List ℕ) → Checked → List Kept
+held_report None c = []
+held_report (Some file) c = in_file file (full_text (held_content c)) ∷ []

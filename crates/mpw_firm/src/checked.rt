@@ -3,20 +3,20 @@
 ghost use Rattle.std.specs.Prelude.{◌≡◌};
 ghost use Rattle.mpw_firm.specs.Shown.{most_of};
 
+use crate::found::Findings;
 use mpw_geom::Name;
-use mpw_markers::Book;
 use mpw_report::Note;
 use mpw_tiles::Snapshot;
 
-/// A layout that was checked: the structure's name, the layout, and its markers.
+/// A layout that was checked: the structure's name, the layout, and what was found.
 #[derive(Clone, Copy, Drop)]
 pub struct Checked<'a> {
     /// The structure.
     pub top: &'a Name,
     /// The structure under the deck, as it was checked.
     pub layout: &'a Snapshot,
-    /// Its markers.
-    pub book: &'a Book,
+    /// Its markers, as many as are held, and how many it has.
+    pub found: &'a Findings,
     /// The name of the layout's file, where it is known.
     pub original: Option<&'a str>,
     /// How many markers of each rule are listed, written and drawn at most.

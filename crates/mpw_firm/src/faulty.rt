@@ -64,6 +64,7 @@ fn put_faults<O: Outputs>(
         top: refused.top,
         rules: refused.rules,
         markers,
+        counts: None,
         limit: usize::MAX,
         notes: &notes,
         faults: faults.as_slice(),

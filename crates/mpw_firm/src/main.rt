@@ -17,6 +17,7 @@ mod blank;
 mod checked;
 mod drawing;
 mod faulty;
+mod found;
 mod key;
 mod laps;
 mod laws;

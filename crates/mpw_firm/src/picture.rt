@@ -7,7 +7,7 @@ ghost use Rattle.mpw_picture.specs.Text.{picture_text};
 ghost use Rattle.mpw_picture.specs.declared.picture.Picture.{Picture};
 ghost use Rattle.mpw_outputs.specs.Outputs.{in_file, Grows};
 ghost use Rattle.mpw_firm.specs.Keys.{IsOfKey, IsRound, IsUnknown, IsViewOf, unknown_text};
-ghost use Rattle.mpw_firm.specs.Shown.{most_of};
+ghost use Rattle.mpw_firm.specs.Shown.{markers_of, most_of};
 ghost use Rattle.mpw_told.specs.Told.{CannotBeWritten, Misuses};
 
 use crate::checked::Checked;
@@ -31,11 +31,11 @@ fn unknown_marker(alloc: Global, key: &str) -> FirmFault
 /// The view round the marker of that key.
 fn view_round(alloc: Global, checked: &Checked<'_>, key: &str) -> Result<View, FirmFault>
     ensures plane { IfOk result (λ view. IsBoxInPlane view.window) }
-    ensures round { IfOk result (IsRound checked.now.layout.now.deck.rules key.now checked.now.book.now (most_of checked.now.limit)) }
-    ensures refused { IfErr result (IsUnknown checked.now.layout.now.deck.rules key.now checked.now.book.now) }
+    ensures round { IfOk result (IsRound checked.now.layout.now.deck.rules key.now (markers_of checked.now.found.now.held) (most_of checked.now.limit)) }
+    ensures refused { IfErr result (IsUnknown checked.now.layout.now.deck.rules key.now (markers_of checked.now.found.now.held)) }
 {
     let rules = checked.layout.deck().rules().as_slice();
-    match find_marker(alloc, rules, checked.book.as_slice(), key) {
+    match find_marker(alloc, rules, checked.found.markers(), key) {
         Ok(Some(marker)) => Ok(View {
             window: marker_window(rules, marker),
             wanted: Some(marker.key()),
@@ -49,7 +49,7 @@ fn view_round(alloc: Global, checked: &Checked<'_>, key: &str) -> Result<View, F
 /// The view of all.
 fn whole_view(checked: &Checked<'_>) -> View
     ensures plane { IsBoxInPlane result.window }
-    ensures view { IsViewOf None checked.now.layout.now checked.now.book.now (most_of checked.now.limit) result }
+    ensures view { IsViewOf None checked.now.layout.now (markers_of checked.now.found.now.held) (most_of checked.now.limit) result }
 {
     View {
         window: whole_window(checked.layout),
@@ -64,8 +64,8 @@ fn whole_view(checked: &Checked<'_>) -> View
 /// `Usage` where no marker has the key, and `Memory`.
 pub fn view_of(alloc: Global, wanted: &Wanted, checked: &Checked<'_>) -> Result<View, FirmFault>
     ensures plane { IfOk result (λ view. IsBoxInPlane view.window) }
-    ensures view { IfOk result (IsViewOf (option_map string_bytes wanted.now.key) checked.now.layout.now checked.now.book.now (most_of checked.now.limit)) }
-    ensures refused { IfErr result (IsOfKey (option_map string_bytes wanted.now.key) checked.now.layout.now checked.now.book.now) }
+    ensures view { IfOk result (IsViewOf (option_map string_bytes wanted.now.key) checked.now.layout.now (markers_of checked.now.found.now.held) (most_of checked.now.limit)) }
+    ensures refused { IfErr result (IsOfKey (option_map string_bytes wanted.now.key) checked.now.layout.now (markers_of checked.now.found.now.held)) }
 {
     match &wanted.key {
         Some(key) => view_round(alloc, checked, key.as_str()),
@@ -85,10 +85,10 @@ pub fn picture<O: Outputs>(
     checked: &Checked<'_>,
 ) -> Result<(), FirmFault>
     requires { IsBoxInPlane view.window }
-    ensures kept { IfOk result (λ _. (drawn : Picture) × IsDrawn checked.now.layout.now checked.now.book.now view drawn × Grows (O.kept outputs.old) (O.kept outputs.new) (in_file file.now (picture_text checked.now.layout.now.deck.rules checked.now.top.now drawn) ∷ [])) }
+    ensures kept { IfOk result (λ _. (drawn : Picture) × IsDrawn checked.now.layout.now (markers_of checked.now.found.now.held) view drawn × Grows (O.kept outputs.old) (O.kept outputs.new) (in_file file.now (picture_text checked.now.layout.now.deck.rules checked.now.top.now drawn) ∷ [])) }
     ensures refused { IfErr result (CannotBeWritten file.now) }
 {
-    let drawn = draw_view(alloc, checked.layout, checked.book.as_slice(), view)?;
+    let drawn = draw_view(alloc, checked.layout, checked.found.markers(), view)?;
     let text = Text::Picture(checked.layout, checked.top, &drawn);
     put(outputs, alloc, Place::File(file), &text)
 }

@@ -7,10 +7,7 @@ use crate::checked::Checked;
 use crate::line::Line;
 use crate::memory::peak;
 use mpw_check::checked_tiles;
-use mpw_deck::Rules;
 use mpw_keys::ColumnKeys;
-use mpw_markers::Marker;
-use mpw_outputs::rule_counts;
 use mpw_parts::Part;
 use mpw_tiles::Snapshot;
 use std::io;
@@ -19,11 +16,10 @@ use std::io;
 const MAX_ON_DESK: u64 = 1 << 20;
 
 /// Tells how many markers there are, and how many of each rule.
-pub fn tell_markers(rt: &HostRuntime, rules: &Rules, markers: &[Marker]) -> io::Result<()> {
-    let rules = rules.as_slice();
-    let counts = rule_counts(rt.alloc(), rules.len(), markers)?;
-    eprint!(rt; "{} markers", markers.len())?;
-    for (rule, count) in rules.iter().zip(counts.iter()) {
+pub fn tell_markers(rt: &HostRuntime, checked: &Checked<'_>) -> io::Result<()> {
+    let rules = checked.layout.deck().rules().as_slice();
+    eprint!(rt; "{} markers", checked.found.all)?;
+    for (rule, count) in rules.iter().zip(checked.found.counts.iter()) {
         eprint!(rt; ", {} {count}", rule.name.as_str())?;
     }
     Ok(())
@@ -54,7 +50,7 @@ pub fn tell_summary(rt: &HostRuntime, checked: &Checked<'_>, line: &Line<'_>) ->
     let shapes = layout.shelf().count(0);
     eprint!(rt; "{shapes} shapes, ")?;
     tell_way(rt, layout)?;
-    tell_markers(rt, layout.deck().rules(), checked.book.as_slice())?;
+    tell_markers(rt, checked)?;
     tell_taken(rt, line.taken())?;
     if shapes > MAX_ON_DESK {
         eprintln!(rt; "note: more than 1048576 shapes: the desk takes no more")?;
@@ -71,8 +67,7 @@ pub fn tell_limit(rt: &HostRuntime, checked: &Checked<'_>) -> io::Result<()> {
         return Ok(());
     };
     let (rules, most) = (checked.layout.deck().rules().as_slice(), limit as usize);
-    let counts = rule_counts(rt.alloc(), rules.len(), checked.book.as_slice())?;
-    for (rule, count) in rules.iter().zip(counts.iter()) {
+    for (rule, count) in rules.iter().zip(checked.found.counts.iter()) {
         if *count > most {
             let left = *count - most;
             eprintln!(rt;

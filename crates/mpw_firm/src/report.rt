@@ -1,65 +1,69 @@
 //! The listing and the report of a check. KLayout's marker browser opens the latter.
-ghost use Rattle.std.specs.Prelude.{◌≡◌, ◌∷◌, [], option_map, IfOk, IfErr};
+ghost use Rattle.std.specs.Prelude.{◌≡◌, ◌∷◌, ◌⊎◌, [], List, true, false, option_map, IfOk, IfErr};
 ghost use Rattle.std.specs.String.{string_bytes};
-ghost use Rattle.mpw_outputs.specs.Outputs.{on_output, Grows, IsUnwritten};
-ghost use Rattle.mpw_firm.specs.Came.{report_texts};
+ghost use Rattle.mpw_firm.specs.Came.{listing_texts};
+ghost use Rattle.mpw_firm.specs.Held.{enough_listed, IsOfBook};
+ghost use Rattle.mpw_firm.specs.Shown.{held_content, held_limited, held_printed, held_report, shown_of};
 ghost use Rattle.mpw_limits.specs.Limits as listing;
+ghost use Rattle.mpw_markers.specs.declared.marker.Marker.{Marker};
+ghost use Rattle.mpw_outputs.specs.Outputs.{on_output, Grows, IsUnwritten};
 ghost use Rattle.mpw_report.specs.Content as told;
-ghost use Rattle.mpw_firm.specs.Shown.{content_of, limited_of, listing_by, listing_text, shown_of};
-ghost use Rattle.mpw_outputs.specs.Counted.{summary_text};
 ghost use Rattle.mpw_told.specs.Told.{Fails, output_text};
 
 use crate::checked::Checked;
-use mpw_limits::Limited;
-use mpw_outputs::{Outputs, Place, Text, put};
-use mpw_report::{Fault, Report};
+use crate::found::Held;
+use mpw_limits::{Limited, first_markers_are_listed};
+use mpw_outputs::{Counts, Outputs, Place, Text, put};
+use mpw_report::{Fault, Report, first_markers_have_the_items};
 use mpw_told::FirmFault;
 use std::alloc::Global;
 
 /// The first markers of each rule.
-fn limited<'a>(checked: &Checked<'a>, limit: u32) -> Limited<'a>
-    ensures { listing.limited_of result ≡ limited_of (shown_of checked.now) limit }
+fn limited<'a>(checked: &Checked<'a>) -> Limited<'a>
+    ensures { listing.limited_of result ≡ held_limited checked.now }
 {
+    let limit = checked.most();
     Limited {
         top: checked.top,
         rules: checked.layout.deck().rules().as_slice(),
-        markers: checked.book.as_slice(),
-        limit: limit as usize,
+        markers: checked.found.markers(),
+        limit,
     }
 }
 
 /// The report of what was checked.
 fn report_of<'a>(checked: &Checked<'a>) -> Report<'a>
-    ensures { told.content_of result ≡ content_of (shown_of checked.now) }
+    ensures { told.content_of result ≡ held_content checked.now }
 {
     let faults: &'a [Fault<'a>] = &[];
     Report {
         original: checked.original,
         top: checked.top,
         rules: checked.layout.deck().rules().as_slice(),
-        markers: checked.book.as_slice(),
+        markers: checked.found.markers(),
+        counts: Some(checked.found.counts.as_slice()),
         limit: checked.most(),
         notes: checked.notes,
         faults,
     }
 }
 
-/// Prints the markers of a layout: all, or the first of each rule where there is a limit.
+/// Prints the markers of a layout: all, or the first of each rule where there is a limit or no more are held.
 fn list_markers<O: Outputs>(
     outputs: &mut O,
     alloc: Global,
     checked: &Checked<'_>,
 ) -> Result<(), FirmFault>
-    ensures kept { IfOk result (λ _. Grows (O.kept outputs.old) (O.kept outputs.new) (on_output (listing_by (shown_of checked.now) checked.now.limit) ∷ [])) }
+    ensures kept { IfOk result (λ _. Grows (O.kept outputs.old) (O.kept outputs.new) (on_output (held_printed checked.now false) ∷ [])) }
     ensures refused { IfErr result (Fails output_text) }
 {
-    match checked.limit {
-        None => {
-            let text = Text::Listing(checked.layout, checked.book);
+    match (checked.limit, &checked.found.held) {
+        (None, Held::All(book)) => {
+            let text = Text::Listing(checked.layout, book);
             put(outputs, alloc, Place::Standard, &text)
         }
-        Some(limit) => {
-            let listing = limited(checked, limit);
+        (None, Held::First(_)) | (Some(_), _) => {
+            let listing = limited(checked);
             put(outputs, alloc, Place::Standard, &Text::Limited(&listing))
         }
     }
@@ -71,25 +75,21 @@ fn list_counts<O: Outputs>(
     alloc: Global,
     checked: &Checked<'_>,
 ) -> Result<(), FirmFault>
-    ensures kept { IfOk result (λ _. Grows (O.kept outputs.old) (O.kept outputs.new) (on_output (summary_text checked.now.layout.now.deck.rules checked.now.book.now) ∷ [])) }
+    ensures kept { IfOk result (λ _. Grows (O.kept outputs.old) (O.kept outputs.new) (on_output (held_printed checked.now true) ∷ [])) }
     ensures refused { IfErr result (Fails output_text) }
 {
     let rules = checked.layout.deck().rules().as_slice();
-    let text = Text::Summary(rules, checked.book.as_slice());
+    let counts = Counts {
+        rules: checked.found.counts.as_slice(),
+        all: checked.found.all,
+    };
+    let text = Text::Counts(rules, &counts);
     put(outputs, alloc, Place::Standard, &text)
 }
 
-/// Prints the markers of a layout on the standard output: all, or the first of each rule where there is a limit; or how many each rule has,
-/// where that is asked for.
-///
-/// # Errors
-/// `Device` where that failed, and `Memory`.
-pub fn list<O: Outputs>(
-    outputs: &mut O,
-    alloc: Global,
-    checked: &Checked<'_>,
-) -> Result<(), FirmFault>
-    ensures kept { IfOk result (λ _. Grows (O.kept outputs.old) (O.kept outputs.new) (on_output (listing_text (shown_of checked.now)) ∷ [])) }
+/// Prints the markers that are held; or how many each rule has, where that is asked for.
+fn list<O: Outputs>(outputs: &mut O, alloc: Global, checked: &Checked<'_>) -> Result<(), FirmFault>
+    ensures kept { IfOk result (λ _. Grows (O.kept outputs.old) (O.kept outputs.new) (on_output (held_printed checked.now checked.now.summary) ∷ [])) }
     ensures refused { IfErr result (Fails output_text) }
 {
     if checked.summary {
@@ -100,16 +100,13 @@ pub fn list<O: Outputs>(
 }
 
 /// Writes the report that the command line asks for; nothing where it asks for none.
-///
-/// # Errors
-/// `Device` where the file can't be written, and `Memory`.
-pub fn report<O: Outputs>(
+fn report<O: Outputs>(
     outputs: &mut O,
     alloc: Global,
     file: &Option<String>,
     checked: &Checked<'_>,
 ) -> Result<(), FirmFault>
-    ensures kept { IfOk result (λ _. Grows (O.kept outputs.old) (O.kept outputs.new) (report_texts (option_map string_bytes file.now) (shown_of checked.now))) }
+    ensures kept { IfOk result (λ _. Grows (O.kept outputs.old) (O.kept outputs.new) (held_report (option_map string_bytes file.now) checked.now)) }
     ensures refused { IfErr result (IsUnwritten (option_map string_bytes file.now)) }
 {
     match file {
@@ -120,4 +117,26 @@ pub fn report<O: Outputs>(
         }
         None => Ok(()),
     }
+}
+
+/// Prints the markers of a layout on the standard output: all, or the first of each rule where there is a limit; or how many each rule has,
+/// where that is asked for. Then it writes the report into a file, where one is named. Where what is held is enough for both, they are
+/// those of all markers.
+///
+/// # Errors
+/// `Device` where that failed or the file can't be written, and `Memory`.
+pub fn write_listed<O: Outputs>(
+    outputs: &mut O,
+    alloc: Global,
+    file: &Option<String>,
+    checked: &Checked<'_>,
+) -> Result<(), FirmFault>
+    ensures kept { (book : List Marker) → IsOfBook (enough_listed (option_map string_bytes file.now) checked.now.summary checked.now.limit) checked.now book
+        → IfOk result (λ _. Grows (O.kept outputs.old) (O.kept outputs.new) (listing_texts (option_map string_bytes file.now) (shown_of checked.now book))) }
+    ensures refused { IfErr result (λ fault. Fails output_text fault ⊎ IsUnwritten (option_map string_bytes file.now) fault) }
+{
+    first_markers_are_listed();
+    first_markers_have_the_items();
+    list(outputs, alloc, checked)?;
+    report(outputs, alloc, file, checked)
 }

@@ -1,5 +1,5 @@
 //! Parts stitched, and the markers of the whole.
-ghost use Rattle.std.specs.Prelude.{◌≡◌, List, Some, IfOk, IfErr, length, map, option_map};
+ghost use Rattle.std.specs.Prelude.{◌≡◌, List, Some, IfOk, IfErr, map, option_map};
 ghost use Rattle.std.specs.String.{string_bytes};
 ghost use Rattle.mpw_report.specs.Content.{note_of};
 ghost use Rattle.mpw_parts.specs.Parts.{Found};
@@ -10,8 +10,9 @@ ghost use Rattle.mpw_firm.specs.Stitched.{IsOfFile, IsWholeOf};
 ghost use Rattle.mpw_firm.specs.Uses.{stitch_inputs, stitch_outputs};
 
 use crate::checked::Checked;
+use crate::found::Findings;
 use crate::progress::{tell_limit, tell_markers};
-use crate::report::{list, report};
+use crate::report::write_listed;
 use crate::whole::{Whole, whole_of};
 use mpw_asked::StitchOptions;
 use mpw_outputs::Outputs;
@@ -53,40 +54,17 @@ fn whole_in(rt: &HostRuntime, names: &[String]) -> Result<Whole, FirmFault>
     whole_of(alloc, files.as_slice(), parts)
 }
 
-/// Tells of how many parts the markers were stitched, and how many these are.
-fn tell_stitched(rt: &HostRuntime, parts: usize, whole: &Whole) -> io::Result<()> {
-    let columns = whole.columns;
-    eprint!(rt; "{parts} parts, {columns} columns, ")?;
-    tell_markers(rt, whole.layout.deck().rules(), whole.book.as_slice())?;
-    eprintln!(rt; "")
-}
-
-/// Prints the markers of a whole, writes its report, and tells how many markers there are.
-fn write_whole<'a, O: Outputs>(
+/// Tells of how many parts the markers were stitched, how many these are, and of which rules some are left out.
+fn tell_stitched(
     rt: &HostRuntime,
-    outputs: &mut O,
-    options: &StitchOptions,
-    whole: &'a Whole,
-    notes: &'a [Note<'a>],
-) -> Result<usize, FirmFault>
-    ensures count { IfOk result (λ found. found ≡ length whole.entry.now.book) }
-    ensures kept { IfOk result (λ _. Grows (O.kept outputs.old) (O.kept outputs.new)
-        (listing_texts (option_map string_bytes options.now.report) (shown_with (map note_of notes.entry.now) options.now.limit whole.entry.now))) }
-{
-    let alloc = rt.alloc();
-    let checked = Checked {
-        top: &whole.top,
-        layout: &whole.layout,
-        book: &whole.book,
-        original: None,
-        limit: options.limit,
-        notes,
-        summary: false,
-    };
-    let _ = tell_limit(rt, &checked);
-    list(outputs, alloc, &checked)?;
-    report(outputs, alloc, &options.report, &checked)?;
-    Ok(whole.book.len())
+    parts: usize,
+    columns: u32,
+    checked: &Checked<'_>,
+) -> io::Result<()> {
+    eprint!(rt; "{parts} parts, {columns} columns, ")?;
+    tell_markers(rt, checked)?;
+    eprintln!(rt; "")?;
+    tell_limit(rt, checked)
 }
 
 /// Stitches the parts that the command line names, prints the markers, writes the report and tells how many markers there are.
@@ -102,11 +80,26 @@ pub fn stitch<O: Outputs>(
     ensures { IfOk result (IsStitched options.now (O.kept outputs.old) (O.kept outputs.new)) }
 {
     let alloc = rt.alloc();
-    let whole = whole_in(rt, options.files.as_slice())?;
-    let _ = tell_stitched(rt, options.files.len(), &whole);
-    let rules = whole.layout.deck().rules().as_slice();
+    let Whole {
+        top,
+        columns,
+        layout,
+        book,
+    } = whole_in(rt, options.files.as_slice())?;
+    let rules = layout.deck().rules().as_slice();
     let notes = rule_notes(alloc, rules)?;
-    let told = notes.as_slice();
-    let found = write_whole(rt, outputs, options, &whole, told)?;
-    Ok(found)
+    let many = book.len();
+    let found = Findings::of_book(alloc, rules, book)?;
+    let checked = Checked {
+        top: &top,
+        layout: &layout,
+        found: &found,
+        original: None,
+        limit: options.limit,
+        notes: notes.as_slice(),
+        summary: false,
+    };
+    let _ = tell_stitched(rt, options.files.len(), columns, &checked);
+    write_listed(outputs, alloc, &options.report, &checked)?;
+    Ok(many)
 }

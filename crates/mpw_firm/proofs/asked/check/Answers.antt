@@ -4,6 +4,7 @@ use Rattle.mpw_outputs.specs.Outputs.{Kept}
 use Rattle.mpw_report.specs.Content.{Noted, note_of}
 use Rattle.mpw_tiles.specs.Snapshots.{Snapshot}
 use Rattle.mpw_firm.specs.Came.{PutsAll, shown_by}
+use Rattle.mpw_firm.specs.Held.{IsFoundOf}
 use Rattle.mpw_firm.proofs.Flat.{flat_of}
 use Rattle.mpw_firm.proofs.asked.check.Goals as goal
 
@@ -15,12 +16,15 @@ pub returns : goal.returns
 returns g c =
     let read = c.in_ok-drawn.ensures.read.2 in
     let drawn = c.in_ok-drawn.drawn in
-    let book = c.in_ok-book.field-0 in
+    let is = c.in_ok-found.ensures in
+    let book = is.0 in
     let choices = c.args.choices.now in
     let options = c.args.options.now in
     let begun = g.O.Outputs.kept c.drawn_by.new.outputs in
     let new = g.O.Outputs.kept c.write_all.new.outputs in
     let told = map note_of c.as_slice-told.result.now in
+    let enough = subst (λ (e : Option ℕ). IsFoundOf e (length drawn.layout.deck.rules)
+    c.in_ok-found.field-0 book) c.enough_for.ensures is.2 in
     let written = subst (λ (file : List ℕ). PutsAll options
     (record {
       original = Some file;
@@ -30,7 +34,7 @@ returns g c =
       limit = choices.limit;
       notes = told;
       summary = choices.summary;
-    }) begun new) c.as_str-file.ensures.value c.in_ok-write_all.ensures in
+    }) begun new) c.as_str-file.ensures.value (c.in_ok-write_all.ensures book enough) in
     let noted = subst (λ (notes : List Noted). PutsAll options
     (record {
       original = Some (string_bytes options.file);
@@ -49,10 +53,10 @@ returns g c =
       book = book;
       read = read;
       looked = c.in_ok-look.ensures.looked;
-      markers = c.in_ok-book.ensures;
+      markers = is.1;
       flat = flat_of c.markers_are_flat.ensures options.top choices c.in_ok-drawn.ensures.read.0
-          c.in_ok-drawn.ensures.read.1 drawn book read c.in_ok-book.ensures;
-      count = c.len.ensures;
+          c.in_ok-drawn.ensures.read.1 drawn book read is.1;
+      count = is.2.all;
       kept = subst (λ (old : Option (List Kept)). PutsAll options
           (shown_by options choices drawn book) old new) c.in_ok-drawn.ensures.kept noted;
     }

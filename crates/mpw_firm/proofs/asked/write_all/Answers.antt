@@ -1,15 +1,37 @@
+use Rattle.std.proofs.Common.{List, length, option_map, subst}
 use Rattle.std.proofs.lemmas.Result.{IfOk-weaker}
+use Rattle.std.specs.String.{string_bytes}
+use Rattle.mpw_markers.specs.declared.marker.Marker.{Marker}
 use Rattle.mpw_outputs.proofs.Growth.{grows_named}
+use Rattle.mpw_picture.specs.Drawn.{IsDrawn}
+use Rattle.mpw_firm.specs.Held.{enough_listed}
+use Rattle.mpw_firm.specs.Keys.{IsViewOf}
+use Rattle.mpw_firm.specs.Shown.{most_of}
+use Rattle.mpw_firm.proofs.HeldTexts.{all_for, all_of, all_wanted}
 use Rattle.mpw_firm.proofs.asked.write_all.Goals as goal
 
 pub returns : goal.returns
-returns g c =
+returns g c = λ book is.
+    let checked = c.args.checked.now in
+    let report = option_map string_bytes c.args.options.now.report in
+    let rules = length checked.layout.now.deck.rules in
+    let found = checked.found.now in
+    let all =
+    all_wanted _ _ report checked.summary checked.limit rules found book c.in-Some.is is in
+    let same = all_of rules found book all in
+    let view = c.in_ok-view.view in
+    let enough =
+    all_for (enough_listed report checked.summary checked.limit) rules found book all in
+    let listed = c.in_ok-write_listed.ensures.kept book enough in
+    let seen = subst (λ (ms : List Marker). IsViewOf
+    (option_map string_bytes c.in-Some.wanted.key) checked.layout.now ms (most_of checked.limit)
+    view) same c.in_ok-view.ensures.view in
     IfOk-weaker c.picture.result _ _
     (λ x p. rw c.in-Some.is (
-      c.in_ok-view.view,
+      view,
       p.0,
-      c.in_ok-view.ensures.view,
-      p.1,
-      grows_named _ _ _ _ _ _ _ c.as_str-file.ensures.value c.in_ok-write_listed.ensures.kept p.2,
+      seen,
+      subst (λ (ms : List Marker). IsDrawn checked.layout.now ms view p.0) same p.1,
+      grows_named _ _ _ _ _ _ _ c.as_str-file.ensures.value listed p.2,
     ))
     c.picture.ensures.kept
