@@ -20,7 +20,8 @@ The kinds are:
 
 Each layout is checked with four rules by ours on one thread and on all, and by KLayout flat, tiled and deep. Ours
 reads, checks and lists; its times are the whole process's, that of processors, and that of its checks alone, by the clock, as it tells it. KLayout's is that of its checks, without reading, and what
-it is a multiple of is ours of the checks on all threads. Its `width` is shielded, its
+it is a multiple of is ours of the checks on all threads. The memory is that of the process on all threads, beside what it tells that is reckoned for it,
+and that of a check with --summary. Its `width` is shielded, its
 other checks aren't, as ours. Counts are width, space, separation, enclosing; those of KLayout's tiled mode count a pair twice that lies across a
 seam.
 """
@@ -48,7 +49,7 @@ DECK = 'tile 65536\nwidth width 1/0 56\nspace space 1/0 51\nseparation separatio
 MOST_SECONDS = 600
 SIDE = 65536
 MODES = ('flat', 'tiled', 'deep')
-HEADS = ['Layout', 'File, MB', 'Shapes', 'One thread', 'All threads', 'MB', 'Markers', 'Flat', 'Tiled, all threads', 'Deep']
+HEADS = ['Layout', 'File, MB', 'Shapes', 'One thread', 'All threads', 'MB of those reckoned', 'MB for the numbers alone', 'Markers', 'Flat', 'Tiled, all threads', 'Deep']
 
 
 def reference(name, x, y, flags=0, angle=None):
@@ -236,17 +237,20 @@ def timed(command, limit=MOST_SECONDS):
         return os.waitstatus_to_exitcode(status), told.read(), taken, usage.ru_utime + usage.ru_stime, usage.ru_maxrss / 1024
 
 
-def ours(program, path, deck, folder, processors):
-    """The shapes, the counts, the times as they are told, the seconds of the checks alone and the megabytes of a check on so many processors."""
+def ours(program, path, deck, folder, processors, option=''):
+    """The shapes, the counts, the times as they are told, the seconds of the checks alone, the megabytes of a check on so many processors and those reckoned."""
     listing = os.path.join(folder, 'listing')
-    command = f'taskset -c {processors} {program} check --deck {deck} --top TOP {path} > {listing}'
+    command = f'taskset -c {processors} {program} check --deck {deck} --top TOP {option} {path} > {listing}'
     found = timed(['sh', '-c', command])
     if not found or found[0] not in (0, 1):
         sys.exit(f'{command}: {found}')
     summary = re.search(r'(\d+) shapes, .*?(\d+) markers, width (\d+), space (\d+), separation (\d+), enclosing (\d+)', found[1])
     parts = re.search(r'times: read \d+ ms, \w+ (\d+) ms, check (\d+) ms, \w+ (\d+) ms', found[1])
     checks = sum(map(int, parts.groups())) / 1000
-    return int(summary[1]), [int(it) for it in summary.groups()[2:]], f'{found[2]:.2f} s ({found[3]:.2f}), {checks:.2f}', checks, found[4]
+    reckoned = int(re.search(r'MB of (\d+) MB reckoned', found[1])[1])
+    if found[4] > reckoned:
+        print(f'{command}: {found[4]:.0f} MB, and {reckoned} reckoned', file=sys.stderr)
+    return int(summary[1]), [int(it) for it in summary.groups()[2:]], f'{found[2]:.2f} s ({found[3]:.2f}), {checks:.2f}', checks, found[4], reckoned
 
 
 def theirs(path, mode, threads, limit):
@@ -274,11 +278,12 @@ def row(program, kind, n, folder, limit, modes):
     with open(deck, 'w', encoding='ascii') as file:
         file.write(DECK)
     processors = len(os.sched_getaffinity(0))
-    shapes, counts, one, _, _ = ours(program, path, deck, folder, '0')
-    _, again, many, least, megabytes = ours(program, path, deck, folder, f'0-{processors - 1}')
-    if counts != again:
-        sys.exit(f'{kind} {n}: {counts} on one thread, {again} on all')
-    cells = [f'{kind} {n}', f'{os.path.getsize(path) / 1e6:.0f}', shapes, one, many, f'{megabytes:.0f}', ' '.join(map(str, counts))]
+    shapes, counts, one, _, _, _ = ours(program, path, deck, folder, '0')
+    _, again, many, least, megabytes, reckoned = ours(program, path, deck, folder, f'0-{processors - 1}')
+    _, alone, _, _, numbers, _ = ours(program, path, deck, folder, f'0-{processors - 1}', '--summary')
+    if counts != again or counts != alone:
+        sys.exit(f'{kind} {n}: {counts} on one thread, {again} on all, {alone} with --summary')
+    cells = [f'{kind} {n}', f'{os.path.getsize(path) / 1e6:.0f}', shapes, one, many, f'{megabytes:.0f} of {reckoned}', f'{numbers:.0f}', ' '.join(map(str, counts))]
     if shutil.which('klayout'):
         cells += [cell(theirs(path, mode, 1 if mode == 'flat' else processors, limit), counts, least) if mode in modes else '-' for mode in MODES]
     return cells

@@ -2,6 +2,7 @@
 ghost use Rattle.std.specs.Prelude.{◌≡◌, ◌<◌, ◌≤◌, ◌+◌, ◌-◌, ◌*◌, ◌/◌};
 
 use crate::laps::{Lap, Laps};
+use crate::memory::{has_room, peak};
 use mpw_check::Progress;
 use mpw_tiles::Snapshot;
 use std::io::{self, IsTerminal};
@@ -19,6 +20,8 @@ pub struct Line<'a> {
     by_columns: bool,
     /// When the first of them was begun.
     begun: Option<Instant>,
+    /// The greatest memory that the process had when the library was read, in MB.
+    read: Option<u64>,
     laps: Laps<'a>,
 }
 
@@ -41,6 +44,7 @@ impl<'a> Line<'a> {
             is_open: false,
             by_columns: false,
             begun: None,
+            read: None,
             laps: Laps::new(rt),
         }
     }
@@ -48,6 +52,7 @@ impl<'a> Line<'a> {
     /// Tells what was read, which is checked by columns or by tiles, and that this part has ended.
     pub fn tell_read(&mut self, snapshot: &Snapshot, by_columns: bool) {
         self.laps.end(Lap::Read);
+        self.read = peak(self.rt);
         self.by_columns = by_columns;
         if self.is_shown {
             let shapes = snapshot.shelf().count(0);
@@ -107,6 +112,11 @@ impl<'a> Line<'a> {
         self.is_open = false;
     }
 
+    /// The greatest memory that the process had when the library was read, in MB of 2^20 bytes, where the system tells it.
+    pub fn read(&self) -> Option<u64> {
+        self.read
+    }
+
     /// The milliseconds since the check began, if the clock can be read.
     pub fn taken(&self) -> Option<u64> {
         self.laps.all()
@@ -131,5 +141,9 @@ impl Progress for Line<'_> {
         if 0 < done && done == total {
             self.laps.end(Lap::Check);
         }
+    }
+
+    fn has_room(&mut self, markers: usize) -> bool {
+        has_room(self.rt, markers)
     }
 }

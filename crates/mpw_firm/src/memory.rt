@@ -1,11 +1,29 @@
-//! How much memory the process took, where the system tells it.
+//! How much memory the process took, where the system tells it, how much a check is reckoned to take, and whether there is room for its markers.
 
+use mpw_check::checked_tiles;
+use mpw_cuts::is_placed;
+use mpw_tiles::Snapshot;
 use std::fs;
 
-/// The greatest memory that a status of Linux's tells of its process, in kB.
-fn told_in(status: &str) -> Option<u64> {
-    for line in status.lines() {
-        if let Some(told) = line.strip_prefix("VmHWM:") {
+/// What a marker takes that is held, with what it is made of, in bytes.
+const FOR_A_MARKER: u64 = 100;
+
+/// So few markers always have room.
+const FEW_MARKERS: usize = 1 << 20;
+
+/// What an element of the checked structure takes in the lists into which a layout of few structures is cut, in bytes.
+const FOR_AN_ELEMENT: u64 = 300;
+
+/// What a shape of a layout takes that is cut into the windows of tiles, in bytes.
+const FOR_A_SHAPE: u64 = 1024;
+
+/// What a thread takes for the columns at work, and for the parts of columns that it keeps, in MB.
+const FOR_A_THREAD: u64 = 128;
+
+/// The kB that stand behind a name in a text of Linux's.
+fn told_in(text: &str, name: &str) -> Option<u64> {
+    for line in text.lines() {
+        if let Some(told) = line.strip_prefix(name) {
             return told.split_ascii_whitespace().next()?.parse::<u64>().ok();
         }
     }
@@ -15,5 +33,48 @@ fn told_in(status: &str) -> Option<u64> {
 /// The greatest memory that the process had so far, in MB of 2^20 bytes, rounded up; none where the system doesn't tell it.
 pub fn peak(rt: &HostRuntime) -> Option<u64> {
     let status = fs::read_to_string(rt, "/proc/self/status").ok()?;
-    Some(told_in(status.as_str())?.div_ceil(1024))
+    Some(told_in(status.as_str(), "VmHWM:")?.div_ceil(1024))
+}
+
+/// Whether the system has room for so many markers beside what there is; it has where it doesn't tell.
+pub fn has_room(rt: &HostRuntime, markers: usize) -> bool {
+    if markers <= FEW_MARKERS {
+        return true;
+    }
+    let Ok(system) = fs::read_to_string(rt, "/proc/meminfo") else {
+        return true;
+    };
+    match told_in(system.as_str(), "MemAvailable:") {
+        Some(available) => (markers as u64).saturating_mul(FOR_A_MARKER) / 1024 <= available,
+        None => true,
+    }
+}
+
+/// How many elements the checked structure has.
+fn elements_of(layout: &Snapshot) -> u64 {
+    let Some(top) = layout.shelf().nodes(0).and_then(|nodes| nodes.last()) else {
+        return 0;
+    };
+    (top.children.len() as u64).saturating_add(top.shapes.len() as u64)
+}
+
+/// What a layout takes that is cut into windows or lists, in bytes.
+fn for_layout(layout: &Snapshot) -> u64 {
+    if checked_tiles(layout).is_some() {
+        return layout.shelf().count(0).saturating_mul(FOR_A_SHAPE);
+    }
+    if is_placed(layout) {
+        return elements_of(layout).saturating_mul(FOR_AN_ELEMENT);
+    }
+    0
+}
+
+/// The most memory that a check is reckoned to take, in MB of 2^20 bytes: what the process had when the library was read, what the layout takes in windows or
+/// lists, what each of so many threads does, and the markers that are held. Shapes that lie over one another in great numbers take more.
+pub fn reckoned(layout: &Snapshot, read: u64, threads: usize, held: usize) -> u64 {
+    let markers = (held as u64).saturating_mul(FOR_A_MARKER);
+    let bytes = for_layout(layout).saturating_add(markers);
+    let threads = (threads as u64).saturating_mul(FOR_A_THREAD);
+    read.saturating_add(bytes.div_ceil(1 << 20))
+        .saturating_add(threads)
 }

@@ -5,11 +5,12 @@ ghost use Rattle.mpw_firm.specs.Counts.{count_of, has_some};
 
 use crate::checked::Checked;
 use crate::line::Line;
-use crate::memory::peak;
+use crate::memory::{peak, reckoned};
 use mpw_check::checked_tiles;
 use mpw_keys::ColumnKeys;
 use mpw_parts::Part;
 use mpw_tiles::Snapshot;
+use rayon::current_num_threads;
 use std::io;
 
 /// The most shapes of a submission to a desk.
@@ -25,13 +26,23 @@ pub fn tell_markers(rt: &HostRuntime, checked: &Checked<'_>) -> io::Result<()> {
     Ok(())
 }
 
-/// Ends a line with the time that was taken, if the clock can be read, and the greatest memory, where the system tells it.
+/// Tells the time that was taken, if the clock can be read, and the greatest memory, where the system tells it.
 fn tell_taken(rt: &HostRuntime, taken: Option<u64>) -> io::Result<()> {
     if let Some(taken) = taken {
         eprint!(rt; ", {taken} ms")?;
     }
     if let Some(peak) = peak(rt) {
         eprint!(rt; ", {peak} MB")?;
+    }
+    Ok(())
+}
+
+/// Ends a line with the memory that a check was reckoned to take, where the system told what reading took.
+fn tell_reckoned(rt: &HostRuntime, checked: &Checked<'_>, line: &Line<'_>) -> io::Result<()> {
+    if let Some(read) = line.read() {
+        let held = checked.found.markers().len();
+        let most = reckoned(checked.layout, read, current_num_threads(rt), held);
+        eprint!(rt; " of {most} MB reckoned")?;
     }
     eprintln!(rt; "")
 }
@@ -52,6 +63,7 @@ pub fn tell_summary(rt: &HostRuntime, checked: &Checked<'_>, line: &Line<'_>) ->
     tell_way(rt, layout)?;
     tell_markers(rt, checked)?;
     tell_taken(rt, line.taken())?;
+    tell_reckoned(rt, checked, line)?;
     if shapes > MAX_ON_DESK {
         eprintln!(rt; "note: more than 1048576 shapes: the desk takes no more")?;
     }
@@ -105,5 +117,6 @@ pub fn tell_part(
         part.first(),
         count_of(part.lists())
     )?;
-    tell_taken(rt, line.taken())
+    tell_taken(rt, line.taken())?;
+    eprintln!(rt; "")
 }

@@ -2,7 +2,9 @@
 
 use crate::layout::{SIDE, snapshot, snapshot_of};
 use anyhow::{Context, Result, bail};
-use mpw_check::{Progress, Silent, check_layout, check_tiles, checked_tiles, tile_count};
+use mpw_check::{
+    Progress, Silent, check_layout, check_tiles, checked_tiles, first_of_layout, tile_count,
+};
 use mpw_columns::{Bounds, FirstMarkers, check_columns, first_of_columns};
 use mpw_deck::Rules;
 use mpw_edges::Axis;
