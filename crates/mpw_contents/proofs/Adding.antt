@@ -1,6 +1,6 @@
 -- Things that are added show more.
 use Rattle.std.proofs.Common.{◌≡◌, ◌+◌, ◌<◌, ℕ, length, get_or, take, Option, Some, None, inl, inr, List, [], ◌∷◌, ◌++◌, map, zero-add, refl, sym, ap, subst, ◌∙◌, append_assoc, true, false}
-use Rattle.std.specs.Prelude.{All, Contains, option_map}
+use Rattle.std.specs.Prelude.{All, Contains, IfSome, IsSomeAnd, option_map}
 use Rattle.std.specs.List.{flat_map, range_with_len}
 use Rattle.std.proofs.lemmas.List.Concat.{flat_map-append}
 use Rattle.std.proofs.lemmas.List.Elements.{All-nil, All-cons, All-append, Contains-append_left, Contains-append_right, Contains-append_cases}
@@ -10,10 +10,13 @@ use Rattle.mpw_geom.specs.declared.placing.Placing.{Placing}
 use Rattle.mpw_structures.specs.declared.element.Element.{Element}
 use Rattle.mpw_hier.specs.Boxes.{element_box, placed_box, item_box}
 use Rattle.mpw_hier.specs.Items.{Item}
-use Rattle.mpw_walk.specs.Window.{is_met}
+use Rattle.mpw_walk.specs.Window.{do_meet, is_met}
 use Rattle.mpw_contents.specs.declared.layout.Layout.{Layout}
+use Rattle.mpw_contents.specs.declared.thing.Shape.{Shape}
 use Rattle.mpw_contents.specs.declared.thing.Thing.{Thing}
-use Rattle.mpw_contents.specs.Things.{drawn, thing_items, things_items}
+use Rattle.mpw_contents.specs.declared.thing.Thing.TheVariants as things
+use Rattle.mpw_contents.specs.Contents.{IsBoxed}
+use Rattle.mpw_contents.specs.Things.{drawn, drawn_box, element_in, thing_items, things_items}
 use Rattle.mpw_contents.specs.Internal.Making.{IsThing, Shows, Adds}
 use Rattle.mpw_contents.proofs.Lists.{range_more}
 use Rattle.mpw_contents.proofs.Members.{contains_none, contains_cases}
@@ -61,17 +64,19 @@ module _ (l : Layout) where
     made = [];
     is = sym (append-nil old);
     are = All-nil (IsThing l.nodes.now);
+    boxed = All-nil (IsBoxed l.shelf.now);
     shows = h;
   }
 
   pub adds_one : (items : List Item) (old new : List Thing) (thing : Thing) → new ≡ old ++ thing
-      ∷ [] → IsThing l.nodes.now thing → Shows l.window items (thing_items l.shelf.now thing)
-      → Adds l items old new
+      ∷ [] → IsThing l.nodes.now thing → IsBoxed l.shelf.now thing
+      → Shows l.window items (thing_items l.shelf.now thing) → Adds l items old new
   unfolding things_items
-  adds_one items old new thing is near h = record {
+  adds_one items old new thing is near boxed h = record {
     made = thing ∷ [];
     is = is;
     are = All-cons (IsThing l.nodes.now) thing [] near (All-nil (IsThing l.nodes.now));
+    boxed = All-cons (IsBoxed l.shelf.now) thing [] boxed (All-nil (IsBoxed l.shelf.now));
     shows = subst (Shows l.window items) (sym (append-nil (thing_items l.shelf.now thing))) h;
   }
 
@@ -82,6 +87,7 @@ module _ (l : Layout) where
     made = h.made ++ k.made;
     is = k.is ∙ ap (λ ts. ts ++ k.made) h.is ∙ append_assoc old h.made k.made;
     are = All-append (IsThing l.nodes.now) h.made k.made h.are k.are;
+    boxed = All-append (IsBoxed l.shelf.now) h.made k.made h.boxed k.boxed;
     shows = subst (Shows l.window (xs ++ ys))
         (sym (flat_map-append (thing_items l.shelf.now) h.made k.made))
         (shows_both l.window xs ys (things_items l.shelf.now h.made)
@@ -133,6 +139,37 @@ module _ (l : Layout) where
         | inr none ↦ absurd (contains_none i none)
       ])))
 
+  -- a shape whose area is the placed box of its element, if there is one
+  pub boxed_shape : (shape : Shape) (e : Element) (b : Box2)
+      → element_in l.shelf.now shape.structure shape.element ≡ Some e → element_box e ≡ Some b
+      → IfSome shape.area (λ area. area ≡ placed_box shape.placing b)
+      → IsBoxed l.shelf.now (things.Shape shape)
+  boxed_shape shape e b at is placed = go shape.area placed
+    where
+      go : (area : Option Box2) → IfSome area (λ a. a ≡ placed_box shape.placing b)
+          → IfSome area (λ a. drawn_box shape.placing
+          (element_in l.shelf.now shape.structure shape.element) ≡ Some a)
+      go None placed = tt
+      go (Some a) placed =
+          ap (drawn_box shape.placing) at ∙ ap (option_map (placed_box shape.placing)) is
+          ∙ ap Some (sym placed)
+
+  -- a shape whose area misses the window
+  pub shape_out : (shape : Shape) (old : List Thing) → IsBoxed l.shelf.now (things.Shape shape)
+      → IsSomeAnd shape.area (λ area. do_meet area l.window ≡ false)
+      → Adds l (thing_items l.shelf.now (things.Shape shape)) old old
+  unfolding thing_items
+  shape_out shape old boxed away =
+      go shape.area (element_in l.shelf.now shape.structure shape.element) boxed away
+    where
+      go : (area : Option Box2) (o : Option Element)
+          → IfSome area (λ b. drawn_box shape.placing o ≡ Some b)
+          → IsSomeAnd area (λ b. do_meet b l.window ≡ false) → Adds l (drawn shape.placing o) old old
+      go None o boxed away = absurd away
+      go (Some b) None boxed away = nothing_drawn shape.placing None old refl
+      go (Some b) (Some e) boxed away =
+          drawn_out shape.placing (Some e) e old refl (ap (is_met l.window) boxed ∙ away)
+
 module _ (l : Layout) {X : Type 0} (f : X → List Item) (old mid new : List Thing) (n : ℕ) where
   -- one more column of a row, and one more row
   pub adds_column : (g : ℕ → X) → Adds l (flat_map f (map g (range_with_len 0 n))) old mid
@@ -168,16 +205,18 @@ module _ (l : Layout) where
     made = k.made;
     is = k.is;
     are = k.are;
+    boxed = k.boxed;
     shows = shows_again l.window xs ys (things_items l.shelf.now k.made) h k.shows;
   }
 
   -- all that there are
   pub adds_all : (new : List Thing) → All (IsThing l.nodes.now) new
-      → Adds l (things_items l.shelf.now new) [] new
-  adds_all new h = record {
+      → All (IsBoxed l.shelf.now) new → Adds l (things_items l.shelf.now new) [] new
+  adds_all new h boxed = record {
     made = new;
     is = refl;
     are = h;
+    boxed = boxed;
     shows = shows_same l.window (things_items l.shelf.now new) (things_items l.shelf.now new) refl;
   }
 
@@ -188,6 +227,7 @@ module _ (l : Layout) where
     made = k.made;
     is = k.is;
     are = k.are;
+    boxed = k.boxed;
     shows =
         shows_again l.window items (things_items l.shelf.now mid) (things_items l.shelf.now k.made)
         (subst (λ ts. Shows l.window items (things_items l.shelf.now ts)) (sym h.is) h.shows)
@@ -202,3 +242,7 @@ module _ (l : Layout) where
   pub adds_things : (items : List Item) (new : List Thing) → Adds l items [] new
       → All (IsThing l.nodes.now) new
   adds_things items new h = subst (All (IsThing l.nodes.now)) (sym h.is) h.are
+
+  pub adds_boxed : (items : List Item) (new : List Thing) → Adds l items [] new
+      → All (IsBoxed l.shelf.now) new
+  adds_boxed items new h = subst (All (IsBoxed l.shelf.now)) (sym h.is) h.boxed

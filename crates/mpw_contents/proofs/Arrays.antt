@@ -91,4 +91,4 @@ module _ (law : NamesAreOpened) (l : Layout) (w : IsLayout l) (a : Array)
       → new ≡ old ++ things.Array b ∷ [] → Adds l (thing_items l.shelf.now (things.Array a)) old new
   some_left e is b fit old new made =
       adds_one l (thing_items l.shelf.now (things.Array a)) old new (things.Array b) made
-      (left_is e b fit) (left_shows e is b fit)
+      (left_is e b fit) tt (left_shows e is b fit)

@@ -7,8 +7,8 @@ use Rattle.mpw_geom.specs.declared.plane.Point.{Point}
 use Rattle.mpw_contents.specs.declared.thing.Thing.{Thing}
 use Rattle.mpw_contents.specs.declared.thing.Thing.TheVariants as things
 use Rattle.mpw_contents.specs.Codes.{mixed, with_place, thing_code, code_of}
-use Rattle.mpw_contents.specs.Displaced.{place_of_thing, moved_thing, AreMoved}
-use Rattle.mpw_contents.proofs.Moved.{place_moved}
+use Rattle.mpw_contents.specs.Displaced.{place_of_thing, bare, moved_thing, AreMoved}
+use Rattle.mpw_contents.proofs.Moved.{place_moved, place_bare}
 
 same_way : (x y d : ℤ) → unsigned_abs ((x +ℤ d) -ℤ (y +ℤ d)) ≡ unsigned_abs (x -ℤ y)
 same_way x y d = ap unsigned_abs (let e : (x +ℤ d) -ℤ (y +ℤ d) ≡ x -ℤ y = omega (arith, ints) in e)
@@ -43,9 +43,29 @@ codes_stay d (t ∷ ts) =
     ap (λ p. fold (thing_code p) 0 (map (moved_thing d) (t ∷ ts))) (place_moved d t)
     ∙ things_stay d (place_of_thing t) 0 (t ∷ ts)
 
+-- the area counts for nothing
+thing_bare : (from : Point) (code : ℕ) (t : Thing)
+    → thing_code from code (bare t) ≡ thing_code from code t
+thing_bare from code (things.Shape s) = refl
+thing_bare from code (things.Array a) = refl
+
+things_bare : (from : Point) (code : ℕ) (ts : List Thing)
+    → fold (thing_code from) code (map bare ts) ≡ fold (thing_code from) code ts
+things_bare from code [] = refl
+things_bare from code (t ∷ ts) =
+    ap (λ n. fold (thing_code from) n (map bare ts)) (thing_bare from code t)
+    ∙ things_bare from (thing_code from code t) ts
+
+codes_bare : (ts : List Thing) → code_of (map bare ts) ≡ code_of ts
+unfolding code_of
+codes_bare [] = refl
+codes_bare (t ∷ ts) =
+    ap (λ p. fold (thing_code p) 0 (map bare (t ∷ ts))) (place_bare t)
+    ∙ things_bare (place_of_thing t) 0 (t ∷ ts)
+
 pub code_stays : (d : Point) (ts others : List Thing) (code : ℕ) → code ≡ code_of ts
     → AreMoved d ts others → code_of others ≡ code
-code_stays d ts others code is h = ap code_of h ∙ codes_stay d ts ∙ sym is
+code_stays d ts others code is h = sym (codes_bare others) ∙ ap code_of h ∙ codes_stay d ts ∙ sym is
 
 pub no_code : (ts : List Thing) → length ts ≡ 0 → 0 ≡ code_of ts
 unfolding code_of

@@ -1,5 +1,5 @@
 -- Worked examples of the definitions.
-use Rattle.std.proofs.Common.{◌≡◌, ℕ, pos, List, [], ◌∷◌, map, refl}
+use Rattle.std.proofs.Common.{◌≡◌, ℕ, pos, List, [], ◌∷◌, None, map, refl}
 use Rattle.mpw_geom.specs.declared.plane.Orient.TheVariants.{R0, R90}
 use Rattle.mpw_geom.specs.declared.plane.Point.{Point}
 use Rattle.mpw_geom.specs.Placing.{oriented_point, placed_point}
@@ -46,6 +46,7 @@ list =
       structure = 0;
       element = 0;
       placing = record { orient = R0; by = at 5 5 };
+      area = None;
     })
     ∷ things.Array (record {
       structure = 1;

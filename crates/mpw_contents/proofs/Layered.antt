@@ -2,7 +2,7 @@
 use Rattle.std.proofs.Common.{◌≡◌, ℕ, ◌+◌, ◌<◌, length, get_or, take, inl, inr, List, [], ◌∷◌, ◌++◌, Bool, true, false, Option, Some, None, sym, ap, subst, ◌∙◌}
 use Rattle.std.specs.Prelude.{All, Contains, IsSomeAnd, MatchBool}
 use Rattle.std.proofs.lemmas.List.Concat.{flat_map-append}
-use Rattle.std.proofs.lemmas.List.Elements.{All-nil, All-cons, All-append, Contains-append_left, Contains-append_right, Contains-append_cases}
+use Rattle.std.proofs.lemmas.List.Elements.{All-nil, All-cons, All-append, All-push, Contains-append_left, Contains-append_right, Contains-append_cases}
 use Rattle.std.proofs.lemmas.List.{append-nil, take_more}
 use Rattle.mpw_geom.specs.declared.plane.Layer.{Layer}
 use Rattle.mpw_geom.specs.declared.placing.Placing.{Placing}
@@ -12,7 +12,7 @@ use Rattle.mpw_hier.specs.declared.submission.Submission.{Submission}
 use Rattle.mpw_contents.specs.declared.thing.Shape.{Shape}
 use Rattle.mpw_contents.specs.declared.thing.Thing.{Thing}
 use Rattle.mpw_contents.specs.declared.thing.Thing.TheVariants as things
-use Rattle.mpw_contents.specs.Contents.{IsNear, IsOn, IsThingOn}
+use Rattle.mpw_contents.specs.Contents.{IsBoxed, IsNear, IsOn, IsThingOn}
 use Rattle.mpw_contents.specs.Things.{drawn, element_in, thing_items, things_items}
 use Rattle.mpw_contents.specs.Internal.Layers.{ShowsNone, KeepsOn, AreLayered}
 use Rattle.mpw_contents.proofs.Members.{contains_none, contains_cases}
@@ -81,14 +81,6 @@ module _ (ss : List Submission) (layers : List Layer) (shape : Shape) (thing : T
       (nothing_drawn layers shape.placing (element_in ss shape.structure shape.element) at)
 
 module _ (ss : List Submission) (layers : List Layer) where
-  pub layered_start : AreLayered ss layers [] []
-  unfolding things_items
-  layered_start = record {
-    keeps = keeps_same layers [];
-    near = All-nil IsNear;
-    on = All-nil (IsThingOn ss layers);
-  }
-
   module _ (xs : List Thing) (i : ℕ) (d : Thing) (left : List Thing) (lt : i < length xs)
       (h : AreLayered ss layers (take i xs) left) where
     more : things_items ss (take (i + 1) xs) ≡ things_items ss (take i xs) ++ thing_items ss
@@ -133,3 +125,9 @@ module _ (ss : List Submission) (layers : List Layer) where
           near = h.near;
           on = h.on;
         }
+
+  -- one more of things that are boxed
+  pub boxed_more : (xs : List Thing) (i : ℕ) (d : Thing) (left : List Thing) → i < length xs
+      → All (IsBoxed ss) xs → All (IsBoxed ss) left
+      → All (IsBoxed ss) (left ++ get_or xs i d ∷ [])
+  boxed_more xs i d left lt all boxed = All-push (IsBoxed ss) left (get_or xs i d) boxed (all i d lt)

@@ -1,5 +1,5 @@
 -- Things elsewhere show the same elsewhere.
-use Rattle.std.proofs.Common.{◌≡◌, ◌<◌, List, [], ◌∷◌, ◌++◌, length, get_or, map, Option, Some, None, refl, sym, ap, ◌∙◌, arith}
+use Rattle.std.proofs.Common.{◌≡◌, ◌<◌, ℕ, zero, suc, List, [], ◌∷◌, ◌++◌, length, get_or, map, Option, Some, None, refl, sym, ap, ◌∙◌, arith}
 use Rattle.std.specs.List.{flat_map}
 use Rattle.std.proofs.lemmas.Int.{ints}
 use Rattle.std.proofs.lemmas.List.{map-append}
@@ -14,7 +14,7 @@ use Rattle.mpw_hier.specs.Items.{Item, placed_again, placed_item, placed_items}
 use Rattle.mpw_contents.specs.declared.thing.Array.{Array}
 use Rattle.mpw_contents.specs.declared.thing.Thing.{Thing}
 use Rattle.mpw_contents.specs.declared.thing.Thing.TheVariants as things
-use Rattle.mpw_contents.specs.Displaced.{place_of_thing, moved, moved_placing, moved_array, moved_thing, AreMoved}
+use Rattle.mpw_contents.specs.Displaced.{place_of_thing, bare, moved, moved_placing, moved_array, moved_thing, AreMoved}
 use Rattle.mpw_contents.specs.Things.{drawn, place_shown, reference_of, thing_items, things_items}
 use Rattle.mpw_contents.specs.Internal.Moving.{way_between}
 use Rattle.mpw_contents.specs.Internal.Opening.{IsPlacedReference}
@@ -59,9 +59,25 @@ all_moved ss d (t ∷ ts) =
     ∙ ap (λ items. map (moved d) (thing_items ss t) ++ items) (all_moved ss d ts)
     ∙ sym (map-append (moved d) (thing_items ss t) (flat_map (thing_items ss) ts))
 
+-- the area shows nothing
+thing_bare : (ss : List Submission) (thing : Thing)
+    → thing_items ss (bare thing) ≡ thing_items ss thing
+unfolding thing_items
+thing_bare ss (things.Shape shape) = refl
+thing_bare ss (things.Array a) = refl
+
+all_bare : (ss : List Submission) (ts : List Thing)
+    → things_items ss (map bare ts) ≡ things_items ss ts
+unfolding things_items
+all_bare ss [] = refl
+all_bare ss (t ∷ ts) =
+    ap (λ items. items ++ flat_map (thing_items ss) (map bare ts)) (thing_bare ss t)
+    ∙ ap (λ items. thing_items ss t ++ items) (all_bare ss ts)
+
 pub shown_moved : (d : Point) (from to : List Thing) → AreMoved d from to → (ss : List Submission)
     → things_items ss to ≡ map (moved d) (things_items ss from)
-shown_moved d from to h ss = ap (things_items ss) h ∙ all_moved ss d from
+shown_moved d from to h ss =
+    sym (all_bare ss to) ∙ ap (things_items ss) h ∙ all_moved ss d from
 
 -- ---- which displacement it is
 
@@ -70,21 +86,31 @@ pub place_moved : (d : Point) (t : Thing)
 place_moved d (things.Shape shape) = refl
 place_moved d (things.Array a) = refl
 
+pub place_bare : (t : Thing) → place_of_thing (bare t) ≡ place_of_thing t
+place_bare (things.Shape shape) = refl
+place_bare (things.Array a) = refl
+
 way_is : (d p q : Point) → q ≡ moved_point d p → d ≡ way_between p q
 way_is d p q e =
     let x = ap (λ (r : Point). r.x) e in
     let y = ap (λ (r : Point). r.y) e in
     same_point _ _ (omega (arith, ints, x)) (omega (arith, ints, y))
 
+-- thing by thing
+pub each_moved : (d : Point) (from to : List Thing) → AreMoved d from to → (i : ℕ)
+    → i < length from → (x y : Thing) → bare (get_or to i y) ≡ moved_thing d (get_or from i x)
+each_moved d [] to h i lt x y = absurd (omega (arith, lt))
+each_moved d (t ∷ ts) [] h i lt x y = absurd cc
+each_moved d (t ∷ ts) (u ∷ us) h zero lt x y = ap (λ xs. get_or xs 0 (bare y)) h
+each_moved d (t ∷ ts) (u ∷ us) h (suc i) lt x y =
+    let rest : AreMoved d ts us = cc in each_moved d ts us rest i (omega (arith, lt)) x y
+
 -- the first things tell it
 pub first_tells : (d : Point) (from to : List Thing) (x y : Thing) (p q w : Point)
     → AreMoved d from to → 0 < length from
     → p ≡ place_of_thing (get_or from 0 x) → q ≡ place_of_thing (get_or to 0 y)
     → w ≡ way_between p q → d ≡ w
-first_tells d [] to x y p q w h some first other way = absurd (omega (arith, some))
-first_tells d (t ∷ ts) to x y p q w h some first other way =
-    let there : get_or to 0 y ≡ moved_thing d t = ap (λ xs. get_or xs 0 y) h in
-    way_is d p q (other ∙ ap place_of_thing there ∙ place_moved d t
+first_tells d from to x y p q w h some first other way =
+    way_is d p q (other ∙ sym (place_bare (get_or to 0 y))
+    ∙ ap place_of_thing (each_moved d from to h 0 some x y) ∙ place_moved d (get_or from 0 x)
     ∙ ap (moved_point d) (sym first)) ∙ sym way
-
--- ---- one more

@@ -1,5 +1,5 @@
 -- What contents of a window are, by what they show.
-use Rattle.std.specs.Prelude.{◌≡◌, true, List, Contains, IsSomeAnd}
+use Rattle.std.specs.Prelude.{◌≡◌, true, List, Contains, Some, IfSome, IsSomeAnd}
 use Rattle.mpw_geom.specs.Plane.{IsInPlane}
 use Rattle.mpw_geom.specs.declared.plane.Box2.{Box2}
 use Rattle.mpw_geom.specs.declared.plane.Layer.{Layer}
@@ -11,7 +11,7 @@ use Rattle.mpw_hier.specs.declared.submission.Submission.{Submission}
 use Rattle.mpw_walk.specs.Window.{is_met}
 use Rattle.mpw_contents.specs.declared.thing.Thing.{Thing}
 use Rattle.mpw_contents.specs.declared.thing.Thing.TheVariants as things
-use Rattle.mpw_contents.specs.Things.{element_in}
+use Rattle.mpw_contents.specs.Things.{drawn_box, element_in}
 
 -- Each item that meets the window is shown.
 abbrev pub AreWhole : Box2 → (all shown : List Item) → Type 0
@@ -26,6 +26,12 @@ AreSound all shown = (i : Item) → Contains shown i → Contains all i
 abbrev pub IsNear : Thing → Type 0
 IsNear (things.Shape shape) = IsInPlane shape.placing.by
 IsNear (things.Array a) = IsInPlane a.first.by
+
+-- Where a shape has an area, that is the box of what it shows.
+abbrev pub IsBoxed : List Submission → Thing → Type 0
+IsBoxed ss (things.Shape shape) = IfSome shape.area (λ area.
+    drawn_box shape.placing (element_in ss shape.structure shape.element) ≡ Some area)
+IsBoxed ss (things.Array a) = Unit {0}
 
 -- An element is a shape on one of the layers.
 abbrev pub IsOn : List Layer → Element → Type 0

@@ -1,5 +1,5 @@
 -- Things, and what they show, at a displacement.
-use Rattle.std.specs.Prelude.{◌≡◌, List, map}
+use Rattle.std.specs.Prelude.{◌≡◌, List, None, map}
 use Rattle.mpw_geom.specs.Placing.{moved_point}
 use Rattle.mpw_geom.specs.declared.plane.Point.{Point}
 use Rattle.mpw_geom.specs.declared.placing.Placing.{Placing}
@@ -22,12 +22,26 @@ abbrev pub moved : Point → Item → Item
 moved d i =
     record { origin = i.origin; placing = moved_placing d i.placing; element = i.element }
 
--- The same shape, and the same array, elsewhere.
+-- The same without the area, which its placing tells.
+abbrev pub bare_shape : Shape → Shape
+bare_shape shape = record {
+  structure = shape.structure;
+  element = shape.element;
+  placing = shape.placing;
+  area = None;
+}
+
+abbrev pub bare : Thing → Thing
+bare (things.Shape shape) = things.Shape (bare_shape shape)
+bare (things.Array a) = things.Array a
+
+-- The same shape, without its area, and the same array, elsewhere.
 abbrev pub moved_shape : Point → Shape → Shape
 moved_shape d shape = record {
   structure = shape.structure;
   element = shape.element;
   placing = moved_placing d shape.placing;
+  area = None;
 }
 
 abbrev pub moved_array : Point → Array → Array
@@ -45,6 +59,6 @@ abbrev pub moved_thing : Point → Thing → Thing
 moved_thing d (things.Shape shape) = things.Shape (moved_shape d shape)
 moved_thing d (things.Array a) = things.Array (moved_array d a)
 
--- One list of things is another, elsewhere.
+-- One list of things is another, elsewhere, but for their areas.
 abbrev pub AreMoved : Point → (from to : List Thing) → Type 0
-AreMoved d from to = to ≡ map (moved_thing d) from
+AreMoved d from to = map bare to ≡ map (moved_thing d) from

@@ -1,11 +1,13 @@
 -- Things, and what they show of the first submission of a shelf.
-use Rattle.std.specs.Prelude.{ℕ, List, [], ◌∷◌, slice_get, Option, Some, None}
+use Rattle.std.specs.Prelude.{ℕ, List, [], ◌∷◌, slice_get, Option, Some, None, option_map}
 use Rattle.std.specs.List.{flat_map}
 use Rattle.mpw_geom.specs.declared.placing.Placing.{Placing}
+use Rattle.mpw_geom.specs.declared.plane.Box2.{Box2}
 use Rattle.mpw_structures.specs.declared.element.Element.{Element}
 use Rattle.mpw_structures.specs.declared.element.Reference.{Reference}
 use Rattle.mpw_structures.specs.declared.structures.Structure.{Structure}
 use Rattle.mpw_hier.specs.declared.submission.Submission.{Submission}
+use Rattle.mpw_hier.specs.Boxes.{element_box, placed_box}
 use Rattle.mpw_hier.specs.Items.{Item, placed_items}
 use Rattle.mpw_hier.specs.Values.{structure_items}
 use Rattle.mpw_contents.specs.declared.thing.Array.{Array}
@@ -25,6 +27,11 @@ element_in (s ∷ ss) structure place = element_at (slice_get s.library structur
 abbrev pub drawn : Placing → Option Element → List Item
 drawn t None = []
 drawn t (Some e) = record { origin = 0; placing = t; element = e } ∷ []
+
+-- The box of that item.
+abbrev pub drawn_box : Placing → Option Element → Option Box2
+drawn_box t None = None
+drawn_box t (Some e) = option_map (placed_box t) (element_box e)
 
 -- What the structure at a place of the first submission's library shows, in its own coordinates.
 abbrev pub structure_shown : Submission → Option Structure → List Item

@@ -6,7 +6,7 @@ ghost use Rattle.mpw_geom.specs.Placing.{moved_point};
 ghost use Rattle.mpw_geom.specs.declared.plane.Point.{Point};
 ghost use Rattle.mpw_hier.specs.declared.submission.Submission.{Submission};
 ghost use Rattle.mpw_contents.specs.Contents.{IsNear};
-ghost use Rattle.mpw_contents.specs.Displaced.{place_of_thing, moved, moved_placing, moved_shape, moved_array, moved_thing, AreMoved};
+ghost use Rattle.mpw_contents.specs.Displaced.{place_of_thing, bare, bare_shape, moved, moved_placing, moved_shape, moved_array, moved_thing, AreMoved};
 ghost use Rattle.mpw_contents.specs.Things.{things_items};
 ghost use Rattle.mpw_contents.specs.Internal.Moving.{IsWay, IsWayBetween, way_between};
 
@@ -66,11 +66,11 @@ fn is_moved_placing(a: Placing, b: Placing, d: Point) -> bool
     b.orient == a.orient && is_same_point(b.by, moved(a.by, d))
 }
 
-/// Whether a shape is another, moved.
+/// Whether a shape is another, moved. Its area follows from the rest.
 fn is_moved_shape(a: &Shape, b: &Shape, d: Point) -> bool
     requires near { IsInPlane a.now.placing.by }
     requires way { IsWayBetween d }
-    ensures { IsTrue result ↔ (b.now ≡ moved_shape d a.now) }
+    ensures { IsTrue result ↔ (bare_shape b.now ≡ moved_shape d a.now) }
 {
     b.structure == a.structure
         && b.element == a.element
@@ -102,7 +102,7 @@ fn is_moved_array(a: &Array, b: &Array, d: Point) -> bool
 fn is_moved(a: &Thing, b: &Thing, d: Point) -> bool
     requires near { IsNear a.now }
     requires way { IsWayBetween d }
-    ensures { IsTrue result ↔ (b.now ≡ moved_thing d a.now) }
+    ensures { IsTrue result ↔ (bare b.now ≡ moved_thing d a.now) }
 {
     match (a, b) {
         (Thing::Shape(a), Thing::Shape(b)) => is_moved_shape(a, b, d),

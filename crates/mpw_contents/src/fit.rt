@@ -3,14 +3,14 @@
 //! The boxes of an array stand in steps of one length, so along an axis along which its rows don't lead, division tells which
 //! columns miss the window, and so for rows where the columns don't.
 
-ghost use Rattle.std.specs.Prelude.{◌≡◌, ◌<◌, ◌≤◌, ◌*◌, ℕ, pos, neg_ℤ, ◌+ℤ◌, ◌<ℤ◌, false, true, option_map, IfSome, IfNone, IsTrue, MatchBool};
+ghost use Rattle.std.specs.Prelude.{◌≡◌, ◌<◌, ◌≤◌, ◌*◌, ℕ, pos, neg_ℤ, ◌+ℤ◌, ◌<ℤ◌, false, true, option_map, IfSome, IfNone, IsSomeAnd, IsTrue, MatchBool};
 ghost use Rattle.mpw_geom.specs.Plane.{IsInPlane};
 ghost use Rattle.mpw_hier.specs.Boxes.{is_box_near, placed_box};
 ghost use Rattle.mpw_walk.specs.Window.{do_meet, is_met};
 ghost use Rattle.mpw_contents.specs.Internal.Fitting.{IsOutside, IsEither, SpansMissed, AlongMissed, ColumnsMissed, RowsMissed, IsCut, IsFitted, IsAway};
 
 use crate::placed::{is_in_plane, placed_box, point_after};
-use crate::thing::Array;
+use crate::thing::{Array, Shape};
 use mpw_geom::{Box2, Placing, Point};
 use mpw_hier::is_box_near;
 
@@ -44,6 +44,28 @@ fn do_meet(a: Box2, b: Box2) -> bool
     ensures { result ≡ do_meet a b }
 {
     a.meets(b)
+}
+
+/// A box where it is placed, if its coordinates are small enough.
+pub fn area_of(placing: Placing, b: Box2) -> Option<Box2>
+    requires { IsInPlane placing.by }
+    ensures { IfSome result (λ area. area ≡ placed_box placing b) }
+{
+    if is_box_near(b) {
+        Some(placed_box(placing, b))
+    } else {
+        None
+    }
+}
+
+/// Whether a shape may meet a window: where it has an area, whether that does.
+pub fn is_shape_met(shape: &Shape, window: &Box2) -> bool
+    ensures { result ≡ false → IsSomeAnd shape.now.area (λ area. do_meet area window.now ≡ false) }
+{
+    match shape.area {
+        Some(area) => do_meet(area, *window),
+        None => true,
+    }
 }
 
 /// Whether a box, if there is one, may meet a window where it is placed. Of near boxes it tells exactly.

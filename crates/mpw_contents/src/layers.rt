@@ -2,7 +2,7 @@
 
 ghost use Rattle.std.specs.Prelude.{◌<◌, length, ◌≡◌, ◌↔◌, IsTrue, All, IfOk, MatchBool, Contains, option_copied};
 ghost use Rattle.mpw_hier.specs.Items.{Item};
-ghost use Rattle.mpw_contents.specs.Contents.{AreSound, IsOn, IsThingOn};
+ghost use Rattle.mpw_contents.specs.Contents.{AreSound, IsBoxed, IsOn, IsThingOn};
 ghost use Rattle.mpw_contents.specs.Things.{thing_items, things_items};
 ghost use Rattle.mpw_contents.specs.Internal.Layers.{ShowsNone};
 
@@ -71,6 +71,7 @@ impl Contents {
         requires { 0 < length shelf.now }
         ensures kept { IfOk result (λ things. (i : Item) → Contains (things_items shelf.now self.now) i → IsOn layers.now i.element → Contains (things_items shelf.now things) i) }
         ensures sound { IfOk result (λ things. AreSound (things_items shelf.now self.now) (things_items shelf.now things)) }
+        ensures boxed { All (IsBoxed shelf.now) self.now → IfOk result (All (IsBoxed shelf.now)) }
         ensures on { IfOk result (λ things. All (IsThingOn shelf.now layers.now) things) }
     {
         let all = self.things();

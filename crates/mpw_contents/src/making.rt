@@ -2,7 +2,7 @@
 
 ghost use Rattle.std.specs.Prelude.{◌≡◌, ◌<◌, [], length, All, OnOk, IfOk, IfSome};
 ghost use Rattle.mpw_hier.specs.Values.{flat};
-ghost use Rattle.mpw_contents.specs.Contents.{AreWhole, AreSound};
+ghost use Rattle.mpw_contents.specs.Contents.{AreWhole, AreSound, IsBoxed};
 ghost use Rattle.mpw_contents.specs.Things.{thing_items, things_items};
 ghost use Rattle.mpw_contents.specs.Internal.Making.{IsLayout, IsArray, IsThing, Adds, Shows};
 ghost use Rattle.mpw_contents.specs.declared.thing.Thing.TheVariants as variants;
@@ -59,6 +59,7 @@ impl<'a> Layout<'a> {
     fn pass_thing(&self, thing: Thing, things: &mut Vec<Thing>) -> Result<bool, Stop>
         requires layout { IsLayout self.now }
         requires thing { IsThing self.now.nodes.now thing }
+        requires boxed { IsBoxed self.now.shelf.now thing }
         ensures { OnOk result (Adds self.now (thing_items self.now.shelf.now thing) things.old.items things.new.items) }
     {
         match thing {
@@ -77,6 +78,7 @@ impl<'a> Layout<'a> {
     fn pass(&self, alloc: Global, old: &[Thing]) -> Result<Passed, Stop>
         requires layout { IsLayout self.now }
         requires things { All (IsThing self.now.nodes.now) old.now }
+        requires boxed { All (IsBoxed self.now.shelf.now) old.now }
         ensures { IfOk result (λ passed. Adds self.now (things_items self.now.shelf.now old.now) [] passed.things.items) }
     {
         let mut things = Vec::new(alloc);
@@ -96,7 +98,9 @@ impl<'a> Layout<'a> {
     pub fn finish(&self, alloc: Global, from: Vec<Thing>) -> Result<Contents, Stop>
         requires layout { IsLayout self.now }
         requires things { All (IsThing self.now.nodes.now) from.items }
-        ensures { IfOk result (λ contents. Shows self.now.window (things_items self.now.shelf.now from.items) (things_items self.now.shelf.now contents)) }
+        requires boxed { All (IsBoxed self.now.shelf.now) from.items }
+        ensures boxed { IfOk result (All (IsBoxed self.now.shelf.now)) }
+        ensures shows { IfOk result (λ contents. Shows self.now.window (things_items self.now.shelf.now from.items) (things_items self.now.shelf.now contents)) }
     {
         let mut things = from;
         for _ in 0..PASSES {
@@ -156,7 +160,8 @@ impl<'a> Layout<'a> {
     /// As those of [`Layout::finish`].
     fn fill(&self, alloc: Global) -> Result<Contents, Stop>
         requires { IsLayout self.now }
-        ensures { IfOk result (λ contents. Shows self.now.window (flat self.now.shelf.now 0) (things_items self.now.shelf.now contents)) }
+        ensures boxed { IfOk result (All (IsBoxed self.now.shelf.now)) }
+        ensures shows { IfOk result (λ contents. Shows self.now.window (flat self.now.shelf.now 0) (things_items self.now.shelf.now contents)) }
     {
         let things = self.begin(alloc)?;
         self.finish(alloc, things)
@@ -179,6 +184,7 @@ pub fn contents_in(
     wanted: Wanted,
 ) -> Result<Option<Contents>, AllocError>
     requires { 0 < length shelf.now }
+    ensures boxed { IfOk result (λ contents. IfSome contents (All (IsBoxed shelf.now))) }
     ensures whole { IfOk result (λ contents. IfSome contents (λ things. AreWhole window (flat shelf.now 0) (things_items shelf.now things))) }
     ensures sound { IfOk result (λ contents. IfSome contents (λ things. AreSound (flat shelf.now 0) (things_items shelf.now things))) }
 {

@@ -6,12 +6,13 @@ ghost use Rattle.std.specs.List.{flat_map};
 ghost use Rattle.mpw_geom.specs.Plane.{IsInPlane};
 ghost use Rattle.mpw_structures.specs.Element.{IsElement, IsReference};
 ghost use Rattle.mpw_hier.specs.Items.{placed_item, placed_items, row_of};
+ghost use Rattle.mpw_contents.specs.Contents.{IsBoxed};
 ghost use Rattle.mpw_contents.specs.Things.{drawn, element_at, element_in, place_shown, reference_of, thing_items};
 ghost use Rattle.mpw_contents.specs.Internal.Making.{IsLayout, IsNodeOf, IsArray, IsThing, LeadsTo, Adds, Shows};
 ghost use Rattle.mpw_contents.specs.Internal.Opening.{name_shown, as_reference, child_shown, structure_shapes, structure_children, instances_shown, IsPlacedReference};
 ghost use Rattle.mpw_contents.specs.declared.thing.Thing.TheVariants as variants;
 
-use crate::fit::{fitted, may_meet};
+use crate::fit::{area_of, fitted, is_shape_met, may_meet};
 use crate::laws::names_are_opened;
 use crate::layout::{Layout, Opened};
 use crate::placed::{instance, is_in_plane};
@@ -105,20 +106,46 @@ impl<'a> Layout<'a> {
         Ok(())
     }
 
-    /// Adds a shape, if there is one that may meet the window.
-    pub fn put_shape(&self, shape: &Shape, things: &mut Vec<Thing>) -> Result<(), Stop>
-        requires layout { IsLayout self.now }
+    /// Adds a shape that has its area, if it may meet the window.
+    ///
+    /// # Errors
+    /// As those of [`Layout::push`].
+    pub fn fit_shape(&self, shape: &Shape, things: &mut Vec<Thing>) -> Result<(), Stop>
         requires near { IsInPlane shape.now.placing.by }
-        ensures { OnOk result (Adds self.now (drawn shape.now.placing (element_at (slice_get self.now.structures.now shape.now.structure) shape.now.element))
-            things.old.items things.new.items) }
+        requires boxed { IsBoxed self.now.shelf.now (variants.Shape shape.now) }
+        ensures { OnOk result (Adds self.now (thing_items self.now.shelf.now (variants.Shape shape.now)) things.old.items things.new.items) }
     {
-        let Some(element) = self.element(shape.structure, shape.element) else {
-            return Ok(());
-        };
-        if !may_meet(&self.window, &shape.placing, element_box(element)) {
+        if !is_shape_met(shape, &self.window) {
             return Ok(());
         }
         self.push(Thing::Shape(*shape), things)
+    }
+
+    /// Adds the shape that the element at a place of the structure at a place is, if there is one that may meet the window.
+    fn put_shape(
+        &self,
+        structure: usize,
+        place: usize,
+        placing: Placing,
+        things: &mut Vec<Thing>,
+    ) -> Result<(), Stop>
+        requires layout { IsLayout self.now }
+        requires near { IsInPlane placing.by }
+        ensures { OnOk result (Adds self.now (drawn placing (element_at (slice_get self.now.structures.now structure) place)) things.old.items things.new.items) }
+    {
+        let Some(element) = self.element(structure, place) else {
+            return Ok(());
+        };
+        let Some(extent) = element_box(element) else {
+            return Ok(());
+        };
+        let shape = Shape {
+            structure,
+            element: place,
+            placing,
+            area: area_of(placing, extent),
+        };
+        self.fit_shape(&shape, things)
     }
 
     /// Adds an array, or as much of it as may meet the window.
@@ -198,12 +225,7 @@ impl<'a> Layout<'a> {
         ensures { OnOk result (Adds self.now (structure_shapes placing (slice_get self.now.structures.now node.now.structure) node.now.shapes) things.old.items things.new.items) }
     {
         for index in 0..node.shapes.len() {
-            let shape = Shape {
-                structure: node.structure,
-                element: node.shapes.at(index),
-                placing,
-            };
-            self.put_shape(&shape, things)?;
+            self.put_shape(node.structure, node.shapes.at(index), placing, things)?;
         }
         Ok(())
     }

@@ -6,7 +6,7 @@
 ghost use Rattle.std.specs.Prelude.{◌≡◌, ◌<◌, [], length, All, OnOk, IfOk, IfSome};
 ghost use Rattle.mpw_geom.specs.Plane.{IsInPlane};
 ghost use Rattle.mpw_hier.specs.Values.{flat};
-ghost use Rattle.mpw_contents.specs.Contents.{AreWhole, AreSound, IsNear};
+ghost use Rattle.mpw_contents.specs.Contents.{AreWhole, AreSound, IsBoxed, IsNear};
 ghost use Rattle.mpw_contents.specs.Things.{thing_items, things_items};
 ghost use Rattle.mpw_contents.specs.Internal.Making.{HasExtent, IsArray, IsLayout, Adds, Shows};
 ghost use Rattle.mpw_contents.specs.Internal.Opening.{NamesAreOpened};
@@ -88,11 +88,12 @@ impl<'a> Layout<'a> {
         requires law { NamesAreOpened }
         requires layout { IsLayout self.now }
         requires near { IsNear thing.now }
+        requires boxed { IsBoxed self.now.shelf.now thing.now }
         ensures { OnOk result (Adds self.now (thing_items self.now.shelf.now thing.now) things.old.items things.new.items) }
     {
         match thing {
             Thing::Shape(shape) => {
-                self.put_shape(shape, things)?;
+                self.fit_shape(shape, things)?;
                 Ok(false)
             }
             Thing::Array(array) => self.fit_array(array, things),
@@ -106,6 +107,7 @@ impl<'a> Layout<'a> {
     fn fit(&self, alloc: Global, old: &[Thing]) -> Result<Passed, Stop>
         requires layout { IsLayout self.now }
         requires near { All IsNear old.now }
+        requires boxed { All (IsBoxed self.now.shelf.now) old.now }
         ensures { IfOk result (λ passed. Adds self.now (things_items self.now.shelf.now old.now) [] passed.things.items) }
     {
         names_are_opened();
@@ -126,7 +128,9 @@ impl<'a> Layout<'a> {
     fn part(&self, alloc: Global, old: &[Thing]) -> Result<Contents, Stop>
         requires layout { IsLayout self.now }
         requires near { All IsNear old.now }
-        ensures { IfOk result (λ contents. Shows self.now.window (things_items self.now.shelf.now old.now) (things_items self.now.shelf.now contents)) }
+        requires boxed { All (IsBoxed self.now.shelf.now) old.now }
+        ensures boxed { IfOk result (All (IsBoxed self.now.shelf.now)) }
+        ensures shows { IfOk result (λ contents. Shows self.now.window (things_items self.now.shelf.now old.now) (things_items self.now.shelf.now contents)) }
     {
         let passed = self.fit(alloc, old)?;
         let Passed { things, is_open } = passed;
@@ -144,7 +148,8 @@ impl Contents {
     /// Want of memory.
     pub fn top(alloc: Global, shelf: &Shelf) -> Result<Option<Contents>, AllocError>
         requires { 0 < length shelf.now }
-        ensures { IfOk result (λ o. IfSome o (λ things. things_items shelf.now things ≡ flat shelf.now 0)) }
+        ensures boxed { IfOk result (λ o. IfSome o (All (IsBoxed shelf.now))) }
+        ensures shown { IfOk result (λ o. IfSome o (λ things. things_items shelf.now things ≡ flat shelf.now 0)) }
     {
         let window = Box2 {
             x0: 0,
@@ -181,7 +186,9 @@ impl Contents {
         shelf: &Shelf,
         part: &Part,
     ) -> Result<Option<Contents>, AllocError>
-        requires { 0 < length shelf.now }
+        requires shelf { 0 < length shelf.now }
+        requires boxed { All (IsBoxed shelf.now) self.now }
+        ensures boxed { IfOk result (λ o. IfSome o (All (IsBoxed shelf.now))) }
         ensures whole { IfOk result (λ o. IfSome o (λ things. AreWhole part.now.window (things_items shelf.now self.now) (things_items shelf.now things))) }
         ensures sound { IfOk result (λ o. IfSome o (λ things. AreSound (things_items shelf.now self.now) (things_items shelf.now things))) }
     {

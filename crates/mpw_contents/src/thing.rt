@@ -1,6 +1,6 @@
 //! What contents are a list of. All coordinates are those of the submission's top, in nm.
 
-use mpw_geom::{Placing, Point};
+use mpw_geom::{Box2, Placing, Point};
 
 /// A shape, placed.
 #[derive(Clone, Copy)]
@@ -11,6 +11,9 @@ pub struct Shape {
     pub element: usize,
     /// From the structure's coordinates to those of the top.
     pub placing: Placing,
+    /// Its box: a window that this misses the shape misses too. None where its coordinates are too large to be placed, so that
+    /// any window may meet it.
+    pub area: Option<Box2>,
 }
 
 /// Instances of a structure in columns and rows. One alone is an array of one column and one row.

@@ -78,7 +78,7 @@ pub(crate) fn span_of(b: &Box2, are_rows: bool) -> Span {
 }
 
 /// A box as it is seen along an axis.
-fn seen_box(axis: Axis, b: Box2) -> Box2 {
+pub(crate) fn seen_box(axis: Axis, b: Box2) -> Box2 {
     match axis {
         Axis::V => b,
         Axis::H => Box2 {

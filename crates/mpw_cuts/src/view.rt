@@ -1,16 +1,10 @@
 //! The things of a layout as a core sees them.
 
-ghost use Rattle.std.specs.Prelude.{IfSome};
-ghost use Rattle.mpw_structures.specs.Element.{IsElement};
-ghost use Rattle.mpw_structures.specs.Library.{IsLibrary};
-ghost use Rattle.mpw_hier.specs.Nodes.{AreNodes, AreNodesOf};
-
 use crate::cutting::Core;
-use crate::room::{Room, Span, seen_step, seen_where_placed, span_of};
+use crate::room::{Room, Span, seen_box, seen_step, seen_where_placed, span_of};
 use mpw_contents::{Array, Shape, Thing};
 use mpw_geom::{Box2, Point};
-use mpw_hier::{Node, Shelf, element_box};
-use mpw_structures::{Element, Structure};
+use mpw_hier::{Node, Shelf};
 
 /// No step.
 const STILL: Point = Point { x: 0, y: 0 };
@@ -21,16 +15,6 @@ pub(crate) struct View<'a> {
     /// The core.
     pub core: Core,
     nodes: &'a [Node],
-    shelf: &'a Shelf,
-}
-
-/// The structures of the first submission of a shelf.
-fn structures_of(shelf: &Shelf) -> Option<&[Structure]>
-    ensures { IfSome result (λ structures. IsLibrary structures.now) }
-{
-    let _nodes = shelf.nodes(0)?;
-    let submission = shelf.get(0)?;
-    Some(submission.library.structures())
 }
 
 impl<'a> View<'a> {
@@ -39,7 +23,6 @@ impl<'a> View<'a> {
         Some(View {
             core: *core,
             nodes: shelf.nodes(0)?,
-            shelf,
         })
     }
 
@@ -63,20 +46,10 @@ impl<'a> View<'a> {
         self.nodes.get(array.node).map_or(0, |node| node.size.count)
     }
 
-    /// The element of a shape.
-    fn element(&self, shape: &Shape) -> Option<&'a Element>
-        ensures { IfSome result (λ e. IsElement e.now) }
-    {
-        let structure = structures_of(self.shelf)?.get(shape.structure)?;
-        structure.elements.as_slice().get(shape.element)
-    }
-
     /// Where a shape stands.
     fn shape_room(&self, shape: &Shape) -> Option<Room> {
-        let element = self.element(shape)?;
-        let first = seen_where_placed(self.core.axis, shape.placing, element_box(element)?)?;
         Some(Room {
-            first,
+            first: seen_box(self.core.axis, shape.area?),
             columns: 1,
             rows: 1,
             column_step: STILL,

@@ -12,7 +12,7 @@ use Rattle.mpw_contents.specs.declared.layout.Layout.{Layout}
 use Rattle.mpw_contents.specs.declared.thing.Array.{Array}
 use Rattle.mpw_contents.specs.declared.thing.Thing.{Thing}
 use Rattle.mpw_contents.specs.declared.thing.Thing.TheVariants as things
-use Rattle.mpw_contents.specs.Contents.{AreWhole, AreSound}
+use Rattle.mpw_contents.specs.Contents.{AreWhole, AreSound, IsBoxed}
 use Rattle.mpw_contents.specs.Things.{things_items}
 
 -- The nodes and the structures of the first submission of a shelf.
@@ -63,4 +63,5 @@ pub record Adds (l : Layout) (items : List Item) (old new : List Thing) : Type 0
   pub made : List Thing
   pub is : new ≡ old ++ made
   pub are : All (IsThing l.nodes.now) made
+  pub boxed : All (IsBoxed l.shelf.now) made
   pub shows : Shows l.window items (things_items l.shelf.now made)

@@ -4,14 +4,14 @@ use Rattle.mpw_geom.specs.declared.plane.Point.{Point}
 use Rattle.std.specs.Prelude.{IsTrue}
 use Rattle.std.proofs.lemmas.Bool.Decides.{nat_tests}
 use Rattle.mpw_contents.specs.declared.thing.Thing.{Thing}
-use Rattle.mpw_contents.specs.Displaced.{moved_thing, AreMoved}
+use Rattle.mpw_contents.specs.Displaced.{bare, moved_thing, AreMoved}
 use Rattle.mpw_contents.proofs.Moved.{shown_moved, first_tells}
 use Rattle.mpw_contents.proofs.displaced.displacement.Goals as goal
 
 none_moved : (d : Point) (a b from to : List Thing) → from ≡ a → to ≡ b → length from ≡ 0
     → length to ≡ 0 → AreMoved d a b
 none_moved d a b from to e f none nothing =
-    sym f ∙ nil_from_length to nothing
+    ap (map bare) (sym f ∙ nil_from_length to nothing)
     ∙ ap (map (moved_thing d)) (sym (nil_from_length from none) ∙ e)
 
 pub returns-then-is_empty-clause-shown : goal.returns-then-is_empty-clause-shown

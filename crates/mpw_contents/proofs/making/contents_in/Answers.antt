@@ -7,4 +7,4 @@ use Rattle.mpw_contents.proofs.making.contents_in.Goals as goal
 pub returns-in-Ok-clause-sound : goal.returns-in-Ok-clause-sound
 returns-in-Ok-clause-sound c =
     subst (λ ss. AreSound (flat ss 0) (things_items ss c.in-Ok.contents)) c.of-layout.ensures.shelf
-    c.in-Ok.ensures.sound
+    c.in-Ok.ensures.shows.sound

@@ -8,4 +8,4 @@ returns-in-Ok-clause-sound c =
     let new = c.in-Ok.contents in
     subst (λ ts. AreSound (things_items c.args.shelf.now ts) (things_items c.args.shelf.now new))
     c.things.ensures.things (subst (λ ss. AreSound (things_items ss c.things.result.now)
-    (things_items ss new)) c.of-layout.ensures.shelf c.in-Ok.ensures.sound)
+    (things_items ss new)) c.of-layout.ensures.shelf c.in-Ok.ensures.shows.sound)

@@ -5,10 +5,10 @@ use Rattle.mpw_contents.proofs.Adding.{adds_all, adds_again, adds_shows}
 use Rattle.mpw_contents.proofs.layout.Layout.finish.Goals as goal
 
 pub loop-init : goal.loop-init
-loop-init c = adds_all c.args.self.now c.args.from.items c.requires.things
+loop-init c = adds_all c.args.self.now c.args.from.items c.requires.things c.requires.boxed
 
-pub returns-then-not-is_open : goal.returns-then-not-is_open
-returns-then-not-is_open c =
+pub returns-then-not-is_open-clause-shows : goal.returns-then-not-is_open-clause-shows
+returns-then-not-is_open-clause-shows c =
     let l = c.args.self.now in
     let all = things_items l.shelf.now c.args.from.items in
     let new = c.in_ok-passed.passed.things.items in

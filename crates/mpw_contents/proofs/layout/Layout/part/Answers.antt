@@ -3,8 +3,8 @@ use Rattle.mpw_contents.specs.Things.{things_items}
 use Rattle.mpw_contents.proofs.Adding.{adds_shows, shows_again}
 use Rattle.mpw_contents.proofs.layout.Layout.part.Goals as goal
 
-pub returns-then-is_open : goal.returns-then-is_open
-returns-then-is_open c =
+pub returns-then-is_open-clause-shows : goal.returns-then-is_open-clause-shows
+returns-then-is_open-clause-shows c =
     let l = c.args.self.now in
     let ss = l.shelf.now in
     let old = things_items ss c.args.old.now in
@@ -12,4 +12,4 @@ returns-then-is_open c =
     IfOk-weaker c.finish.result _ _
     (λ contents h. shows_again l.window old (things_items ss first)
     (things_items ss contents) (adds_shows l old first c.in_ok-passed.ensures) h)
-    c.finish.ensures
+    c.finish.ensures.shows

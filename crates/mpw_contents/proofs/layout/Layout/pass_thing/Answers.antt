@@ -8,5 +8,5 @@ returns-in_ok-push-in-Shape c =
     let l = c.args.self.now in
     let shown = thing_items l.shelf.now c.args.thing in
     adds_one l shown c.args.things.now.items c.push.new.things.items c.args.thing
-    c.in_ok-push-in-Shape.ensures c.requires.thing
+    c.in_ok-push-in-Shape.ensures c.requires.thing c.requires.boxed
     (shows_same l.window shown shown refl)
