@@ -39,7 +39,7 @@ pub solved_new : (l : Layout) (axis : Axis) (core : Box2) (things : List Thing) 
 solved_new l axis core things keys s is e f g are p =
     let rules = l.snapshot.now.deck.rules in
     let told = pieces_agree rules l.layers.now l.distance axis (seen_layout l axis)
-    (seen_things l axis things) core keys is.look are p in
+    (seen_things l axis things) core keys is.look are.shows p in
     subst (λ (ks : List Key). ArePieces rules axis (seen_things l axis s.things) s.core ks) (sym g)
     (subst (λ (b : Box2). ArePieces rules axis (seen_things l axis s.things) b keys) (sym e)
     (subst (λ (ts : List Thing). ArePieces rules axis (seen_things l axis ts) core keys) (sym f) told))
@@ -74,7 +74,7 @@ solved_moved l axis s core things d way keys slice is h same w at are e f =
     (subst (λ (b : Box2). ArePieces rules axis on b (map (moved_key (seen_way axis d)) s.keys.items))
     (sym whole) there) in
     pieces_agree rules l.layers.now l.distance axis on (seen_layout l axis) core keys is.look
-    (agree_back l.layers.now (across core (l.distance + 1)) (seen_layout l axis) on are) told
+    (agree_back l.layers.now (across core (l.distance + 1)) (seen_layout l axis) on are.shows) told
 
 -- ---- a cut
 

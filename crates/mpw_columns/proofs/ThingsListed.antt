@@ -1,6 +1,6 @@
 -- The rectangles of things.
 use Rattle.std.proofs.Common.{◌≡◌, ◌∙◌, ℕ, ◌+◌, ◌<◌, ◌≤◌, ◌^◌, List, [], ◌∷◌, ◌++◌, take, get_or, length, Option, Some, None, Result, Ok, Err, refl, sym, subst, ap, arith, IfOk, IfSome}
-use Rattle.std.specs.Prelude.{Contains, option_copied}
+use Rattle.std.specs.Prelude.{All, Contains, option_copied}
 use Rattle.std.specs.Borrow.{Bor}
 use Rattle.std.proofs.lemmas.List.{append-nil, take_more}
 use Rattle.std.proofs.lemmas.List.Concat.{flat_map-append}
@@ -15,7 +15,7 @@ use Rattle.mpw_structures.specs.declared.element.Element.{Element}
 use Rattle.mpw_hier.specs.declared.submission.Submission.{Submission}
 use Rattle.mpw_hier.specs.Items.{Item}
 use Rattle.mpw_contents.specs.declared.thing.Thing.{Thing}
-use Rattle.mpw_contents.specs.Contents.{AreWhole, AreSound, IsOn}
+use Rattle.mpw_contents.specs.Contents.{AreWhole, AreSound, IsBoxed, IsOn}
 use Rattle.mpw_contents.specs.declared.thing.Shape.{Shape}
 use Rattle.mpw_contents.specs.declared.thing.Thing.TheVariants as variants
 use Rattle.mpw_contents.specs.Things.{drawn, element_in, thing_items, things_items}
@@ -47,16 +47,17 @@ of_some {X = X} {E = E} r o x P e f h = subst (λ (p : Option X). IfSome p P) f 
 pub part_told : {E : Type 0} → SquaresLieInBoxes → (l : Layout) (axis : Axis) (core window : Box2)
     (things : List Thing) (shelf : List Submission) (r : Result (Option (List Thing)) E)
     → MeetsSquaresOf (seen_box axis (across core (l.distance + 1))) window → shelf ≡ l.snapshot.now.shelf
-    → AreThingsIn l axis core things
+    → AreThingsIn l axis core things → IfOk r (λ o. IfSome o (All (IsBoxed shelf)))
     → IfOk r (λ o. IfSome o (λ part. AreWhole window (things_items shelf things) (things_items shelf part)))
     → IfOk r (λ o. IfSome o (λ part. AreSound (things_items shelf things) (things_items shelf part)))
     → IfOk r (λ o. IfSome o (AreThingsIn l axis core))
-part_told law l axis core window things shelf (Err e) w s are whole sound = tt
-part_told law l axis core window things shelf (Ok None) w s are whole sound = tt
-part_told law l axis core window things shelf (Ok (Some part)) w s are whole sound =
+part_told law l axis core window things shelf (Err e) w s are boxed whole sound = tt
+part_told law l axis core window things shelf (Ok None) w s are boxed whole sound = tt
+part_told law l axis core window things shelf (Ok (Some part)) w s are boxed whole sound =
     things_within law l axis core window things part w
     (subst (λ (ss : List Submission). AreWhole window (things_items ss things) (things_items ss part)) s whole)
     (subst (λ (ss : List Submission). AreSound (things_items ss things) (things_items ss part)) s sound)
+    (subst (λ (ss : List Submission). All (IsBoxed ss) part) s boxed)
     are
 
 -- ---- things that are listed
@@ -146,7 +147,7 @@ pub rectangles_told : (l : Layout) (axis : Axis) (core window : Box2) (things : 
     → listed_on made ≡ listed_on parts → AreRectanglesIn l axis core made
 rectangles_told l axis core window things listed slice parts made short u are show same w agree last
     layer c i j f g low high =
-    are layer c i j f g low high
+    are.shows layer c i j f g low high
     ∙ things_agree l.layers.now axis (things_items l.snapshot.now.shelf things) listed core
     (l.distance + 1) u (omega (arith, short)) show layer c i j f g low high
     ∙ ap (λ (rs : List Rectangle). listed_on rs layer i j) (sym same)
@@ -157,25 +158,32 @@ rectangles_told l axis core window things listed slice parts made short u are sh
 
 -- what shows the layout shows it in any window
 top_shows : (l : Layout) (axis : Axis) (core : Box2) (top : List Thing)
+    → All (IsBoxed l.snapshot.now.shelf) top
     → things_items l.snapshot.now.shelf top ≡ shown l.snapshot.now → AreThingsIn l axis core top
-top_shows l axis core top e layer c i j f g low high =
-    ap (λ (items : List Item). seen_on axis (shown_on items) layer i j) (sym e)
+top_shows l axis core top boxed e = record {
+  shows = λ layer c i j f g low high.
+      ap (λ (items : List Item). seen_on axis (shown_on items) layer i j) (sym e);
+  boxed = boxed;
+}
 
 -- the things of the layout, made of the top: what meets a window, on the layers
 pub all_told : {E : Type 0} → SquaresLieInBoxes → (l : Layout) (axis : Axis) (core window : Box2)
     (top all on : List Thing) (shelf : List Submission) (r : Result (Option (List Thing)) E)
     (o : Option (List Thing)) → r ≡ Ok o → o ≡ Some all
     → MeetsSquaresOf (seen_box axis (across core (l.distance + 1))) window
-    → shelf ≡ l.snapshot.now.shelf → things_items l.snapshot.now.shelf top ≡ shown l.snapshot.now
+    → shelf ≡ l.snapshot.now.shelf → All (IsBoxed l.snapshot.now.shelf) top
+    → things_items l.snapshot.now.shelf top ≡ shown l.snapshot.now
+    → IfOk r (λ p. IfSome p (All (IsBoxed shelf)))
     → IfOk r (λ p. IfSome p (λ part. AreWhole window (things_items shelf top) (things_items shelf part)))
     → IfOk r (λ p. IfSome p (λ part. AreSound (things_items shelf top) (things_items shelf part)))
     → ((i : Item) → Contains (things_items shelf all) i → IsOn l.layers.now i.element
     → Contains (things_items shelf on) i) → AreSound (things_items shelf all) (things_items shelf on)
-    → AreThingsIn l axis core on
-all_told law l axis core window top all on shelf r o e f meets s shows whole sound kept own =
+    → (All (IsBoxed shelf) all → All (IsBoxed shelf) on) → AreThingsIn l axis core on
+all_told law l axis core window top all on shelf r o e f meets s first shows boxed whole sound kept own stay =
     things_on l axis core all on
     (subst (λ (ss : List Submission). (i : Item) → Contains (things_items ss all) i
     → IsOn l.layers.now i.element → Contains (things_items ss on) i) s kept)
     (subst (λ (ss : List Submission). AreSound (things_items ss all) (things_items ss on)) s own)
+    (subst (λ (ss : List Submission). All (IsBoxed ss) all → All (IsBoxed ss) on) s stay)
     (of_some r o all (AreThingsIn l axis core) e f
-    (part_told law l axis core window top shelf r meets s (top_shows l axis core top shows) whole sound))
+    (part_told law l axis core window top shelf r meets s (top_shows l axis core top first shows) boxed whole sound))

@@ -1,6 +1,6 @@
 -- What parts of things show, and what things show that are moved.
 use Rattle.std.proofs.Common.{◌≡◌, ◌∙◌, ◌+◌, ℤ, ◌+ℤ◌, ◌≤ℤ◌, ◌<ℤ◌, List, map, Some, refl, sym, subst, ap, arith}
-use Rattle.std.specs.Prelude.{Contains}
+use Rattle.std.specs.Prelude.{All, Contains}
 use Rattle.std.proofs.lemmas.Int.{ints}
 use Rattle.mpw_geom.specs.declared.plane.Box2.{Box2}
 use Rattle.mpw_geom.specs.declared.plane.Layer.{Layer}
@@ -19,7 +19,7 @@ use Rattle.mpw_job.proofs.Shapes.{tests_tell}
 use Rattle.mpw_keys.specs.declared.column.Column.{Column}
 use Rattle.mpw_keys.specs.Columns.{seen_box, across, upright}
 use Rattle.mpw_contents.specs.declared.thing.Thing.{Thing}
-use Rattle.mpw_contents.specs.Contents.{AreWhole, AreSound, IsOn}
+use Rattle.mpw_contents.specs.Contents.{AreWhole, AreSound, IsBoxed, IsOn}
 use Rattle.mpw_contents.specs.Displaced.{moved}
 use Rattle.mpw_contents.specs.Things.{things_items}
 use Rattle.mpw_columns.specs.Seen.{seen_on}
@@ -51,22 +51,29 @@ shows_seen law H window met all shown meets whole sound layer i j l r low high =
 -- what shows in a core's window what the layout does, in the window of a core inside it does so too
 pub things_inside : (l : Layout) (axis : Axis) (core outer : Box2) (things : List Thing)
     → IsInside core outer → AreThingsIn l axis outer things → AreThingsIn l axis core things
-things_inside l axis core outer things inside are layer c i j f g low high =
+things_inside l axis core outer things inside are =
     let left = inside.left in let right = inside.right in
-    let bottom = inside.bottom in let top = inside.top in
-    are layer c i j (omega (arith, ints, left, f)) (omega (arith, ints, right, g))
-    (omega (arith, ints, bottom, low)) (omega (arith, ints, top, high))
+    let bottom = inside.bottom in let top = inside.top in record {
+      shows = λ layer c i j f g low high.
+          are.shows layer c i j (omega (arith, ints, left, f)) (omega (arith, ints, right, g))
+          (omega (arith, ints, bottom, low)) (omega (arith, ints, top, high));
+      boxed = are.boxed;
+    }
 
 pub things_within : SquaresLieInBoxes → (l : Layout) (axis : Axis) (core window : Box2)
     (things part : List Thing) → MeetsSquaresOf (seen_box axis (across core (l.distance + 1))) window
     → AreWhole window (things_items l.snapshot.now.shelf things) (things_items l.snapshot.now.shelf part)
     → AreSound (things_items l.snapshot.now.shelf things) (things_items l.snapshot.now.shelf part)
-    → AreThingsIn l axis core things → AreThingsIn l axis core part
-things_within law l axis core window things part meets whole sound are layer c i j f g low high =
-    are layer c i j f g low high
-    ∙ shows_seen law axis (across core (l.distance + 1)) window
-    (things_items l.snapshot.now.shelf things) (things_items l.snapshot.now.shelf part) meets whole
-    sound layer i j f g low high
+    → All (IsBoxed l.snapshot.now.shelf) part → AreThingsIn l axis core things
+    → AreThingsIn l axis core part
+things_within law l axis core window things part meets whole sound boxed are = record {
+  shows = λ layer c i j f g low high.
+      are.shows layer c i j f g low high
+      ∙ shows_seen law axis (across core (l.distance + 1)) window
+      (things_items l.snapshot.now.shelf things) (things_items l.snapshot.now.shelf part) meets whole
+      sound layer i j f g low high;
+  boxed = boxed;
+}
 
 -- ---- layers
 
@@ -99,11 +106,15 @@ pub things_on : (l : Layout) (axis : Axis) (core : Box2) (things part : List Thi
     → ((i : Item) → Contains (things_items l.snapshot.now.shelf things) i → IsOn l.layers.now i.element
     → Contains (things_items l.snapshot.now.shelf part) i)
     → AreSound (things_items l.snapshot.now.shelf things) (things_items l.snapshot.now.shelf part)
+    → (All (IsBoxed l.snapshot.now.shelf) things → All (IsBoxed l.snapshot.now.shelf) part)
     → AreThingsIn l axis core things → AreThingsIn l axis core part
-things_on l axis core things part kept sound are layer c i j f g low high =
-    are layer c i j f g low high
-    ∙ layer_seen axis l.layers.now (things_items l.snapshot.now.shelf things)
-    (things_items l.snapshot.now.shelf part) kept sound layer c i j
+things_on l axis core things part kept sound boxed are = record {
+  shows = λ layer c i j f g low high.
+      are.shows layer c i j f g low high
+      ∙ layer_seen axis l.layers.now (things_items l.snapshot.now.shelf things)
+      (things_items l.snapshot.now.shelf part) kept sound layer c i j;
+  boxed = boxed are.boxed;
+}
 
 -- ---- moved
 

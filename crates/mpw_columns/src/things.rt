@@ -3,9 +3,10 @@
 //! Where the layout places few structures often, such a list is far shorter than that of the rectangles; a part of the core has a part of the
 //! list, made from it and not from the layout.
 
-ghost use Rattle.std.specs.Prelude.{◌≡◌, ◌+◌, ◌++◌, ◌∷◌, ◌≤ℤ◌, [], List, IfOk, IfSome, IsTrue, OnOk};
+ghost use Rattle.std.specs.Prelude.{◌≡◌, ◌+◌, ◌++◌, ◌∷◌, ◌≤ℤ◌, [], List, All, IfOk, IfSome, IsTrue, OnOk};
 ghost use Rattle.mpw_hier.specs.Items.{Item};
 ghost use Rattle.mpw_walk.specs.Roots.{root_at_origin};
+ghost use Rattle.mpw_contents.specs.Contents.{IsBoxed};
 ghost use Rattle.mpw_contents.specs.Things.{drawn, element_in, things_items};
 ghost use Rattle.mpw_tiles.specs.Snapshots.{shown};
 ghost use Rattle.mpw_edges.specs.declared.run.Axis.TheVariants.{V, H};
@@ -157,7 +158,8 @@ pub(crate) fn things_in(
 fn top_thing(alloc: Global, layout: &Layout<'_>) -> Result<Option<Contents>, AllocError>
     requires layout { IsLayout layout.now }
     requires alone { layout.now.snapshot.now.roots ≡ root_at_origin 0 ∷ [] }
-    ensures { IfOk result (λ o. IfSome o (λ things. things_items layout.now.snapshot.now.shelf things ≡ shown layout.now.snapshot.now)) }
+    ensures boxed { IfOk result (λ o. IfSome o (All (IsBoxed layout.now.snapshot.now.shelf))) }
+    ensures shown { IfOk result (λ o. IfSome o (λ things. things_items layout.now.snapshot.now.shelf things ≡ shown layout.now.snapshot.now)) }
 {
     roots_at_origin_show_their_submission();
     Contents::top(alloc, layout.snapshot.shelf())

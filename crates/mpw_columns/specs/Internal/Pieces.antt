@@ -9,6 +9,7 @@ use Rattle.mpw_edges.specs.declared.run.Axis.TheVariants.{V, H}
 use Rattle.mpw_edges.specs.Pieces.{HasVerticalStep}
 use Rattle.mpw_walk.specs.Window.{do_meet}
 use Rattle.mpw_contents.specs.declared.thing.Thing.{Thing}
+use Rattle.mpw_contents.specs.Contents.{IsBoxed}
 use Rattle.mpw_contents.specs.Things.{things_items}
 use Rattle.mpw_tiles.specs.Snapshots.{shown}
 use Rattle.mpw_tiles.specs.declared.listing.Rectangle.{Rectangle}
@@ -129,10 +130,10 @@ abbrev pub MeetsSquaresOf : (window met : Box2) → Type 0
 MeetsSquaresOf window met = (b : Box2) (s : Square) → has_square window s ≡ true
     → has_square b s ≡ true → do_meet b met ≡ true
 
--- The things show in the core's window, on the layers of the rules, just what the layout does.
-abbrev pub AreThingsIn : Layout → Axis → Box2 → List Thing → Type 0
-AreThingsIn l axis core things =
-    AgreeIn l.layers.now (across core (l.distance + 1)) (seen_layout l axis) (seen_things l axis things)
+-- The things show in the core's window, on the layers of the rules, just what the layout does, and the areas of shapes are their boxes.
+pub record AreThingsIn (l : Layout) (axis : Axis) (core : Box2) (things : List Thing) : Type 0 where
+  pub shows : AgreeIn l.layers.now (across core (l.distance + 1)) (seen_layout l axis) (seen_things l axis things)
+  pub boxed : All (IsBoxed l.snapshot.now.shelf) things
 
 -- The keys are pieces of what the layout has in the core.
 abbrev pub AreLayoutPieces : Layout → Axis → Box2 → List Key → Type 0

@@ -1,6 +1,8 @@
 use Rattle.std.proofs.Common.{◌≡◌, ◌∙◌, ap, sym, subst, IfSome}
+use Rattle.std.specs.Prelude.{All}
 use Rattle.mpw_geom.specs.declared.plane.Box2.{Box2}
 use Rattle.mpw_edges.specs.declared.run.Axis.TheVariants.{V, H}
+use Rattle.mpw_contents.specs.Contents.{IsBoxed}
 use Rattle.mpw_contents.specs.Things.{things_items}
 use Rattle.mpw_tiles.specs.Snapshots.{shown}
 use Rattle.mpw_keys.specs.Columns.{seen_box}
@@ -16,7 +18,9 @@ returns c =
     let high = c.seen_box-high.result in
     let both = c.join.result in
     let shows = subst (λ o. IfSome o (λ things. things_items l.snapshot.now.shelf things ≡ shown l.snapshot.now))
-    c.in-Some.is c.in_ok-top.ensures in
+    c.in-Some.is c.in_ok-top.ensures.shown in
+    let boxed = subst (λ o. IfSome o (All (IsBoxed l.snapshot.now.shelf))) c.in-Some.is
+    c.in_ok-top.ensures.boxed in
     let first = subst (λ (b : Box2). MeetsSquaresOf b both) c.window_of-wide.ensures
     (subst (MeetsSquaresOf wide) (sym c.join.ensures) (meets_first wide high)) in
     let second = subst (λ (b : Box2). MeetsSquaresOf b both)
@@ -24,12 +28,12 @@ returns c =
     (subst (MeetsSquaresOf high) (sym c.join.ensures) (meets_second wide high)) in (
       all_told c.squares_lie_in_boxes.ensures.boxes l V c.args.upright.now both c.in-Some.top
           c.in-Some-2.all c.in_ok-on_layers.on_layers c.shelf-shelf.result.now c.within.result
-          c.in_ok-all.field-0 c.in_ok-all.was c.in-Some-2.is first c.shelf-shelf.ensures shows
-          c.within.ensures.whole c.within.ensures.sound c.in_ok-on_layers.ensures.kept
-          c.in_ok-on_layers.ensures.sound,
+          c.in_ok-all.field-0 c.in_ok-all.was c.in-Some-2.is first c.shelf-shelf.ensures boxed shows
+          c.within.ensures.boxed c.within.ensures.whole c.within.ensures.sound c.in_ok-on_layers.ensures.kept
+          c.in_ok-on_layers.ensures.sound c.in_ok-on_layers.ensures.boxed,
       all_told c.squares_lie_in_boxes.ensures.boxes l H c.args.lying.now both c.in-Some.top
           c.in-Some-2.all c.in_ok-on_layers.on_layers c.shelf-shelf.result.now c.within.result
-          c.in_ok-all.field-0 c.in_ok-all.was c.in-Some-2.is second c.shelf-shelf.ensures shows
-          c.within.ensures.whole c.within.ensures.sound c.in_ok-on_layers.ensures.kept
-          c.in_ok-on_layers.ensures.sound,
+          c.in_ok-all.field-0 c.in_ok-all.was c.in-Some-2.is second c.shelf-shelf.ensures boxed shows
+          c.within.ensures.boxed c.within.ensures.whole c.within.ensures.sound c.in_ok-on_layers.ensures.kept
+          c.in_ok-on_layers.ensures.sound c.in_ok-on_layers.ensures.boxed,
     )

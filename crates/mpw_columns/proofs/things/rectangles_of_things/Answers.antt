@@ -14,7 +14,7 @@ returns c =
     (AreThingsIn l axis c.args.core.now) c.in_ok-shapes.was c.in-Some.is
     (part_told c.squares_lie_in_boxes.ensures.boxes l axis c.args.core.now c.window.result
     c.args.things.now c.shelf.result.now c.within.result c.window.ensures c.shelf.ensures
-    c.requires.things c.within.ensures.whole c.within.ensures.sound) in
+    c.requires.things c.within.ensures.boxed c.within.ensures.whole c.within.ensures.sound) in
     rectangles_told l axis c.args.core.now c.window_of.result c.in-Some.shapes
     c.in-Some-2.listed.items c.as_slice.result.now c.in_ok-parts.parts.items c.by_layer.result.items
     c.requires.layout.short c.requires.upright told
