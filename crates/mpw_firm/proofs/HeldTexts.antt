@@ -1,9 +1,9 @@
 -- What is told of the markers that are held is what is told of all, where those are enough.
-use Rattle.std.proofs.Common.{◌≡◌, ◌∙◌, ℕ, Bool, true, false, List, [], ◌∷◌, Option, None, Some, length, refl, sym, ap, subst}
+use Rattle.std.proofs.Common.{◌≡◌, ◌∙◌, ℕ, Bool, true, false, List, [], ◌∷◌, Option, None, Some, length, refl, ap, subst}
 use Rattle.mpw_asked.specs.declared.picture_options.Wanted.{Wanted}
 use Rattle.mpw_firm.specs.Came.{listing_texts, report_texts}
 use Rattle.mpw_firm.specs.Held.{AreHeld, IsFoundOf, IsOfBook, enough_listed, enough_with}
-use Rattle.mpw_firm.specs.Shown.{content_of, content_with, held_content, held_listing, held_printed, held_report, limited_of, listing_by, listing_text, markers_of, printed_text, shown_of}
+use Rattle.mpw_firm.specs.Shown.{content_of, content_with, held_listing, held_printed, held_report, limited_of, listing_by, listing_text, markers_of, printed_text, shown_of}
 use Rattle.mpw_firm.specs.declared.checked.Checked.{Checked}
 use Rattle.mpw_firm.specs.declared.found.Findings.{Findings}
 use Rattle.mpw_firm.specs.declared.found.Held.{Held}
@@ -12,8 +12,7 @@ use Rattle.mpw_limits.specs.Limits.{FirstMarkersAreListed, limited_text}
 use Rattle.mpw_markers.specs.declared.marker.Marker.{Marker}
 use Rattle.mpw_outputs.specs.Counted.{counts_text, rule_counts}
 use Rattle.mpw_outputs.specs.Listed.{listed_text}
-use Rattle.mpw_outputs.specs.Outputs.{Kept, in_file, on_output}
-use Rattle.mpw_report.specs.Content.{AgreeFirst}
+use Rattle.mpw_outputs.specs.Outputs.{in_file, on_output}
 use Rattle.mpw_report.specs.Report.{FirstMarkersHaveTheItems, full_text}
 
 -- Where all are wanted, all are held.

@@ -13,7 +13,6 @@ use Rattle.mpw_report.specs.Content.{Noted}
 use Rattle.mpw_report.specs.Report.{full_text}
 use Rattle.mpw_spread.specs.Spread.{IsPartOf}
 use Rattle.mpw_spread.specs.declared.range.ColumnRange.{ColumnRange}
-use Rattle.mpw_tiles.specs.Snapshots.{Snapshot}
 use Rattle.mpw_asked.specs.Commands.{IsOfWord, telling_of}
 use Rattle.mpw_firm.specs.Drawings.{AreFlatOf, IsReadBy, IsReadFrom, IsTopOf}
 use Rattle.mpw_firm.specs.Keys.{IsViewOf}

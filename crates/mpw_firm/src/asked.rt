@@ -1,5 +1,5 @@
 //! A check of a whole layout, done.
-ghost use Rattle.std.specs.Prelude.{◌≡◌, List, IfOk};
+ghost use Rattle.std.specs.Prelude.{List, IfOk};
 ghost use Rattle.mpw_firm.specs.Came.{IsChecked, PutsAll};
 ghost use Rattle.mpw_firm.specs.Held.{enough_for, IsOfBook};
 ghost use Rattle.mpw_firm.specs.Shown.{shown_of};

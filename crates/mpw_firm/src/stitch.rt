@@ -1,11 +1,9 @@
 //! Parts stitched, and the markers of the whole.
-ghost use Rattle.std.specs.Prelude.{◌≡◌, List, Some, IfOk, IfErr, map, option_map};
-ghost use Rattle.std.specs.String.{string_bytes};
-ghost use Rattle.mpw_report.specs.Content.{note_of};
+ghost use Rattle.std.specs.Prelude.{◌≡◌, List, Some, IfOk, IfErr};
 ghost use Rattle.mpw_parts.specs.Parts.{Found};
 ghost use Rattle.mpw_parts.specs.Reading.{part_of};
-ghost use Rattle.mpw_firm.specs.Came.{IsStitched, listing_texts, shown_with};
-ghost use Rattle.mpw_outputs.specs.Outputs.{AreApart, Grows};
+ghost use Rattle.mpw_firm.specs.Came.{IsStitched};
+ghost use Rattle.mpw_outputs.specs.Outputs.{AreApart};
 ghost use Rattle.mpw_firm.specs.Stitched.{IsOfFile, IsWholeOf};
 ghost use Rattle.mpw_firm.specs.Uses.{stitch_inputs, stitch_outputs};
 
@@ -17,7 +15,6 @@ use crate::whole::{Whole, whole_of};
 use mpw_asked::StitchOptions;
 use mpw_outputs::Outputs;
 use mpw_parts::{Part, is_older_part, read_part};
-use mpw_report::Note;
 use mpw_sources::{Content, read_file, rule_notes};
 use mpw_told::{FirmFault, PartFile, no_part, older_part};
 use std::alloc::{AllocError, Global};
