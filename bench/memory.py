@@ -473,7 +473,7 @@ def try_check(task):
     ended = subprocess.run(check_words(name), capture_output=True, env=environment(shim, first, count), timeout=LIMIT)
     if (ended.returncode, ended.stdout) == (status, good):
         return "as ever"
-    if ended.returncode == 5 and good.startswith(ended.stdout) and ended.stderr.endswith(b"error: out of memory\n"):
+    if ended.returncode == 5 and good.startswith(ended.stdout) and ended.stderr.splitlines()[-1:] and ended.stderr.splitlines()[-1].startswith(b"error: out of memory: "):
         return "ended with 5"
     return f"DIFFERS: check of {name}, {count} from allocation {first} on: status {ended.returncode}, {len(ended.stdout)} bytes, {ended.stderr[-100:]!r}"
 

@@ -19,6 +19,7 @@ use mpw_asked::{Choices, Options};
 use mpw_outputs::Outputs;
 use mpw_sources::{Target, look, notes_of, tell_notes};
 use mpw_told::FirmFault;
+use rayon::current_num_threads;
 use std::alloc::Global;
 use std::thread::Threads;
 
@@ -58,7 +59,7 @@ pub fn check<O: Outputs>(
     requires apart { AreApart (O.files outputs.old) (check_inputs options.now) (check_outputs options.now) }
     ensures { IfOk result (IsChecked options.now choices.now (O.kept outputs.old) (O.kept outputs.new)) }
 {
-    let mut line = Line::new(rt);
+    let mut line = Line::new(rt, current_num_threads(threads));
     let drawn = drawn_by(rt, outputs, options, choices)?;
     let (top, layout) = (&drawn.top, &drawn.layout);
     let file = options.file.as_str();

@@ -2,7 +2,7 @@
 ghost use Rattle.std.specs.Prelude.{◌≡◌, ◌<◌, ◌≤◌, ◌+◌, ◌-◌, ◌*◌, ◌/◌};
 
 use crate::laps::{Lap, Laps};
-use crate::memory::{has_room, peak};
+use crate::memory::{has_room, peak, reckoned};
 use mpw_check::Progress;
 use mpw_tiles::Snapshot;
 use std::io::{self, IsTerminal};
@@ -13,6 +13,7 @@ use std::time::Instant;
 #[derive(Drop)]
 pub struct Line<'a> {
     rt: &'a HostRuntime,
+    threads: usize,
     is_shown: bool,
     /// Whether it has to be ended.
     is_open: bool,
@@ -36,10 +37,11 @@ fn seconds_left(taken: u64, done: usize, total: usize) -> u128
 }
 
 impl<'a> Line<'a> {
-    /// The line on the standard error. The first part of the check begins.
-    pub fn new(rt: &'a HostRuntime) -> Line<'a> {
+    /// The line on the standard error, for a check in so many threads. The first part of the check begins.
+    pub fn new(rt: &'a HostRuntime, threads: usize) -> Line<'a> {
         Line {
             rt,
+            threads,
             is_shown: rt.stderr().is_terminal(),
             is_open: false,
             by_columns: false,
@@ -112,9 +114,11 @@ impl<'a> Line<'a> {
         self.is_open = false;
     }
 
-    /// The greatest memory that the process had when the library was read, in MB of 2^20 bytes, where the system tells it.
-    pub fn read(&self) -> Option<u64> {
-        self.read
+    /// The most memory that the check of a layout is reckoned to take, of whose markers so many are held, in MB of 2^20 bytes; none where the system
+    /// doesn't tell what reading took.
+    pub fn reckoned(&self, layout: &Snapshot, held: usize) -> Option<u64> {
+        let read = self.read?;
+        Some(reckoned(layout, read, self.threads, held))
     }
 
     /// The milliseconds since the check began, if the clock can be read.

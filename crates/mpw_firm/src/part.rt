@@ -18,6 +18,7 @@ use mpw_sources::{Content, Source, Target, look, notes_of, read_file, read_libra
 use mpw_spread::{ColumnRange, Plan, check_part, columns_for_shares, subject_of};
 use mpw_tiles::Snapshot;
 use mpw_told::{FirmFault, beyond_plan};
+use rayon::current_num_threads;
 use std::alloc::{AllocError, Global};
 use std::thread::Threads;
 
@@ -95,7 +96,7 @@ pub fn check_range<O: Outputs>(
     requires apart { AreApart (O.files outputs.old) (check_inputs options.now) (check_outputs options.now) }
     ensures { IfOk result (IsPartChecked options.now range (O.kept outputs.old) (O.kept outputs.new)) }
 {
-    let mut line = Line::new(rt);
+    let mut line = Line::new(rt, current_num_threads(threads));
     let deck = read_file(rt, options.deck.as_str(), Content::Deck)?;
     let library = read_library(rt, options.file.as_str())?;
     let source = Source::new(rt.alloc(), &[], None, library)?;

@@ -5,12 +5,11 @@ ghost use Rattle.mpw_firm.specs.Counts.{count_of, has_some};
 
 use crate::checked::Checked;
 use crate::line::Line;
-use crate::memory::{peak, reckoned};
+use crate::memory::peak;
 use mpw_check::checked_tiles;
 use mpw_keys::ColumnKeys;
 use mpw_parts::Part;
 use mpw_tiles::Snapshot;
-use rayon::current_num_threads;
 use std::io;
 
 /// The most shapes of a submission to a desk.
@@ -39,9 +38,8 @@ fn tell_taken(rt: &HostRuntime, taken: Option<u64>) -> io::Result<()> {
 
 /// Ends a line with the memory that a check was reckoned to take, where the system told what reading took.
 fn tell_reckoned(rt: &HostRuntime, checked: &Checked<'_>, line: &Line<'_>) -> io::Result<()> {
-    if let Some(read) = line.read() {
-        let held = checked.found.markers().len();
-        let most = reckoned(checked.layout, read, current_num_threads(rt), held);
+    let held = checked.found.markers().len();
+    if let Some(most) = line.reckoned(checked.layout, held) {
         eprint!(rt; " of {most} MB reckoned")?;
     }
     eprintln!(rt; "")
