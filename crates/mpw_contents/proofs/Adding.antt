@@ -12,11 +12,9 @@ use Rattle.mpw_hier.specs.Boxes.{element_box, placed_box, item_box}
 use Rattle.mpw_hier.specs.Items.{Item}
 use Rattle.mpw_walk.specs.Window.{do_meet, is_met}
 use Rattle.mpw_contents.specs.declared.layout.Layout.{Layout}
-use Rattle.mpw_contents.specs.declared.thing.Shape.{Shape}
 use Rattle.mpw_contents.specs.declared.thing.Thing.{Thing}
-use Rattle.mpw_contents.specs.declared.thing.Thing.TheVariants as things
 use Rattle.mpw_contents.specs.Contents.{IsBoxed}
-use Rattle.mpw_contents.specs.Things.{drawn, drawn_box, element_in, thing_items, things_items}
+use Rattle.mpw_contents.specs.Things.{drawn, drawn_box, thing_items, things_items}
 use Rattle.mpw_contents.specs.Internal.Making.{IsThing, Shows, Adds}
 use Rattle.mpw_contents.proofs.Lists.{range_more}
 use Rattle.mpw_contents.proofs.Members.{contains_none, contains_cases}
@@ -139,36 +137,22 @@ module _ (l : Layout) where
         | inr none ↦ absurd (contains_none i none)
       ])))
 
-  -- a shape whose area is the placed box of its element, if there is one
-  pub boxed_shape : (shape : Shape) (e : Element) (b : Box2)
-      → element_in l.shelf.now shape.structure shape.element ≡ Some e → element_box e ≡ Some b
-      → IfSome shape.area (λ area. area ≡ placed_box shape.placing b)
-      → IsBoxed l.shelf.now (things.Shape shape)
-  boxed_shape shape e b at is placed = go shape.area placed
-    where
-      go : (area : Option Box2) → IfSome area (λ a. a ≡ placed_box shape.placing b)
-          → IfSome area (λ a. drawn_box shape.placing
-          (element_in l.shelf.now shape.structure shape.element) ≡ Some a)
-      go None placed = tt
-      go (Some a) placed =
-          ap (drawn_box shape.placing) at ∙ ap (option_map (placed_box shape.placing)) is
-          ∙ ap Some (sym placed)
+  -- an area that misses the window
+  pub area_out : (t : Placing) (o : Option Element) (area : Option Box2) (old : List Thing)
+      → IfSome area (λ b. drawn_box t o ≡ Some b)
+      → IsSomeAnd area (λ b. do_meet b l.window ≡ false) → Adds l (drawn t o) old old
+  area_out t o None old boxed away = absurd away
+  area_out t None (Some b) old boxed away = nothing_drawn t None old refl
+  area_out t (Some e) (Some b) old boxed away =
+      drawn_out t (Some e) e old refl (ap (is_met l.window) boxed ∙ away)
 
-  -- a shape whose area misses the window
-  pub shape_out : (shape : Shape) (old : List Thing) → IsBoxed l.shelf.now (things.Shape shape)
-      → IsSomeAnd shape.area (λ area. do_meet area l.window ≡ false)
-      → Adds l (thing_items l.shelf.now (things.Shape shape)) old old
-  unfolding thing_items
-  shape_out shape old boxed away =
-      go shape.area (element_in l.shelf.now shape.structure shape.element) boxed away
-    where
-      go : (area : Option Box2) (o : Option Element)
-          → IfSome area (λ b. drawn_box shape.placing o ≡ Some b)
-          → IsSomeAnd area (λ b. do_meet b l.window ≡ false) → Adds l (drawn shape.placing o) old old
-      go None o boxed away = absurd away
-      go (Some b) None boxed away = nothing_drawn shape.placing None old refl
-      go (Some b) (Some e) boxed away =
-          drawn_out shape.placing (Some e) e old refl (ap (is_met l.window) boxed ∙ away)
+-- the area of an element is its placed box, if there is one
+pub area_is : (t : Placing) (o : Option Element) (e : Element) (b : Box2) (area : Option Box2)
+    → o ≡ Some e → element_box e ≡ Some b → IfSome area (λ a. a ≡ placed_box t b)
+    → IfSome area (λ a. drawn_box t o ≡ Some a)
+area_is t o e b None at is placed = tt
+area_is t o e b (Some a) at is placed =
+    ap (drawn_box t) at ∙ ap (option_map (placed_box t)) is ∙ ap Some (sym placed)
 
 module _ (l : Layout) {X : Type 0} (f : X → List Item) (old mid new : List Thing) (n : ℕ) where
   -- one more column of a row, and one more row

@@ -10,7 +10,7 @@ ghost use Rattle.mpw_walk.specs.Window.{do_meet, is_met};
 ghost use Rattle.mpw_contents.specs.Internal.Fitting.{IsOutside, IsEither, SpansMissed, AlongMissed, ColumnsMissed, RowsMissed, IsCut, IsFitted, IsAway};
 
 use crate::placed::{is_in_plane, placed_box, point_after};
-use crate::thing::{Array, Shape};
+use crate::thing::Array;
 use mpw_geom::{Box2, Placing, Point};
 use mpw_hier::is_box_near;
 
@@ -58,11 +58,11 @@ pub fn area_of(placing: Placing, b: Box2) -> Option<Box2>
     }
 }
 
-/// Whether a shape may meet a window: where it has an area, whether that does.
-pub fn is_shape_met(shape: &Shape, window: &Box2) -> bool
-    ensures { result ≡ false → IsSomeAnd shape.now.area (λ area. do_meet area window.now ≡ false) }
+/// Whether a shape with that area may meet a window: so it may where none is known.
+pub fn is_area_met(area: &Option<Box2>, window: &Box2) -> bool
+    ensures { result ≡ false → IsSomeAnd area.now (λ area. do_meet area window.now ≡ false) }
 {
-    match shape.area {
+    match *area {
         Some(area) => do_meet(area, *window),
         None => true,
     }

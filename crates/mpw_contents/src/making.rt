@@ -38,11 +38,18 @@ pub struct Passed {
 }
 
 impl<'a> Layout<'a> {
-    /// Adds an array, or what it shows one level down where it is to be opened. The result is whether it is opened so.
+    /// Adds an array, which is handed over as a thing too, or what it shows one level down where it is to be opened. The result is
+    /// whether it is opened so.
     ///
     /// # Errors
     /// As those of [`Layout::open`].
-    pub fn pass_array(&self, array: &Array, things: &mut Vec<Thing>) -> Result<bool, Stop>
+    pub fn pass_array(
+        &self,
+        array: &Array,
+        thing: &Thing,
+        things: &mut Vec<Thing>,
+    ) -> Result<bool, Stop>
+        requires same { thing.now ≡ variants.Array array.now }
         requires layout { IsLayout self.now }
         requires array { IsArray self.now.nodes.now array.now }
         ensures { OnOk result (Adds self.now (thing_items self.now.shelf.now (variants.Array array.now)) things.old.items things.new.items) }
@@ -51,23 +58,23 @@ impl<'a> Layout<'a> {
             self.open(array, things)?;
             return Ok(true);
         }
-        self.push(Thing::Array(*array), things)?;
+        self.push(thing, things)?;
         Ok(false)
     }
 
     /// Adds a thing, or what it shows one level down where it is to be opened. The result is whether it is opened so.
-    fn pass_thing(&self, thing: Thing, things: &mut Vec<Thing>) -> Result<bool, Stop>
+    fn pass_thing(&self, thing: &Thing, things: &mut Vec<Thing>) -> Result<bool, Stop>
         requires layout { IsLayout self.now }
-        requires thing { IsThing self.now.nodes.now thing }
-        requires boxed { IsBoxed self.now.shelf.now thing }
-        ensures { OnOk result (Adds self.now (thing_items self.now.shelf.now thing) things.old.items things.new.items) }
+        requires thing { IsThing self.now.nodes.now thing.now }
+        requires boxed { IsBoxed self.now.shelf.now thing.now }
+        ensures { OnOk result (Adds self.now (thing_items self.now.shelf.now thing.now) things.old.items things.new.items) }
     {
         match thing {
             Thing::Shape(_) => {
                 self.push(thing, things)?;
                 Ok(false)
             }
-            Thing::Array(array) => self.pass_array(&array, things),
+            Thing::Array(array) => self.pass_array(array, thing, things),
         }
     }
 
@@ -84,7 +91,7 @@ impl<'a> Layout<'a> {
         let mut things = Vec::new(alloc);
         let mut is_open = false;
         for thing in old {
-            if self.pass_thing(*thing, &mut things)? {
+            if self.pass_thing(thing, &mut things)? {
                 is_open = true;
             }
         }

@@ -6,13 +6,12 @@ ghost use Rattle.std.specs.List.{flat_map};
 ghost use Rattle.mpw_geom.specs.Plane.{IsInPlane};
 ghost use Rattle.mpw_structures.specs.Element.{IsElement, IsReference};
 ghost use Rattle.mpw_hier.specs.Items.{placed_item, placed_items, row_of};
-ghost use Rattle.mpw_contents.specs.Contents.{IsBoxed};
 ghost use Rattle.mpw_contents.specs.Things.{drawn, element_at, element_in, place_shown, reference_of, thing_items};
 ghost use Rattle.mpw_contents.specs.Internal.Making.{IsLayout, IsNodeOf, IsArray, IsThing, LeadsTo, Adds, Shows};
 ghost use Rattle.mpw_contents.specs.Internal.Opening.{name_shown, as_reference, child_shown, structure_shapes, structure_children, instances_shown, IsPlacedReference};
 ghost use Rattle.mpw_contents.specs.declared.thing.Thing.TheVariants as variants;
 
-use crate::fit::{area_of, fitted, is_shape_met, may_meet};
+use crate::fit::{area_of, fitted, is_area_met, may_meet};
 use crate::laws::names_are_opened;
 use crate::layout::{Layout, Opened};
 use crate::placed::{instance, is_in_plane};
@@ -92,33 +91,18 @@ impl<'a> Layout<'a> {
         }
     }
 
-    /// Adds a thing.
+    /// Adds a thing, which is copied whole.
     ///
     /// # Errors
     /// Where there are as many as wanted, or want of memory.
-    pub fn push(&self, thing: Thing, things: &mut Vec<Thing>) -> Result<(), Stop>
-        ensures { OnOk result (things.new.items ≡ things.old.items ++ thing ∷ []) }
+    pub fn push(&self, thing: &Thing, things: &mut Vec<Thing>) -> Result<(), Stop>
+        ensures { OnOk result (things.new.items ≡ things.old.items ++ thing.now ∷ []) }
     {
         if things.len() >= self.most {
             return Err(Stop::Many);
         }
-        things.push(thing)?;
+        things.push(*thing)?;
         Ok(())
-    }
-
-    /// Adds a shape that has its area, if it may meet the window.
-    ///
-    /// # Errors
-    /// As those of [`Layout::push`].
-    pub fn fit_shape(&self, shape: &Shape, things: &mut Vec<Thing>) -> Result<(), Stop>
-        requires near { IsInPlane shape.now.placing.by }
-        requires boxed { IsBoxed self.now.shelf.now (variants.Shape shape.now) }
-        ensures { OnOk result (Adds self.now (thing_items self.now.shelf.now (variants.Shape shape.now)) things.old.items things.new.items) }
-    {
-        if !is_shape_met(shape, &self.window) {
-            return Ok(());
-        }
-        self.push(Thing::Shape(*shape), things)
     }
 
     /// Adds the shape that the element at a place of the structure at a place is, if there is one that may meet the window.
@@ -139,13 +123,17 @@ impl<'a> Layout<'a> {
         let Some(extent) = element_box(element) else {
             return Ok(());
         };
+        let area = area_of(placing, extent);
+        if !is_area_met(&area, &self.window) {
+            return Ok(());
+        }
         let shape = Shape {
             structure,
             element: place,
             placing,
-            area: area_of(placing, extent),
+            area,
         };
-        self.fit_shape(&shape, things)
+        self.push(&Thing::Shape(shape), things)
     }
 
     /// Adds an array, or as much of it as may meet the window.
@@ -165,7 +153,7 @@ impl<'a> Layout<'a> {
             return Ok(());
         };
         match fitted(&array, &self.window, extent) {
-            Some(array) => self.push(Thing::Array(array), things),
+            Some(array) => self.push(&Thing::Array(array), things),
             None => Ok(()),
         }
     }

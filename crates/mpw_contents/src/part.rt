@@ -13,12 +13,12 @@ ghost use Rattle.mpw_contents.specs.Internal.Opening.{NamesAreOpened};
 ghost use Rattle.mpw_contents.specs.declared.thing.Thing.TheVariants as variants;
 
 use crate::contents::Contents;
-use crate::fit::{fitted, is_single, is_single_met};
+use crate::fit::{fitted, is_area_met, is_single, is_single_met};
 use crate::laws::names_are_opened;
 use crate::layout::{Layout, Opened};
 use crate::making::Passed;
 use crate::stop::Stop;
-use crate::thing::{Array, Thing};
+use crate::thing::{Array, Shape, Thing};
 use mpw_geom::Box2;
 use mpw_hier::Shelf;
 use std::alloc::{AllocError, Global};
@@ -37,8 +37,30 @@ pub struct Part {
 }
 
 impl<'a> Layout<'a> {
-    /// The same of an array of one instance, which stays where it is while it is looked at.
-    fn fit_single(&self, array: &Array, extent: Box2, things: &mut Vec<Thing>) -> Result<bool, Stop>
+    /// Adds a shape, unless its area misses the window: nothing is opened.
+    fn fit_shape(&self, shape: &Shape, thing: &Thing, things: &mut Vec<Thing>) -> Result<bool, Stop>
+        requires same { thing.now ≡ variants.Shape shape.now }
+        requires near { IsNear thing.now }
+        requires boxed { IsBoxed self.now.shelf.now thing.now }
+        ensures { OnOk result (Adds self.now (thing_items self.now.shelf.now thing.now) things.old.items things.new.items) }
+    {
+        if !is_area_met(&shape.area, &self.window) {
+            return Ok(false);
+        }
+        self.push(thing, things)?;
+        Ok(false)
+    }
+
+    /// What [`Layout::fit_array`] does, of an array of one instance: it stays where it is while it is looked at, and is copied as the
+    /// thing that it is.
+    fn fit_single(
+        &self,
+        array: &Array,
+        thing: &Thing,
+        extent: Box2,
+        things: &mut Vec<Thing>,
+    ) -> Result<bool, Stop>
+        requires same { thing.now ≡ variants.Array array.now }
         requires law { NamesAreOpened }
         requires layout { IsLayout self.now }
         requires array { IsArray self.now.nodes.now array.now }
@@ -48,7 +70,7 @@ impl<'a> Layout<'a> {
         ensures { OnOk result (Adds self.now (thing_items self.now.shelf.now (variants.Array array.now)) things.old.items things.new.items) }
     {
         if is_single_met(array, &self.window, extent) {
-            self.pass_array(array, things)
+            self.pass_array(array, thing, things)
         } else {
             Ok(false)
         }
@@ -59,7 +81,8 @@ impl<'a> Layout<'a> {
     ///
     /// # Errors
     /// As those of [`Layout::open`], and where the array's node isn't its structure's.
-    fn fit_array(&self, array: &Array, things: &mut Vec<Thing>) -> Result<bool, Stop>
+    fn fit_array(&self, array: &Array, thing: &Thing, things: &mut Vec<Thing>) -> Result<bool, Stop>
+        requires same { thing.now ≡ variants.Array array.now }
         requires law { NamesAreOpened }
         requires layout { IsLayout self.now }
         requires near { IsInPlane array.now.first.by }
@@ -75,10 +98,10 @@ impl<'a> Layout<'a> {
             return Ok(false);
         };
         if is_single(array) {
-            return self.fit_single(array, extent, things);
+            return self.fit_single(array, thing, extent, things);
         }
         match fitted(array, &self.window, extent) {
-            Some(array) => self.pass_array(&array, things),
+            Some(array) => self.pass_array(&array, &Thing::Array(array), things),
             None => Ok(false),
         }
     }
@@ -92,11 +115,8 @@ impl<'a> Layout<'a> {
         ensures { OnOk result (Adds self.now (thing_items self.now.shelf.now thing.now) things.old.items things.new.items) }
     {
         match thing {
-            Thing::Shape(shape) => {
-                self.fit_shape(shape, things)?;
-                Ok(false)
-            }
-            Thing::Array(array) => self.fit_array(array, things),
+            Thing::Shape(shape) => self.fit_shape(shape, thing, things),
+            Thing::Array(array) => self.fit_array(array, thing, things),
         }
     }
 

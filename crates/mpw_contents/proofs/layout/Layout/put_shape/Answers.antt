@@ -3,8 +3,9 @@ use Rattle.std.specs.Prelude.{slice_get, option_map}
 use Rattle.std.proofs.lemmas.Result.{on_ok_weaker}
 use Rattle.mpw_hier.specs.Boxes.{placed_box}
 use Rattle.mpw_walk.specs.Window.{is_met}
-use Rattle.mpw_contents.specs.Things.{drawn, element_at, thing_items}
-use Rattle.mpw_contents.proofs.Adding.{adds_same, boxed_shape, drawn_out, nothing_drawn}
+use Rattle.mpw_contents.specs.declared.thing.Thing.TheVariants as things
+use Rattle.mpw_contents.specs.Things.{drawn, element_at, element_in, thing_items}
+use Rattle.mpw_contents.proofs.Adding.{adds_one, area_is, area_out, drawn_out, nothing_drawn, shows_same}
 use Rattle.mpw_contents.proofs.Layouts.{shape_is}
 use Rattle.mpw_contents.proofs.Read.{copied_none, copied_some}
 use Rattle.mpw_contents.proofs.layout.Layout.put_shape.Goals as goal
@@ -26,22 +27,37 @@ returns-in_default-element_box c =
     (ap (λ b. is_met l.window (option_map (placed_box t) b))
     (sym c.element_box.ensures ∙ c.in_default-element_box.is))
 
-pub fit_shape-requires-clause-boxed : goal.fit_shape-requires-clause-boxed
-fit_shape-requires-clause-boxed c =
+pub returns-then-not-is_area_met : goal.returns-then-not-is_area_met
+returns-then-not-is_area_met c =
     let l = c.args.self.now in
-    boxed_shape l _ c.in-Some.element.now c.in-Some-element_box.extent
-    (shape_is l c.requires.layout c.args.structure c.args.place
-    ∙ copied_some c.element.result c.in-Some.element _ c.in-Some.is c.element.ensures.is)
-    (sym c.element_box.ensures ∙ c.in-Some-element_box.is)
-    c.area_of.ensures
+    let t = c.args.placing in
+    let o = element_at (slice_get l.structures.now c.args.structure) c.args.place in
+    area_out l t o c.area_of-area.result c.args.things.now.items
+    (area_is t o c.in-Some.element.now c.in-Some-element_box.extent c.area_of-area.result
+    (copied_some c.element.result c.in-Some.element _ c.in-Some.is c.element.ensures.is)
+    (sym c.element_box.ensures ∙ c.in-Some-element_box.is) c.area_of-area.ensures)
+    (c.is_area_met.ensures c.if-not-is_area_met.true)
 
 pub returns : goal.returns
 unfolding thing_items
 returns c =
     let l = c.args.self.now in
-    let old = c.args.things.now.items in
-    let new = c.fit_shape.new.things.items in
-    on_ok_weaker c.fit_shape.result
-    (λ h. adds_same l _ _ old new
-    (ap (drawn c.args.placing) (shape_is l c.requires.layout c.args.structure c.args.place)) h)
-    c.fit_shape.ensures
+    let t = c.args.placing in
+    let area = c.area_of-area.result in
+    let o = element_at (slice_get l.structures.now c.args.structure) c.args.place in
+    let same = shape_is l c.requires.layout c.args.structure c.args.place in
+    let thing = things.Shape (record {
+      structure = c.args.structure;
+      element = c.args.place;
+      placing = t;
+      area = area;
+    }) in
+    on_ok_weaker c.push.result
+    (λ e. adds_one l (drawn t o) c.args.things.now.items c.push.new.things.items thing e
+    c.requires.near
+    (area_is t (element_in l.shelf.now c.args.structure c.args.place) c.in-Some.element.now
+    c.in-Some-element_box.extent area
+    (same ∙ copied_some c.element.result c.in-Some.element _ c.in-Some.is c.element.ensures.is)
+    (sym c.element_box.ensures ∙ c.in-Some-element_box.is) c.area_of-area.ensures)
+    (shows_same l.window (drawn t o) (thing_items l.shelf.now thing) (ap (drawn t) (sym same))))
+    c.push.ensures
