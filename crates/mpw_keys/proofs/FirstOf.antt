@@ -1,5 +1,6 @@
 -- What is put together from the first keys of lists is the first of each rule of what is put together from all.
-use Rattle.std.proofs.Common.{◌≡◌, ◌∙◌, ◌≢◌, inl, inr, ℕ, zero, suc, ◌+◌, ◌*◌, ◌<◌, ◌≤◌, ◌==◌, Bool, cond, List, [], ◌∷◌, ◌++◌, length, take, map, sum_by, filter, All, length-append, append-nil, map-id, take-take, sym, refl, ap, ap₂, subst, le_refl, eqb-true, eq-eqb, ne_eqb, arith}
+use Rattle.std.proofs.Common.{◌≡◌, ◌∙◌, ◌≢◌, inl, inr, ℕ, zero, suc, ◌+◌, ◌*◌, ◌<◌, ◌≤◌, ◌==◌, Bool, cond, List, [], ◌∷◌, ◌++◌, length, take, map, sum_by, filter, All}
+use Rattle.std.proofs.Common.{length-append, append-nil, map-id, take-take, sym, refl, ap, ap₂, subst, le_refl, eqb-true, eq-eqb, ne_eqb, arith}
 use Rattle.std.specs.List.{AllZip, range_with_len}
 use Rattle.std.proofs.Math.Seq.{take-nil}
 use Rattle.std.proofs.lemmas.Bool.{cases_lt}
