@@ -7,17 +7,21 @@ use Rattle.std.proofs.lemmas.List.Elements.{All-nil, All-cons, All-append, Conta
 use Rattle.std.proofs.lemmas.List.{append-nil, map-append, take_more}
 use Rattle.mpw_geom.specs.declared.plane.Box2.{Box2}
 use Rattle.mpw_geom.specs.declared.placing.Placing.{Placing}
+use Rattle.mpw_geom.specs.Plane.{IsOrdered}
 use Rattle.mpw_structures.specs.declared.element.Element.{Element}
 use Rattle.mpw_hier.specs.Boxes.{element_box, placed_box, item_box}
 use Rattle.mpw_hier.specs.Items.{Item}
+use Rattle.mpw_hier.proofs.Extents.{element_ordered}
 use Rattle.mpw_walk.specs.Window.{do_meet, is_met}
 use Rattle.mpw_contents.specs.declared.layout.Layout.{Layout}
 use Rattle.mpw_contents.specs.declared.thing.Thing.{Thing}
 use Rattle.mpw_contents.specs.Contents.{IsBoxed}
 use Rattle.mpw_contents.specs.Things.{drawn, drawn_box, thing_items, things_items}
 use Rattle.mpw_contents.specs.Internal.Making.{IsThing, Shows, Adds}
+use Rattle.mpw_contents.specs.Internal.Own.{own_window}
 use Rattle.mpw_contents.proofs.Lists.{range_more}
 use Rattle.mpw_contents.proofs.Members.{contains_none, contains_cases}
+use Rattle.mpw_contents.proofs.Windows.{missed_placed}
 
 module _ (window : Box2) where
   pub shows_same : (all shown : List Item) → all ≡ shown → Shows window all shown
@@ -136,6 +140,17 @@ module _ (l : Layout) where
         | inl same ↦ subst (λ (j : Item). is_met l.window (item_box j) ≡ false) same away
         | inr none ↦ absurd (contains_none i none)
       ])))
+
+  -- the box of an element that misses the window as what is placed sees it
+  pub own_out : (t : Placing) (o : Option Element) (e : Element) (b : Box2) (own : Option Box2)
+      (old : List Thing) → o ≡ Some e → element_box e ≡ Some b
+      → IfSome own (λ w. w ≡ own_window t l.window) → IsSomeAnd own (λ w. do_meet b w ≡ false)
+      → Adds l (drawn t o) old old
+  own_out t o e b None old at is same away = absurd away
+  own_out t o e b (Some w) old at is same away =
+      let ordered = subst (λ x. IfSome x IsOrdered) is (element_ordered e) in
+      drawn_out t o e old at (ap (λ x. is_met l.window (option_map (placed_box t) x)) is
+      ∙ missed_placed t.by l.window b ordered t.orient (ap (do_meet b) (sym same) ∙ away))
 
   -- an area that misses the window
   pub area_out : (t : Placing) (o : Option Element) (area : Option Box2) (old : List Thing)

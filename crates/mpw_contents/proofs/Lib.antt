@@ -1,4 +1,5 @@
 pub mod Members
+pub mod Windows
 pub mod Adding
 pub mod Lists
 pub mod Steps

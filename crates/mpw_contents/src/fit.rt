@@ -58,6 +58,16 @@ pub fn area_of(placing: Placing, b: Box2) -> Option<Box2>
     }
 }
 
+/// Whether a box may meet a window as what is placed sees it: so it may where none is known.
+pub fn is_own_met(b: Box2, own: &Option<Box2>) -> bool
+    ensures { result ≡ false → IsSomeAnd own.now (λ own. do_meet b own ≡ false) }
+{
+    let Some(own) = own else {
+        return true;
+    };
+    do_meet(b, *own)
+}
+
 /// Whether a shape with that area may meet a window: so it may where none is known.
 pub fn is_area_met(area: &Option<Box2>, window: &Box2) -> bool
     ensures { result ≡ false → IsSomeAnd area.now (λ area. do_meet area window.now ≡ false) }

@@ -14,6 +14,7 @@ mod layers;
 mod layout;
 mod making;
 mod opening;
+mod own;
 mod part;
 mod placed;
 mod stop;

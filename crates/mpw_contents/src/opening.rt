@@ -9,11 +9,13 @@ ghost use Rattle.mpw_hier.specs.Items.{placed_item, placed_items, row_of};
 ghost use Rattle.mpw_contents.specs.Things.{drawn, element_at, element_in, place_shown, reference_of, thing_items};
 ghost use Rattle.mpw_contents.specs.Internal.Making.{IsLayout, IsNodeOf, IsArray, IsThing, LeadsTo, Adds, Shows};
 ghost use Rattle.mpw_contents.specs.Internal.Opening.{name_shown, as_reference, child_shown, structure_shapes, structure_children, instances_shown, IsPlacedReference};
+ghost use Rattle.mpw_contents.specs.Internal.Own.{own_window};
 ghost use Rattle.mpw_contents.specs.declared.thing.Thing.TheVariants as variants;
 
-use crate::fit::{area_of, fitted, is_area_met, may_meet};
+use crate::fit::{area_of, fitted, is_area_met, is_own_met, may_meet};
 use crate::laws::names_are_opened;
 use crate::layout::{Layout, Opened};
+use crate::own::own_window;
 use crate::placed::{instance, is_in_plane};
 use crate::stop::Stop;
 use crate::thing::{Array, Shape, Thing};
@@ -111,10 +113,12 @@ impl<'a> Layout<'a> {
         structure: usize,
         place: usize,
         placing: Placing,
+        own: &Option<Box2>,
         things: &mut Vec<Thing>,
     ) -> Result<(), Stop>
         requires layout { IsLayout self.now }
         requires near { IsInPlane placing.by }
+        requires own { IfSome own.now (λ own. own ≡ own_window placing self.now.window) }
         ensures { OnOk result (Adds self.now (drawn placing (element_at (slice_get self.now.structures.now structure) place)) things.old.items things.new.items) }
     {
         let Some(element) = self.element(structure, place) else {
@@ -123,6 +127,9 @@ impl<'a> Layout<'a> {
         let Some(extent) = element_box(element) else {
             return Ok(());
         };
+        if !is_own_met(extent, own) {
+            return Ok(());
+        }
         let area = area_of(placing, extent);
         if !is_area_met(&area, &self.window) {
             return Ok(());
@@ -212,8 +219,10 @@ impl<'a> Layout<'a> {
         requires near { IsInPlane placing.by }
         ensures { OnOk result (Adds self.now (structure_shapes placing (slice_get self.now.structures.now node.now.structure) node.now.shapes) things.old.items things.new.items) }
     {
+        let own = own_window(&placing, &self.window);
         for index in 0..node.shapes.len() {
-            self.put_shape(node.structure, node.shapes.at(index), placing, things)?;
+            let place = node.shapes.at(index);
+            self.put_shape(node.structure, place, placing, &own, things)?;
         }
         Ok(())
     }

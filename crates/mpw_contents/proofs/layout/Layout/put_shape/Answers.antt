@@ -5,7 +5,7 @@ use Rattle.mpw_hier.specs.Boxes.{placed_box}
 use Rattle.mpw_walk.specs.Window.{is_met}
 use Rattle.mpw_contents.specs.declared.thing.Thing.TheVariants as things
 use Rattle.mpw_contents.specs.Things.{drawn, element_at, element_in, thing_items}
-use Rattle.mpw_contents.proofs.Adding.{adds_one, area_is, area_out, drawn_out, nothing_drawn, shows_same}
+use Rattle.mpw_contents.proofs.Adding.{adds_one, area_is, area_out, drawn_out, nothing_drawn, own_out, shows_same}
 use Rattle.mpw_contents.proofs.Layouts.{shape_is}
 use Rattle.mpw_contents.proofs.Read.{copied_none, copied_some}
 use Rattle.mpw_contents.proofs.layout.Layout.put_shape.Goals as goal
@@ -26,6 +26,16 @@ returns-in_default-element_box c =
     (copied_some c.element.result c.in-Some.element _ c.in-Some.is c.element.ensures.is)
     (ap (λ b. is_met l.window (option_map (placed_box t) b))
     (sym c.element_box.ensures ∙ c.in_default-element_box.is))
+
+pub returns-then-not-is_own_met : goal.returns-then-not-is_own_met
+returns-then-not-is_own_met c =
+    let l = c.args.self.now in
+    own_out l c.args.placing
+    (element_at (slice_get l.structures.now c.args.structure) c.args.place) c.in-Some.element.now
+    c.in-Some-element_box.extent c.args.own.now c.args.things.now.items
+    (copied_some c.element.result c.in-Some.element _ c.in-Some.is c.element.ensures.is)
+    (sym c.element_box.ensures ∙ c.in-Some-element_box.is) c.requires.own
+    (c.is_own_met.ensures c.if-not-is_own_met.true)
 
 pub returns-then-not-is_area_met : goal.returns-then-not-is_area_met
 returns-then-not-is_area_met c =

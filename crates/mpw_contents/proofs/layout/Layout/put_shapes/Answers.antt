@@ -18,4 +18,4 @@ loop-index-preserved c =
     adds_more l shown node.shapes i 0 c.args.things.now.items c.loop-index.things.items
     c.put_shape.new.things.items (omega (arith, c.loop-index-test.true, c.len-index-end.ensures))
     c.loop-index.invariant (subst (λ place. Adds l (shown place) c.loop-index.things.items
-    c.put_shape.new.things.items) c.at.ensures c.in_ok-put_shape.ensures)
+    c.put_shape.new.things.items) c.at-place.ensures c.in_ok-put_shape.ensures)
