@@ -237,11 +237,3 @@ module _ (l : Layout) where
       → Shows l.window items (things_items l.shelf.now new)
   adds_shows items new h = subst (λ ts. Shows l.window items (things_items l.shelf.now ts))
       (sym h.is) h.shows
-
-  pub adds_things : (items : List Item) (new : List Thing) → Adds l items [] new
-      → All (IsThing l.nodes.now) new
-  adds_things items new h = subst (All (IsThing l.nodes.now)) (sym h.is) h.are
-
-  pub adds_boxed : (items : List Item) (new : List Thing) → Adds l items [] new
-      → All (IsBoxed l.shelf.now) new
-  adds_boxed items new h = subst (All (IsBoxed l.shelf.now)) (sym h.is) h.boxed

@@ -9,7 +9,6 @@ use Rattle.mpw_structures.specs.declared.element.Element.{Element}
 use Rattle.mpw_structures.specs.declared.element.Element.TheVariants as elements
 use Rattle.mpw_structures.specs.declared.element.Reference.{Reference}
 use Rattle.mpw_structures.specs.declared.structures.Structure.{Structure}
-use Rattle.mpw_structures.specs.Element.{IsElement}
 use Rattle.mpw_structures.specs.Places.{place_of}
 use Rattle.mpw_hier.specs.declared.node.Node.{Node}
 use Rattle.mpw_hier.specs.declared.node.Child.{Child}
@@ -23,7 +22,6 @@ use Rattle.mpw_hier.specs.Items.{Item, own_items, placed_item, placed_items, sho
 use Rattle.mpw_hier.specs.Nodes.{IsNode, IsTarget}
 use Rattle.mpw_hier.specs.Values.{structure_items, flats, heights, from_first}
 use Rattle.mpw_hier.proofs.Tops.{front_get, same_place}
-use Rattle.mpw_walk.proofs.Fronts.{element_read}
 use Rattle.mpw_walk.proofs.Shapes.{child_at}
 use Rattle.mpw_contents.specs.declared.layout.Layout.{Layout}
 use Rattle.mpw_contents.specs.declared.thing.Array.{Array}
@@ -79,17 +77,6 @@ module _ (l : Layout) (w : IsLayout l) where
 
   abbrev before : List (List Item)
   before = flats (take 0 l.shelf.now)
-
-  -- an element is one that reading gives
-  pub elements_read : (structure place : ℕ) (e : Element)
-      → element_at (slice_get l.structures.now structure) place ≡ Some e → IsElement e
-  elements_read structure place e at = go (slice_get l.structures.now structure) refl at
-    where
-      go : (o : Option Structure) → slice_get l.structures.now structure ≡ o
-          → element_at o place ≡ Some e → IsElement e
-      go None here at = absurd cc
-      go (Some t) here at = element_read s.library structure t place e w.nodes.shown.library
-          (ap (λ ts. slice_get ts structure) (sym w.structures) ∙ here) at
 
   pub shape_is : (structure place : ℕ)
       → element_in l.shelf.now structure place ≡ element_at (slice_get l.structures.now structure)
