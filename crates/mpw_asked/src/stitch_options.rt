@@ -47,7 +47,7 @@ fn command<'a>(alloc: Global) -> Result<Command<'a>, AllocError> {
     Command::new(alloc, "mpw stitch")
         .version(VERSION)
         .about(
-            "Stitches the parts of a check that have each tile once, and lists the markers of the \
+            "Stitches the parts of a check that have each column once, and lists the markers of the \
             whole",
         )
         .arg(report)?

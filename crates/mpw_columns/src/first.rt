@@ -34,7 +34,7 @@ use std::thread::Threads;
 /// The first markers of each rule of a layout, and how many markers there are.
 #[derive(Drop)]
 pub struct FirstMarkers {
-    /// The first markers of each rule, in the order of a book.
+    /// The first markers of each rule, those of a rule in the order of a book.
     pub markers: Vec<Marker>,
     /// How many markers each rule has, by its place in the deck, up to 2^64 - 1.
     pub counts: Vec<usize>,
@@ -73,23 +73,36 @@ fn list_count(snapshot: &Snapshot) -> u32
     2 * rule_count(snapshot.deck().rules().as_slice())
 }
 
-/// Adds the first keys of each of these lists. An error is want of memory.
+/// How many keys are kept of a column.
+fn kept_of(firsts: &Firsts) -> usize {
+    let mut kept = 0usize;
+    for list in &firsts.lists {
+        kept = kept.saturating_add(list.keys.len());
+    }
+    kept
+}
+
+/// Adds the first keys of each of these lists. The result is how many are kept; an error is want of memory.
 fn add_firsts(
     alloc: Global,
     firsts: &mut Vec<Firsts>,
     lists: &[ColumnKeys],
     count: u32,
     most: usize,
-) -> Result<(), AllocError>
+) -> Result<usize, AllocError>
     ensures { OnOk result (AddsFirsts most count lists.now firsts.old.items firsts.new.items) }
 {
+    let mut kept = 0usize;
     for list in lists {
-        firsts.push(Firsts::of(alloc, list, count, most)?)?;
+        let column = Firsts::of(alloc, list, count, most)?;
+        kept = kept.saturating_add(kept_of(&column));
+        firsts.push(column)?;
     }
-    Ok(())
+    Ok(kept)
 }
 
-/// The first keys of columns, found one batch after another; progress is told before the first and after each. An error is want of memory.
+/// The first keys of columns, found one batch after another; progress is told before the first and after each. An error is want of memory, also where the
+/// progress has no room for the keys that are kept.
 fn all_firsts<P: Progress>(
     rt: &(impl Threads + Sync),
     alloc: Global,
@@ -105,13 +118,17 @@ fn all_firsts<P: Progress>(
     let count = list_count(batches.layout.snapshot);
     progress.tell(0, total, 0);
     let mut firsts = Vec::with_capacity(alloc, total)?;
-    let (mut reached, mut markers) = (0, 0usize);
+    let (mut reached, mut markers, mut kept) = (0, 0usize, 0usize);
     while reached < total {
         let more = lists_from(rt, alloc, batches, reached)?;
         markers = markers.saturating_add(batches.own.keys_from(reached, more.as_slice()));
-        add_firsts(alloc, &mut firsts, more.as_slice(), count, most)?;
+        let added = add_firsts(alloc, &mut firsts, more.as_slice(), count, most)?;
+        kept = kept.saturating_add(added);
         reached += more.len();
         progress.tell(reached, total, markers);
+        if !progress.has_room(kept) {
+            return Err(AllocError);
+        }
     }
     Ok(firsts)
 }
@@ -258,7 +275,7 @@ fn markers_of(
 /// axis and side. So with none wanted nothing is held but the lists of the columns at work, and the numbers.
 ///
 /// # Errors
-/// Want of memory.
+/// Want of memory; also where the progress has no room for the keys that are kept.
 pub fn first_of_columns<P: Progress>(
     rt: &(impl Threads + Sync),
     alloc: Global,

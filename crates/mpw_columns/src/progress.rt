@@ -9,8 +9,8 @@ pub trait Progress {
     /// throughout a check. The check waits until it returns.
     fn tell(&mut self, done: usize, total: usize, markers: usize);
 
-    /// Whether there is room for so many markers, which are to be held. It is asked after each batch of columns of a check that holds all markers; where there
-    /// isn't, that check ends for want of memory.
+    /// Whether there is room for so many markers, which are to be held. It is asked after each batch of columns; where there isn't, the check ends for want of
+    /// memory.
     fn has_room(&mut self, markers: usize) -> bool;
 }
 

@@ -11,10 +11,11 @@ use Rattle.mpw_told.specs.declared.fault.FirmFault.TheVariants.{Memory}
 use Rattle.mpw_told.specs.Told.{Misuses}
 use Rattle.mpw_told.specs.ToldParts.{range_text}
 
--- The part has just the columns that are asked for of those into which the layout is cut.
+-- The part has just the columns that are asked for of those into which the layout is cut, and tells how many these are.
 pub record HasColumnsOf (s : Snapshot) (range : ColumnRange) (part : Found) : Type 0 where
   pub columns : List Column
   pub cut : AreColumnsOfLayout s columns
+  pub told : part.subject.columns ≡ length columns
   pub span : span_of range (length columns)
       ≡ Some (record { first = part.first; end = part.first + length part.lists })
   pub own : part.columns ≡ take (length part.lists) (drop part.first columns)

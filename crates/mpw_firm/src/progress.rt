@@ -38,7 +38,11 @@ fn tell_taken(rt: &HostRuntime, taken: Option<u64>) -> io::Result<()> {
 
 /// Ends a line with the memory that a check was reckoned to take, where the system told what reading took.
 fn tell_reckoned(rt: &HostRuntime, checked: &Checked<'_>, line: &Line<'_>) -> io::Result<()> {
-    let held = checked.found.markers().len();
+    // A check by tiles has the whole book first.
+    let held = match checked_tiles(checked.layout) {
+        Some(_) => checked.found.all,
+        None => checked.found.markers().len(),
+    };
     if let Some(most) = line.reckoned(checked.layout, held) {
         eprint!(rt; " of {most} MB reckoned")?;
     }

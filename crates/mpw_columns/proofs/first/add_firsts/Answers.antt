@@ -11,9 +11,9 @@ loop-list-init c = record { more = []; is = sym (append-nil c.args.firsts.now.it
 pub loop-list-preserved : goal.loop-list-preserved
 loop-list-preserved c =
     next_firsts c.args.most c.args.count c.args.lists.now c.loop-list.list-index c.list-item.result
-    c.args.firsts.now.items c.loop-list.firsts.items c.push.new.self.items c.in_ok-of.field-0
+    c.args.firsts.now.items c.loop-list.firsts.items c.push.new.self.items c.in_ok-column.column
     c.loop-list-test.true c.list-item.is c.loop-list.invariant c.in_ok-push.ensures.items
-    c.in_ok-of.ensures
+    c.in_ok-column.ensures
 
 pub returns : goal.returns
 returns c =

@@ -30,7 +30,7 @@ loop-reached-preserved g c =
     let new = c.add_firsts.new.firsts.items in
     let adds = subst (λ (n : ℕ). AddsFirsts c.args.most n more old new) c.list_count-count.ensures
     (subst (λ (each : List (List Key)). AddsFirsts c.args.most c.list_count-count.result each old new)
-    c.as_slice-in-loop-reached.ensures.value c.in_ok-add_firsts.ensures) in (
+    c.as_slice-in-loop-reached.ensures.value c.in_ok-added.ensures) in (
       omega (arith, within, same, ok),
       subst (λ (n : ℕ). AllZip (HasFirsts s c.args.most lists) (take (reached + n) columns) new) (sym (same ∙ ok.0))
           (next_batch s c.args.most lists columns reached more old new next c.loop-reached.invariant.1 adds),

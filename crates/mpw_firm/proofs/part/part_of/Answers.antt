@@ -23,6 +23,7 @@ returns-clause-asked g c =
     record {
       columns = columns;
       cut = c.in_ok-columns.ensures.columns;
+      told = ap (λ subject. subject.columns) (c.in_ok-part.ensures.subject ∙ c.subject_of-subject.ensures) ∙ all;
       span = subst (λ n. span_of c.args.range n ≡ Some (record {
         first = part.first;
         end = part.first + length part.lists;
