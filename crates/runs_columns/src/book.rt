@@ -259,7 +259,9 @@ pub fn print_room(
     if snapshot.shelf().submissions().len() != 1 {
         bail!("one submission");
     }
-    let mut narrow = Narrow { most: room.parse()? };
+    let mut narrow = Narrow {
+        most: room.parse()?,
+    };
     let found = check_columns(rt, rt.alloc(), &snapshot, 65536, &mut narrow);
     Ok(println!(rt; "    {}", if found.is_ok() { "found" } else { "no room" })?)
 }
