@@ -198,6 +198,9 @@ pub fn print_first(
     library: &str,
 ) -> Result<()> {
     let snapshot = snapshot(rt.alloc(), rules, library)?;
+    if snapshot.shelf().submissions().len() != 1 {
+        bail!("one submission");
+    }
     let first = first_by_columns(rt, rt.alloc(), &snapshot, 65536, limit.parse()?)?;
     let whole = first_of_layout(rt, rt.alloc(), &snapshot, limit.parse()?, &mut Silent)?;
     for (rule, count) in snapshot.deck().rules().as_slice().iter().zip(&first.counts) {
