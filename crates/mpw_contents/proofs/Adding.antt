@@ -15,6 +15,7 @@ use Rattle.mpw_hier.proofs.Extents.{element_ordered}
 use Rattle.mpw_walk.specs.Window.{do_meet, is_met}
 use Rattle.mpw_contents.specs.declared.layout.Layout.{Layout}
 use Rattle.mpw_contents.specs.declared.thing.Thing.{Thing}
+use Rattle.mpw_contents.specs.Boxes.{box_of}
 use Rattle.mpw_contents.specs.Contents.{IsBoxed}
 use Rattle.mpw_contents.specs.Things.{drawn, drawn_box, thing_items, things_items}
 use Rattle.mpw_contents.specs.Internal.Making.{IsThing, Shows, Adds}
@@ -151,6 +152,14 @@ module _ (l : Layout) where
       let ordered = subst (λ x. IfSome x IsOrdered) is (element_ordered e) in
       drawn_out t o e old at (ap (λ x. is_met l.window (option_map (placed_box t) x)) is
       ∙ missed_placed t.by l.window b ordered t.orient (ap (do_meet b) (sym same) ∙ away))
+
+  -- the box that is held of it
+  pub held_out : (t : Placing) (o : Option Element) (b : Box2) (own : Option Box2)
+      (old : List Thing) → box_of o ≡ Some b
+      → IfSome own (λ w. w ≡ own_window t l.window) → IsSomeAnd own (λ w. do_meet b w ≡ false)
+      → Adds l (drawn t o) old old
+  held_out t None b own old is same away = absurd cc
+  held_out t (Some e) b own old is same away = own_out t (Some e) e b own old refl is same away
 
   -- an area that misses the window
   pub area_out : (t : Placing) (o : Option Element) (area : Option Box2) (old : List Thing)

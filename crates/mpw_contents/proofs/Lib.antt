@@ -7,6 +7,7 @@ pub mod Opened
 pub mod Missing
 pub mod Read
 pub mod Layouts
+pub mod Held
 pub mod Tops
 pub mod Moved
 pub mod Spans

@@ -23,6 +23,7 @@ use Rattle.mpw_contents.specs.declared.thing.Array.{Array}
 use Rattle.mpw_contents.specs.declared.thing.Thing.{Thing}
 use Rattle.mpw_contents.specs.declared.thing.Thing.TheVariants as things
 use Rattle.mpw_contents.specs.Things.{place_shown, thing_items, things_items}
+use Rattle.mpw_contents.specs.Boxes.{AreBoxesOf}
 use Rattle.mpw_contents.specs.Internal.Making.{IsLayout}
 use Rattle.mpw_contents.specs.Internal.Opening.{NamesAreOpened}
 use Rattle.mpw_contents.proofs.Layouts.{named_is, node_named}
@@ -99,11 +100,16 @@ top_alone l ss a old new shelf none is shown =
 pub layout_is : (l : Layout) (o : Option (Bor (List Node))) → o ≡ Some l.nodes
     → IfSome o (λ (ns : Bor (List Node)). AreNodes l.shelf.now 0 ns.now)
     → (p : Option (Bor Submission)) (from : Bor Submission) → p ≡ Some from
-    → option_copied p ≡ slice_get l.shelf.now 0 → l.structures.now ≡ from.now.library → IsLayout l
-layout_is l o is shown p from from_is copied library =
+    → option_copied p ≡ slice_get l.shelf.now 0 → l.structures.now ≡ from.now.library
+    → IfSome l.boxes (λ b. AreBoxesOf l.shelf.now b.now) → IsLayout l
+layout_is l o is shown p from from_is copied library boxes =
     let w : AreNodes l.shelf.now 0 l.nodes.now =
     subst (λ (q : Option (Bor (List Node))).
     IfSome q (λ (ns : Bor (List Node)). AreNodes l.shelf.now 0 ns.now)) is shown in
     let same = one (slice_get l.shelf.now 0) w.submission from.now w.is
     (sym copied ∙ ap option_copied from_is) in
-    record { nodes = w; structures = library ∙ ap (λ (s : Submission). s.library) (sym same) }
+    record {
+      nodes = w;
+      structures = library ∙ ap (λ (s : Submission). s.library) (sym same);
+      boxes = boxes;
+    }

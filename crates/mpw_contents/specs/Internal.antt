@@ -5,3 +5,4 @@ pub mod Own
 pub mod Moving
 pub mod Fitting
 pub mod Layers
+pub mod Held

@@ -1,5 +1,6 @@
 pub mod Things
 pub mod Contents
+pub mod Boxes
 pub mod Displaced
 pub mod Codes
 pub mod Internal

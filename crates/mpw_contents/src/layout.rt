@@ -1,8 +1,10 @@
 //! A submission by its nodes and structures, and what is wanted of it.
 
-ghost use Rattle.std.specs.Prelude.{◌≡◌, ◌<◌, length};
-ghost use Rattle.mpw_contents.specs.Internal.Making.{IsLayout};
+ghost use Rattle.std.specs.Prelude.{◌≡◌, ◌<◌, length, IfSome};
+ghost use Rattle.mpw_contents.specs.Boxes.{AreBoxesOf};
+ghost use Rattle.mpw_contents.specs.Internal.Making.{IsLayout, HaveBoxes};
 
+use crate::boxes::Boxes;
 use crate::placed::{is_in_plane, placed_box};
 use crate::thing::Array;
 use mpw_geom::Box2;
@@ -54,6 +56,8 @@ pub struct Layout<'a> {
     pub most: usize,
     /// Which arrays are opened.
     pub opened: Opened,
+    /// The boxes of elements, where they are held.
+    pub boxes: Option<&'a Boxes>,
 }
 
 /// Whether what a node shows is wider than so much where an array's first instance stands.
@@ -81,8 +85,15 @@ fn is_few(array: &Array, node: &Node, instances: u32, shapes: u64) -> bool {
 
 impl<'a> Layout<'a> {
     /// The first submission of a shelf, of which that is wanted.
-    pub fn of(shelf: &'a Shelf, window: Box2, most: usize, opened: Opened) -> Layout<'a>
-        requires { 0 < length shelf.now }
+    pub fn of(
+        shelf: &'a Shelf,
+        window: Box2,
+        most: usize,
+        opened: Opened,
+        boxes: Option<&'a Boxes>,
+    ) -> Layout<'a>
+        requires some { 0 < length shelf.now }
+        requires boxes { IfSome boxes (λ b. AreBoxesOf shelf.now b.now) }
         ensures layout { IsLayout result }
         ensures shelf { result.shelf.now ≡ shelf.now }
         ensures window { result.window ≡ window }
@@ -94,6 +105,18 @@ impl<'a> Layout<'a> {
             window,
             most,
             opened,
+            boxes,
+        }
+    }
+
+    /// The boxes of the elements of a structure; none where they aren't held.
+    pub fn boxes_of(&self, structure: usize) -> &'a [Option<Box2>]
+        requires { IsLayout self.now }
+        ensures { HaveBoxes self.now structure result.now }
+    {
+        match self.boxes {
+            Some(boxes) => boxes.of_structure(structure),
+            None => &[],
         }
     }
 

@@ -5,6 +5,7 @@
 //! it, which costs no more to find than the lists are long.
 #![tactic(auto)]
 
+mod boxes;
 mod codes;
 mod contents;
 mod displaced;
@@ -20,6 +21,7 @@ mod placed;
 mod stop;
 mod thing;
 
+pub use boxes::Boxes;
 pub use codes::code;
 pub use contents::Contents;
 pub use displaced::displacement;

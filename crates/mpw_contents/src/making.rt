@@ -199,7 +199,7 @@ pub fn contents_in(
         width: wanted.width,
         is_along_y: wanted.is_along_y,
     };
-    let layout = Layout::of(shelf, window, wanted.most, opened);
+    let layout = Layout::of(shelf, window, wanted.most, opened, None);
     match layout.fill(alloc) {
         Ok(contents) => Ok(Some(contents)),
         Err(Stop::Memory) => Err(AllocError),

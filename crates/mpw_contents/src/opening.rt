@@ -1,14 +1,14 @@
 //! An array, one level down: for each instance that may meet the window the structure's own shapes, and an array for each of its
 //! children.
 
-ghost use Rattle.std.specs.Prelude.{◌≡◌, ◌<◌, ◌++◌, ◌∷◌, [], length, map, slice_get, option_copied, OnOk, IfOk, IfSome, IfNone, Contains};
+ghost use Rattle.std.specs.Prelude.{◌≡◌, ◌<◌, ◌++◌, ◌∷◌, [], length, map, slice_get, option_copied, OnOk, IfOk, IfSome, IfNone, IsTrue, Contains};
 ghost use Rattle.std.specs.List.{flat_map};
 ghost use Rattle.mpw_geom.specs.Plane.{IsInPlane};
 ghost use Rattle.mpw_structures.specs.Element.{IsElement, IsReference};
 ghost use Rattle.mpw_hier.specs.Items.{placed_item, placed_items, row_of};
 ghost use Rattle.mpw_contents.specs.Things.{drawn, element_at, element_in, place_shown, reference_of, thing_items};
-ghost use Rattle.mpw_contents.specs.Internal.Making.{IsLayout, IsNodeOf, IsArray, IsThing, LeadsTo, Adds, Shows};
-ghost use Rattle.mpw_contents.specs.Internal.Opening.{name_shown, as_reference, child_shown, structure_shapes, structure_children, instances_shown, IsPlacedReference};
+ghost use Rattle.mpw_contents.specs.Internal.Making.{IsLayout, HaveBoxes, IsNodeOf, IsArray, IsThing, LeadsTo, Adds, Shows};
+ghost use Rattle.mpw_contents.specs.Internal.Opening.{name_shown, as_reference, child_shown, structure_shapes, structure_children, instances_shown, IsMissed, IsPlacedReference};
 ghost use Rattle.mpw_contents.specs.Internal.Own.{own_window};
 ghost use Rattle.mpw_contents.specs.declared.thing.Thing.TheVariants as variants;
 
@@ -36,6 +36,27 @@ const NONE: Opened = Opened::Few {
     instances: 0,
     shapes: 0,
 };
+
+/// What a placed structure's elements are held against.
+#[derive(Clone, Copy)]
+struct Seen<'a> {
+    /// The window as the structure sees it, if it is known.
+    own: Option<Box2>,
+    /// The boxes of the structure's elements; none where they aren't held.
+    boxes: &'a [Option<Box2>],
+}
+
+impl Seen<'_> {
+    /// Whether the element at a place is known to miss the window.
+    fn is_missed(&self, place: usize) -> bool
+        ensures { IsTrue result → IsMissed self.now place }
+    {
+        match self.boxes.get(place) {
+            Some(Some(b)) => !is_own_met(*b, &self.own),
+            _ => false,
+        }
+    }
+}
 
 /// The array of a node that a reference places, as it is placed itself.
 fn placed_array(placing: Placing, reference: &Reference, place: usize, node: &Node) -> Array
@@ -66,7 +87,7 @@ pub fn element_of<'a>(shelf: &'a Shelf, shape: &Shape) -> Option<&'a Element>
     ensures is { option_copied result ≡ element_in shelf.now shape.now.structure shape.now.element }
     ensures read { IfSome result (λ e. IsElement e.now) }
 {
-    let layout = Layout::of(shelf, NOWHERE, 0, NONE);
+    let layout = Layout::of(shelf, NOWHERE, 0, NONE, None);
     layout.element(shape.structure, shape.element)
 }
 
@@ -113,21 +134,25 @@ impl<'a> Layout<'a> {
         structure: usize,
         place: usize,
         placing: Placing,
-        own: &Option<Box2>,
+        seen: &Seen<'_>,
         things: &mut Vec<Thing>,
     ) -> Result<(), Stop>
         requires layout { IsLayout self.now }
         requires near { IsInPlane placing.by }
-        requires own { IfSome own.now (λ own. own ≡ own_window placing self.now.window) }
+        requires own { IfSome seen.now.own (λ own. own ≡ own_window placing self.now.window) }
+        requires boxes { HaveBoxes self.now structure seen.now.boxes.now }
         ensures { OnOk result (Adds self.now (drawn placing (element_at (slice_get self.now.structures.now structure) place)) things.old.items things.new.items) }
     {
+        if seen.is_missed(place) {
+            return Ok(());
+        }
         let Some(element) = self.element(structure, place) else {
             return Ok(());
         };
         let Some(extent) = element_box(element) else {
             return Ok(());
         };
-        if !is_own_met(extent, own) {
+        if !is_own_met(extent, &seen.own) {
             return Ok(());
         }
         let area = area_of(placing, extent);
@@ -219,10 +244,13 @@ impl<'a> Layout<'a> {
         requires near { IsInPlane placing.by }
         ensures { OnOk result (Adds self.now (structure_shapes placing (slice_get self.now.structures.now node.now.structure) node.now.shapes) things.old.items things.new.items) }
     {
-        let own = own_window(&placing, &self.window);
+        let seen = Seen {
+            own: own_window(&placing, &self.window),
+            boxes: self.boxes_of(node.structure),
+        };
         for index in 0..node.shapes.len() {
             let place = node.shapes.at(index);
-            self.put_shape(node.structure, place, placing, &own, things)?;
+            self.put_shape(node.structure, place, placing, &seen, things)?;
         }
         Ok(())
     }

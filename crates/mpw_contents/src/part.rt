@@ -7,11 +7,13 @@ ghost use Rattle.std.specs.Prelude.{◌≡◌, ◌<◌, [], length, All, OnOk, I
 ghost use Rattle.mpw_geom.specs.Plane.{IsInPlane};
 ghost use Rattle.mpw_hier.specs.Values.{flat};
 ghost use Rattle.mpw_contents.specs.Contents.{AreWhole, AreSound, IsBoxed, IsNear};
+ghost use Rattle.mpw_contents.specs.Boxes.{AreBoxesOf};
 ghost use Rattle.mpw_contents.specs.Things.{thing_items, things_items};
 ghost use Rattle.mpw_contents.specs.Internal.Making.{HasExtent, IsArray, IsLayout, Adds, Shows};
 ghost use Rattle.mpw_contents.specs.Internal.Opening.{NamesAreOpened};
 ghost use Rattle.mpw_contents.specs.declared.thing.Thing.TheVariants as variants;
 
+use crate::boxes::Boxes;
 use crate::contents::Contents;
 use crate::fit::{fitted, is_area_met, is_single, is_single_met};
 use crate::laws::names_are_opened;
@@ -25,7 +27,9 @@ use std::alloc::{AllocError, Global};
 
 /// Of what a part of contents is made.
 #[derive(Clone, Copy)]
-pub struct Part {
+pub struct Part<'a> {
+    /// The boxes of the elements of the shelf's structures.
+    pub boxes: &'a Boxes,
     /// What doesn't meet this is left out.
     pub window: Box2,
     /// The greatest number of things.
@@ -181,7 +185,7 @@ impl Contents {
             instances: 0,
             shapes: 0,
         };
-        let layout = Layout::of(shelf, window, 1, opened);
+        let layout = Layout::of(shelf, window, 1, opened, None);
         let Some(array) = layout.top() else {
             return Ok(None);
         };
@@ -204,10 +208,11 @@ impl Contents {
         &self,
         alloc: Global,
         shelf: &Shelf,
-        part: &Part,
+        part: &Part<'_>,
     ) -> Result<Option<Contents>, AllocError>
         requires shelf { 0 < length shelf.now }
         requires boxed { All (IsBoxed shelf.now) self.now }
+        requires boxes { AreBoxesOf shelf.now part.now.boxes.now }
         ensures boxed { IfOk result (λ o. IfSome o (All (IsBoxed shelf.now))) }
         ensures whole { IfOk result (λ o. IfSome o (λ things. AreWhole part.now.window (things_items shelf.now self.now) (things_items shelf.now things))) }
         ensures sound { IfOk result (λ o. IfSome o (λ things. AreSound (things_items shelf.now self.now) (things_items shelf.now things))) }
@@ -216,7 +221,7 @@ impl Contents {
             instances: part.instances,
             shapes: part.shapes,
         };
-        let layout = Layout::of(shelf, part.window, part.most, opened);
+        let layout = Layout::of(shelf, part.window, part.most, opened, Some(part.boxes));
         match layout.part(alloc, self.things()) {
             Ok(contents) => Ok(Some(contents)),
             Err(Stop::Memory) => Err(AllocError),

@@ -1,5 +1,5 @@
 -- What private functions and proofs need of this: things as they are made.
-use Rattle.std.specs.Prelude.{◌≡◌, ℕ, List, ◌++◌, All, slice_get, Some}
+use Rattle.std.specs.Prelude.{◌≡◌, ℕ, List, ◌++◌, All, slice_get, Option, Some, IfSome}
 use Rattle.mpw_geom.specs.Plane.{IsInPlane}
 use Rattle.mpw_geom.specs.declared.plane.Box2.{Box2}
 use Rattle.mpw_structures.specs.Places.{place_of}
@@ -13,12 +13,20 @@ use Rattle.mpw_contents.specs.declared.thing.Array.{Array}
 use Rattle.mpw_contents.specs.declared.thing.Thing.{Thing}
 use Rattle.mpw_contents.specs.declared.thing.Thing.TheVariants as things
 use Rattle.mpw_contents.specs.Contents.{AreWhole, AreSound, IsBoxed}
-use Rattle.mpw_contents.specs.Things.{things_items}
+use Rattle.mpw_contents.specs.Boxes.{AreBoxesOf, box_of}
+use Rattle.mpw_contents.specs.Things.{element_at, things_items}
 
 -- The nodes and the structures of the first submission of a shelf.
 pub record IsLayout (l : Layout) : Type 0 where
   pub nodes : AreNodes l.shelf.now 0 l.nodes.now
   pub structures : l.structures.now ≡ nodes.submission.library
+  pub boxes : IfSome l.boxes (λ b. AreBoxesOf l.shelf.now b.now)
+
+-- What stands in the list is the box of the structure's element at that place.
+abbrev pub HaveBoxes : Layout → ℕ → List (Option Box2) → Type 0
+HaveBoxes l structure boxes =
+    (place : ℕ) (b : Option Box2) → slice_get boxes place ≡ Some b
+    → box_of (element_at (slice_get l.structures.now structure) place) ≡ b
 
 -- One of the nodes.
 pub record IsNodeOf (l : Layout) (node : Node) : Type 0 where

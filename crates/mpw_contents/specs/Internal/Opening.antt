@@ -1,7 +1,8 @@
 -- What private functions and proofs need of this: what the names of a submission show, and its top.
-use Rattle.std.specs.Prelude.{◌≡◌, ℕ, List, [], ◌∷◌, map, pos, slice_get, Option, Some, None}
+use Rattle.std.specs.Prelude.{◌≡◌, ℕ, List, [], ◌∷◌, map, pos, slice_get, Option, Some, None, IsSomeAnd, false}
 use Rattle.std.specs.List.{flat_map}
 use Rattle.mpw_geom.specs.declared.placing.Placing.{Placing}
+use Rattle.mpw_geom.specs.declared.plane.Box2.{Box2}
 use Rattle.mpw_geom.specs.Placing.{oriented_point}
 use Rattle.mpw_structures.specs.declared.element.Element.{Element}
 use Rattle.mpw_geom.specs.declared.plane.Orient.TheVariants.{R0}
@@ -14,6 +15,8 @@ use Rattle.mpw_hier.specs.Named.{OwnNamesAreShown, TopsAreListed}
 use Rattle.mpw_hier.specs.Values.{structure_items}
 use Rattle.mpw_hier.specs.declared.node.Child.{Child}
 use Rattle.mpw_hier.specs.declared.submission.Submission.{Submission}
+use Rattle.mpw_walk.specs.Window.{do_meet}
+use Rattle.mpw_contents.specs.declared.opening.Seen.{Seen}
 use Rattle.mpw_contents.specs.Things.{drawn, element_at, place_shown}
 
 -- A structure's own shapes.
@@ -73,6 +76,12 @@ structure_children t below s children =
 abbrev pub instances_shown : List Submission → ℕ → List Placing → List Item
 instances_shown ss structure ts =
     flat_map (λ t. map (placed_item t) (place_shown ss structure)) ts
+
+-- The box that is held at a place misses the window.
+pub record IsMissed (seen : Seen) (place : ℕ) : Type 0 where
+  pub b : Box2
+  pub at : slice_get seen.boxes.now place ≡ Some (Some b)
+  pub away : IsSomeAnd seen.own (λ own. do_meet b own ≡ false)
 
 -- A reference that is another one, placed.
 pub record IsPlacedReference (t : Placing) (r q : Reference) : Type 0 where

@@ -10,6 +10,7 @@ returns-clause-layout c =
       window = c.args.window;
       most = c.args.most;
       opened = c.args.opened;
+      boxes = c.args.boxes;
     })
     c.nodes.result c.unwrap.ensures c.nodes.ensures.some c.get.result c.unwrap-2.result
-    c.unwrap-2.ensures c.get.ensures c.structures.ensures
+    c.unwrap-2.ensures c.get.ensures c.structures.ensures c.requires.boxes

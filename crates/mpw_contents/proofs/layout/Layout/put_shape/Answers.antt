@@ -1,14 +1,23 @@
-use Rattle.std.proofs.Common.{ap, sym, ◌∙◌}
+use Rattle.std.proofs.Common.{Some, ap, sym, ◌∙◌}
 use Rattle.std.specs.Prelude.{slice_get, option_map}
 use Rattle.std.proofs.lemmas.Result.{on_ok_weaker}
 use Rattle.mpw_hier.specs.Boxes.{placed_box}
 use Rattle.mpw_walk.specs.Window.{is_met}
 use Rattle.mpw_contents.specs.declared.thing.Thing.TheVariants as things
 use Rattle.mpw_contents.specs.Things.{drawn, element_at, element_in, thing_items}
-use Rattle.mpw_contents.proofs.Adding.{adds_one, area_is, area_out, drawn_out, nothing_drawn, own_out, shows_same}
+use Rattle.mpw_contents.proofs.Adding.{adds_one, area_is, area_out, drawn_out, held_out, nothing_drawn, own_out, shows_same}
 use Rattle.mpw_contents.proofs.Layouts.{shape_is}
 use Rattle.mpw_contents.proofs.Read.{copied_none, copied_some}
 use Rattle.mpw_contents.proofs.layout.Layout.put_shape.Goals as goal
+
+pub returns-then-is_missed : goal.returns-then-is_missed
+returns-then-is_missed c =
+    let l = c.args.self.now in
+    let place = c.args.place in
+    let missed = c.is_missed.ensures c.if-is_missed.true in
+    held_out l c.args.placing (element_at (slice_get l.structures.now c.args.structure) place)
+    missed.b c.args.seen.now.own c.args.things.now.items
+    (c.requires.boxes place (Some missed.b) missed.at) c.requires.own missed.away
 
 pub returns-in_default : goal.returns-in_default
 returns-in_default c =
@@ -32,7 +41,7 @@ returns-then-not-is_own_met c =
     let l = c.args.self.now in
     own_out l c.args.placing
     (element_at (slice_get l.structures.now c.args.structure) c.args.place) c.in-Some.element.now
-    c.in-Some-element_box.extent c.args.own.now c.args.things.now.items
+    c.in-Some-element_box.extent c.args.seen.now.own c.args.things.now.items
     (copied_some c.element.result c.in-Some.element _ c.in-Some.is c.element.ensures.is)
     (sym c.element_box.ensures ∙ c.in-Some-element_box.is) c.requires.own
     (c.is_own_met.ensures c.if-not-is_own_met.true)

@@ -1,0 +1,120 @@
+//! The boxes of the elements of small structures, made once for all instances.
+//!
+//! A window that a few shapes of an instance meet is held against the boxes of all of them; to make each box anew from its points
+//! takes some ten times as long as the comparison.
+
+ghost use Rattle.std.specs.Prelude.{◌≡◌, ◌<◌, length, map, All, IfOk};
+ghost use Rattle.std.specs.List.{AllZip};
+ghost use Rattle.mpw_structures.specs.Element.{IsElement};
+ghost use Rattle.mpw_structures.specs.Library.{IsLibrary, IsStructure};
+ghost use Rattle.mpw_hier.specs.Boxes.{element_box};
+ghost use Rattle.mpw_contents.specs.Boxes.{AreBoxesOf, boxes_at};
+ghost use Rattle.mpw_contents.specs.Internal.Held.{HoldsBoxes};
+
+use mpw_geom::Box2;
+use mpw_hier::{Shelf, element_box};
+use mpw_structures::{Element, Structure};
+use std::alloc::{AllocError, Global};
+use std::marker::Model;
+
+/// The most elements of a structure whose boxes are held.
+const MOST_OF_ONE: usize = 1 << 12;
+
+/// The most elements whose boxes are held.
+const MOST_OF_ALL: usize = 1 << 20;
+
+/// The boxes of elements by their structures, which contracts see as lists in the order of the library. A structure whose boxes
+/// aren't held has an empty list.
+pub struct Boxes {
+    structures: Vec<Vec<Option<Box2>>>,
+}
+
+impl Drop for Boxes {
+    fn drop(self) {
+        let Boxes { structures } = self;
+        drop(structures);
+    }
+}
+
+impl Model for Boxes {
+    ghost use Rattle.std.specs.Prelude.{List, Option, map};
+    ghost use Rattle.mpw_geom.specs.declared.plane.Box2.{Box2};
+
+    ghost Value = { List (List (Option Box2)) };
+
+    ghost view = { λ b. map (λ v. v.items) b.structures.items };
+}
+
+/// The boxes of elements. One pass over their points; an error is want of memory.
+fn boxes_of(alloc: Global, elements: &[Element]) -> Result<Vec<Option<Box2>>, AllocError>
+    requires { All IsElement elements.now }
+    ensures { IfOk result (λ v. v.items ≡ map element_box elements.now) }
+{
+    let mut boxes = Vec::new(alloc);
+    for element in elements {
+        boxes.push(element_box(element))?;
+    }
+    Ok(boxes)
+}
+
+/// The boxes of a structure's elements, or no box where there are more than so many elements. An error is want of memory.
+fn held_of(
+    alloc: Global,
+    structure: &Structure,
+    most: usize,
+) -> Result<Vec<Option<Box2>>, AllocError>
+    requires { IsStructure structure.now }
+    ensures { IfOk result (HoldsBoxes structure.now) }
+{
+    let elements = structure.elements.as_slice();
+    if elements.len() > most {
+        return Ok(Vec::new(alloc));
+    }
+    boxes_of(alloc, elements)
+}
+
+/// The boxes of the elements of structures, until there are so many. An error is want of memory.
+fn held_in(
+    alloc: Global,
+    structures: &[Structure],
+    most: usize,
+) -> Result<Vec<Vec<Option<Box2>>>, AllocError>
+    requires { IsLibrary structures.now }
+    ensures { IfOk result (λ v. AllZip HoldsBoxes structures.now v.items) }
+{
+    let mut all = Vec::new(alloc);
+    let mut left = most;
+    for structure in structures {
+        let held = held_of(alloc, structure, left.min(MOST_OF_ONE))?;
+        left = left.saturating_sub(held.len());
+        all.push(held)?;
+    }
+    Ok(all)
+}
+
+impl Boxes {
+    /// The boxes of the elements of a shelf's first submission: of each structure that has 2^12 elements at most, until there are 2^20 boxes. One
+    /// pass over their points.
+    ///
+    /// # Errors
+    /// Want of memory.
+    pub fn of(alloc: Global, shelf: &Shelf) -> Result<Boxes, AllocError>
+        requires { 0 < length shelf.now }
+        ensures { IfOk result (AreBoxesOf shelf.now) }
+    {
+        shelf.is_shelf();
+        let library = &shelf.get(0).unwrap().library;
+        let structures = held_in(alloc, library.structures(), MOST_OF_ALL)?;
+        Ok(Boxes { structures })
+    }
+
+    /// The boxes of the elements of a structure, by its place in the library; none where they aren't held. Takes no memory.
+    pub fn of_structure(&self, structure: usize) -> &[Option<Box2>]
+        ensures { result.now ≡ boxes_at self.now structure }
+    {
+        match self.structures.get(structure) {
+            Some(boxes) => boxes.as_slice(),
+            None => &[],
+        }
+    }
+}
