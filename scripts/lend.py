@@ -4,8 +4,8 @@
   scripts/lend.py TARGET SOURCE..
 
 A library is lent where its crate's texts, and those of all crates below, are the same in both clones, and where a build wrote its sum
-beside it, or a log SOURCE.log of `rt ci` says that it was proved. It is lent by links, so it takes no room. Lend from clones whose libraries were built over one another: the checker
-refuses one that was built over another build.
+beside it, or a log SOURCE.log of `rt ci` says that it was proved. It is lent by links, so it takes no room, or by copies from another
+disk. Lend from clones whose libraries were built over one another: the checker refuses one that was built over another build.
 """
 import importlib.machinery
 import importlib.util
@@ -44,11 +44,12 @@ def proved_in(source):
 
 
 def lend(crate, other):
-    """Links a library, and writes its sum beside it."""
-    to = f"{crate.folder}/out/rlib"
+    """Links a library, or copies it from another disk, and writes its sum beside it."""
+    source, to = f"{other.folder}/out/rlib", f"{crate.folder}/out/rlib"
     shutil.rmtree(to, ignore_errors=True)
     os.makedirs(os.path.dirname(to), exist_ok=True)
-    subprocess.run(["cp", "-al", f"{other.folder}/out/rlib", to], check=True)
+    alike = os.stat(source).st_dev == os.stat(os.path.dirname(to)).st_dev
+    subprocess.run(["cp", "-al" if alike else "-a", source, to], check=True)
     if os.path.exists(f"{to}/stamp"):
         os.remove(f"{to}/stamp")
     with open(f"{to}/stamp", "w", encoding="utf-8") as file:

@@ -17,7 +17,7 @@ use Rattle.mpw_hier.specs.Items.{Item}
 use Rattle.mpw_tiles.specs.Snapshots.{shown}
 use Rattle.mpw_keys.specs.declared.column.Column.{Column}
 use Rattle.mpw_keys.specs.Columns.{seen_box, upright, across}
-use Rattle.mpw_columns.specs.declared.check.Layout.{Layout}
+use Rattle.mpw_columns.specs.declared.layout.Layout.{Layout}
 use Rattle.mpw_columns.specs.declared.earlier.Kept.{Kept}
 use Rattle.mpw_columns.specs.Displaced.{displaced, across_edges, IsDisplaced, ShowsDisplaced}
 use Rattle.mpw_columns.specs.Laws.{MovedItemsShowDisplaced}

@@ -11,7 +11,7 @@ use Rattle.mpw_tiles.specs.Snapshots.{shown}
 use Rattle.mpw_job.specs.Computed.{shown_on}
 use Rattle.mpw_keys.specs.declared.column.Column.{Column}
 use Rattle.mpw_keys.specs.Columns.{seen_box, upright, across}
-use Rattle.mpw_columns.specs.declared.check.Layout.{Layout}
+use Rattle.mpw_columns.specs.declared.layout.Layout.{Layout}
 use Rattle.mpw_columns.specs.Seen.{seen_on}
 use Rattle.mpw_columns.specs.Displaced.{IsDisplaced, ShowsDisplaced, AreDisplacedOn}
 use Rattle.mpw_job.specs.Answers.{listed_on}

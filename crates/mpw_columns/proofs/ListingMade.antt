@@ -18,7 +18,7 @@ use Rattle.mpw_keys.specs.declared.placed.Placed.{Placed}
 use Rattle.mpw_keys.specs.Columns.{seen_box, upright}
 use Rattle.mpw_keys.specs.Firsts.{AreFirstOf, AreFirsts, AreNear, HasSide, IsListed}
 use Rattle.mpw_keys.specs.Keys.{displaced_key, is_of_list, HasNearEdges, IsNear}
-use Rattle.mpw_columns.specs.declared.check.Layout.{Layout}
+use Rattle.mpw_columns.specs.declared.layout.Layout.{Layout}
 use Rattle.mpw_columns.specs.declared.first.Listing.{Listing}
 use Rattle.mpw_columns.specs.Plan.{IsColumnWithin}
 use Rattle.mpw_columns.specs.Laws.{DisplacedColumnsHaveDisplacedLists}

@@ -14,7 +14,7 @@ use Rattle.mpw_contents.specs.Things.{things_items}
 use Rattle.mpw_markers.specs.declared.marker.Key.{Key}
 use Rattle.mpw_job.specs.Layers.{Coverage}
 use Rattle.mpw_keys.specs.Columns.{across}
-use Rattle.mpw_columns.specs.declared.check.Layout.{Layout}
+use Rattle.mpw_columns.specs.declared.layout.Layout.{Layout}
 use Rattle.mpw_columns.specs.declared.kept.Solved.{Solved}
 use Rattle.mpw_columns.specs.Internal.Checked.{IsLayout}
 use Rattle.mpw_columns.specs.Internal.Found.{IsUpright}

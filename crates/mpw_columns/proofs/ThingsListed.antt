@@ -30,7 +30,7 @@ use Rattle.mpw_job.specs.Layers.{Coverage}
 use Rattle.mpw_job.proofs.Shapes.{tests_tell, tests_tell_listed}
 use Rattle.mpw_keys.specs.Columns.{seen_box, across}
 use Rattle.mpw_columns.specs.Seen.{seen_on, seen_square}
-use Rattle.mpw_columns.specs.declared.check.Layout.{Layout}
+use Rattle.mpw_columns.specs.declared.layout.Layout.{Layout}
 use Rattle.mpw_columns.specs.Internal.Found.{AgreeIn, AgreeAll, IsUpright}
 use Rattle.mpw_columns.specs.Internal.Listed.{AddsShown, ShowSeen}
 use Rattle.mpw_columns.specs.Internal.Pieces.{AreThingsIn, AreRectanglesIn, MeetsSquaresOf}

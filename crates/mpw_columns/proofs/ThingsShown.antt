@@ -24,7 +24,7 @@ use Rattle.mpw_contents.specs.Displaced.{moved}
 use Rattle.mpw_contents.specs.Things.{things_items}
 use Rattle.mpw_columns.specs.Seen.{seen_on}
 use Rattle.mpw_columns.specs.declared.batch.Listed.{Listed}
-use Rattle.mpw_columns.specs.declared.check.Layout.{Layout}
+use Rattle.mpw_columns.specs.declared.layout.Layout.{Layout}
 use Rattle.mpw_columns.specs.Internal.Blocks.{IsPart}
 use Rattle.mpw_columns.specs.Internal.Checked.{AreAllThings, HasThings}
 use Rattle.mpw_columns.specs.Internal.Pieces.{AreThingsIn, IsInside, MeetsSquaresOf, seen_things, seen_way, whole_core}

@@ -10,9 +10,9 @@ ghost use Rattle.mpw_columns.specs.Internal.Checked.{IsLayout, IsShared, IsTop, 
 ghost use Rattle.mpw_columns.specs.Internal.Pieces.{seen_layout};
 
 use crate::block::{is_part, whole_of};
-use crate::check::Layout;
 use crate::cores::{core_of, keys_in};
 use crate::equal::{is_first_alone, is_same_axis};
+use crate::layout::Layout;
 use crate::shared::{Shared, rectangles_of, shared_of};
 use crate::solve::runs_in;
 use crate::things::{Task, all_things, is_inside, things_in, whole_core};

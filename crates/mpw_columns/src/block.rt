@@ -7,8 +7,8 @@ ghost use Rattle.std.specs.Prelude.{◌<◌, ◌≤◌, ◌+◌, ◌-ℤ◌, IfS
 ghost use Rattle.mpw_columns.specs.Internal.Blocks.{IsUprightIn, AreUprightIn, IsBlockAt, IsPart, IsCounterpart, AreCounterparts};
 ghost use Rattle.mpw_columns.specs.Internal.Like.{AreContentsOf, AreAlike};
 
-use crate::check::Layout;
 use crate::equal::{distance, is_displaced, is_like, is_same, is_same_axis};
+use crate::layout::Layout;
 use mpw_contents::Contents;
 use mpw_cuts::{Lattice, line_between};
 use mpw_edges::Axis;

@@ -12,16 +12,15 @@ ghost use Rattle.mpw_columns.specs.Internal.Checked.{AreBatches, AreNext, IsLayo
 use crate::batch::{Batch, Top, count_along, top_of};
 use crate::earlier::equal_to_earlier;
 use crate::laws::{columns_have_whole_runs, columns_lie_within, lists_make_the_layout};
+use crate::layout::{Layout, Ready};
 use crate::like::{lists_with, own_columns, shares_of};
-use crate::look::layers_of;
 use crate::plan::counted_columns;
 use crate::progress::Progress;
 use mpw_deck::Rule;
 use mpw_edges::test_decides_pair_steps;
-use mpw_geom::{Box2, Layer};
 use mpw_keys::{Column, ColumnKeys, together};
 use mpw_markers::{Book, Marker};
-use mpw_tiles::{Snapshot, greatest_distance};
+use mpw_tiles::Snapshot;
 use rayon::current_num_threads;
 use rayon::prelude::*;
 use std::alloc::{AllocError, Global};
@@ -34,15 +33,6 @@ const AT_LEAST: usize = 16;
 
 /// How many shapes a column may show: with the walks and rectangles of so many a thread stays within some ten megabytes.
 pub const MAX_SHOWN: u32 = 1 << 16;
-
-/// What is checked: a layout with its extent, the layers that its deck's rules look at, and the greatest of their distances.
-#[derive(Clone, Copy)]
-pub(crate) struct Layout<'a> {
-    pub(crate) snapshot: &'a Snapshot,
-    pub(crate) extent: Box2,
-    pub(crate) layers: &'a [Layer],
-    pub(crate) distance: u32,
-}
 
 /// The keys of a column of the layout. What the batch's things or rectangles take ([`Batch::keys_of`]), and a sort of the keys. An error is want of memory.
 fn check_column(
@@ -245,15 +235,8 @@ pub fn lists_of_columns<P: Progress>(
     let Some(extent) = snapshot.extent() else {
         return Ok(Vec::new(alloc));
     };
-    snapshot.is_snapshot();
-    let rules = snapshot.deck().rules().as_slice();
-    let layers = layers_of(alloc, rules)?;
-    let layout = Layout {
-        snapshot,
-        extent,
-        layers: layers.as_slice(),
-        distance: greatest_distance(rules),
-    };
+    let ready = Ready::of(alloc, snapshot)?;
+    let layout = ready.layout(snapshot, extent);
     every_list(rt, alloc, &layout, columns, progress)
 }
 

@@ -11,9 +11,9 @@ ghost use Rattle.mpw_columns.specs.Found.{IsFound};
 ghost use Rattle.mpw_columns.specs.Internal.Found.{IsUpright, AgreeIn};
 ghost use Rattle.mpw_columns.specs.Internal.Checked.{IsLayout};
 
-use crate::check::Layout;
 use crate::columns::{upright, walk_within};
 use crate::divide::add_column;
+use crate::layout::Layout;
 use crate::list::{list_shapes, seen_box};
 use crate::look::Look;
 use crate::part::{parts_in, window_of};

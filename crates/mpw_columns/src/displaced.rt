@@ -7,8 +7,8 @@ ghost use Rattle.mpw_columns.specs.Lists.{IsColumnList};
 ghost use Rattle.mpw_columns.specs.Internal.Checked.{IsLayout};
 ghost use Rattle.mpw_columns.specs.Internal.Found.{IsUpright};
 
-use crate::check::Layout;
 use crate::laws::displaced_columns_have_displaced_lists;
+use crate::layout::Layout;
 use mpw_edges::test_decides_pair_steps;
 use mpw_keys::{Column, ColumnKeys};
 use std::alloc::{AllocError, Global};

@@ -10,8 +10,8 @@ ghost use Rattle.mpw_columns.specs.Internal.Checked.{IsLayout};
 ghost use Rattle.mpw_columns.specs.Internal.Like.{places_from, AreLikes, AreContentsOf, AreAlike, IsKept, IsTold, MayAdd};
 
 use crate::block::{Block, Columns};
-use crate::check::Layout;
 use crate::equal::{contents_of, is_first_alone};
+use crate::layout::Layout;
 use mpw_contents::{Contents, code};
 use mpw_cuts::lattices_of;
 use mpw_edges::Axis;

@@ -11,9 +11,9 @@ ghost use Rattle.mpw_columns.specs.Internal.Checked.{IsLayout};
 ghost use Rattle.mpw_columns.specs.Internal.Found.{IsUpright};
 ghost use Rattle.mpw_columns.specs.Internal.Like.{AreContentsOf, IsLike};
 
-use crate::check::Layout;
 use crate::columns::upright;
 use crate::laws::moved_items_show_displaced;
+use crate::layout::Layout;
 use crate::list::seen_box;
 use crate::part::window_of;
 use mpw_contents::{Contents, Wanted, contents_in, displacement};

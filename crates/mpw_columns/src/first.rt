@@ -15,19 +15,19 @@ ghost use Rattle.mpw_columns.specs.Internal.Found.{IsUpright};
 ghost use Rattle.mpw_columns.specs.Internal.Like.{AreLikes, own_columns};
 
 use crate::batch::top_of;
-use crate::check::{Batches, Layout, Own, lists_from, rule_count};
+use crate::check::{Batches, Own, lists_from, rule_count};
 use crate::earlier::equal_to_earlier;
 use crate::laws::{
     columns_lie_within, displaced_columns_have_displaced_lists, lists_make_the_layout,
 };
+use crate::layout::{Layout, Ready};
 use crate::like::{own_columns, shares_of};
-use crate::look::layers_of;
 use crate::plan::counted_columns;
 use crate::progress::Progress;
 use mpw_edges::test_decides_pair_steps;
 use mpw_keys::{Column, ColumnKeys, Firsts, Placed, Shared, shared_lists_have_the_first};
 use mpw_markers::Marker;
-use mpw_tiles::{Snapshot, greatest_distance};
+use mpw_tiles::Snapshot;
 use std::alloc::{AllocError, Global};
 use std::thread::Threads;
 
@@ -226,15 +226,8 @@ fn listing_of<P: Progress>(
             placed: Vec::new(alloc),
         });
     };
-    snapshot.is_snapshot();
-    let rules = snapshot.deck().rules().as_slice();
-    let layers = layers_of(alloc, rules)?;
-    let layout = Layout {
-        snapshot,
-        extent,
-        layers: layers.as_slice(),
-        distance: greatest_distance(rules),
-    };
+    let ready = Ready::of(alloc, snapshot)?;
+    let layout = ready.layout(snapshot, extent);
     listing_in(rt, alloc, &layout, sought, progress)
 }
 

@@ -29,6 +29,7 @@ mod first;
 mod follow;
 mod kept;
 mod laws;
+mod layout;
 mod leaf;
 mod like;
 mod list;

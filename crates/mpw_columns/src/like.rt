@@ -8,8 +8,8 @@ ghost use Rattle.mpw_columns.specs.Internal.Checked.{IsLayout};
 ghost use Rattle.mpw_columns.specs.Internal.Found.{IsUpright};
 ghost use Rattle.mpw_columns.specs.Internal.Like.{AreLikes, own_columns};
 
-use crate::check::Layout;
 use crate::displaced::list_from;
+use crate::layout::Layout;
 use mpw_keys::{Column, ColumnKeys};
 use std::alloc::{AllocError, Global};
 

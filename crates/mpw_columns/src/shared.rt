@@ -6,8 +6,8 @@ ghost use Rattle.mpw_columns.specs.Internal.Blocks.{IsUprightIn, AreUprightIn};
 ghost use Rattle.mpw_columns.specs.Internal.Checked.{IsLayout, AgreeInColumn, IsShared};
 
 use crate::block::{is_part, whole_of};
-use crate::check::Layout;
 use crate::cores::{core_of, rectangles_in};
+use crate::layout::Layout;
 use crate::part::{parts_in, window_of};
 use mpw_keys::Column;
 use mpw_tiles::Rectangle;

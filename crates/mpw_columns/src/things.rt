@@ -17,8 +17,8 @@ ghost use Rattle.mpw_columns.specs.Internal.Found.{AgreeIn, IsUpright};
 ghost use Rattle.mpw_columns.specs.Internal.Listed.{ShowSeen};
 ghost use Rattle.mpw_columns.specs.Internal.Pieces.{AreThingsIn, IsInside, IsSpan, MeetsSquaresOf, seen_layout, smaller, whole_core};
 
-use crate::check::Layout;
 use crate::cores::by_layer;
+use crate::layout::Layout;
 use crate::list::{list_shape, seen_box};
 use crate::part::{parts_in, window_of};
 use mpw_contents::{Contents, Part, Shape, Thing, element_of};
@@ -146,6 +146,7 @@ pub(crate) fn things_in(
 {
     squares_lie_in_boxes();
     let part = Part {
+        boxes: task.layout.boxes,
         window: window(task, core),
         most: MOST_THINGS,
         instances: FEW_INSTANCES,
@@ -187,6 +188,7 @@ pub(crate) fn all_things(
     let wide = window_of(upright, layout.distance);
     let high = seen_box(Axis::H, &window_of(lying, layout.distance));
     let part = Part {
+        boxes: layout.boxes,
         window: wide.join(high),
         most: MOST_THINGS,
         instances: FEW_INSTANCES,
@@ -258,6 +260,7 @@ pub(crate) fn rectangles_of_things(
 {
     squares_lie_in_boxes();
     let part = Part {
+        boxes: task.layout.boxes,
         window: window(task, core),
         most: MOST_SHAPES,
         instances: u32::MAX,

@@ -2,6 +2,7 @@
 use Rattle.std.specs.Prelude.{◌≡◌, ◌<◌, ◌≤◌, ◌+◌, ◌^◌, ℕ, List, length, take, drop, All, Some, IfSome}
 use Rattle.std.specs.List.{AllZip}
 use Rattle.mpw_edges.specs.declared.run.Axis.TheVariants.{V, H}
+use Rattle.mpw_contents.specs.Boxes.{AreBoxesOf}
 use Rattle.mpw_contents.specs.declared.thing.Thing.{Thing}
 use Rattle.mpw_tiles.specs.Snapshots.{Snapshot, shown, shown_extent}
 use Rattle.mpw_tiles.specs.declared.listing.Rectangle.{Rectangle}
@@ -16,7 +17,9 @@ use Rattle.mpw_columns.specs.declared.batch.Batch.{Batch}
 use Rattle.mpw_columns.specs.declared.batch.Listed.{Listed}
 use Rattle.mpw_columns.specs.declared.batch.Top.{Top}
 use Rattle.mpw_columns.specs.declared.check.Batches.{Batches}
-use Rattle.mpw_columns.specs.declared.check.Layout.{Layout}
+use Rattle.mpw_columns.specs.declared.layout.Layout.{Layout}
+use Rattle.mpw_columns.specs.declared.layout.Ready.{Ready}
+use Rattle.mpw_columns.specs.Found.{HasLayers}
 use Rattle.mpw_columns.specs.Plan.{AreColumnsOfLayout}
 use Rattle.mpw_columns.specs.Lists.{IsColumnList}
 use Rattle.mpw_columns.specs.Internal.Found.{IsLook, IsUpright, AgreeIn}
@@ -28,6 +31,12 @@ pub record IsLayout (l : Layout) : Type 0 where
   pub extent_is : shown_extent l.snapshot.now ≡ Some l.extent
   pub short : l.distance < 2 ^ 32
   pub look : IsLook l.snapshot.now.deck.rules l.layers.now l.distance
+  pub boxes : AreBoxesOf l.snapshot.now.shelf l.boxes.now
+
+-- The layers are those that the rules look at, and the boxes those of the submission's elements.
+pub record IsReady (s : Snapshot) (r : Ready) : Type 0 where
+  pub layers : All (λ rule. HasLayers r.layers.items rule.check) s.deck.rules
+  pub boxes : AreBoxesOf s.shelf r.boxes
 
 -- In the window of a column, on the layers of the rules, the rectangles have just the squares that the layout shows, as they are seen along its axis.
 abbrev pub AgreeInColumn : Layout → Column → List Rectangle → Type 0

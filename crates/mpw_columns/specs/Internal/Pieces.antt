@@ -21,7 +21,7 @@ use Rattle.mpw_job.specs.Layers.{Coverage, first_squares, second_squares}
 use Rattle.mpw_keys.specs.Columns.{across, seen_box}
 use Rattle.mpw_pieces.specs.Pieces.{IsRowOf}
 use Rattle.mpw_columns.specs.Seen.{seen_on}
-use Rattle.mpw_columns.specs.declared.check.Layout.{Layout}
+use Rattle.mpw_columns.specs.declared.layout.Layout.{Layout}
 use Rattle.mpw_columns.specs.declared.kept.Solved.{Solved}
 use Rattle.mpw_columns.specs.Internal.Found.{AgreeIn, left_of, right_of}
 

@@ -1,7 +1,9 @@
-use Rattle.std.proofs.Common.{◌≡◌, ◌∙◌, ap, sym, subst, IfSome}
+use Rattle.std.proofs.Common.{List, ◌≡◌, ◌∙◌, ap, sym, subst, IfSome}
 use Rattle.std.specs.Prelude.{All}
 use Rattle.mpw_geom.specs.declared.plane.Box2.{Box2}
 use Rattle.mpw_edges.specs.declared.run.Axis.TheVariants.{V, H}
+use Rattle.mpw_hier.specs.declared.submission.Submission.{Submission}
+use Rattle.mpw_contents.specs.Boxes.{AreBoxesOf}
 use Rattle.mpw_contents.specs.Contents.{IsBoxed}
 use Rattle.mpw_contents.specs.Things.{things_items}
 use Rattle.mpw_tiles.specs.Snapshots.{shown}
@@ -10,6 +12,12 @@ use Rattle.mpw_columns.specs.Internal.Pieces.{MeetsSquaresOf}
 use Rattle.mpw_columns.proofs.ThingsListed.{all_told}
 use Rattle.mpw_columns.proofs.Windowed.{meets_first, meets_second}
 use Rattle.mpw_columns.proofs.things.all_things.Goals as goal
+
+pub within-requires-clause-boxes : goal.within-requires-clause-boxes
+within-requires-clause-boxes c =
+    let l = c.args.layout.now in
+    subst (λ (ss : List Submission). AreBoxesOf ss l.boxes.now) (sym c.shelf-shelf.ensures)
+    c.requires.layout.boxes
 
 pub returns : goal.returns
 returns c =
