@@ -28,15 +28,6 @@ const HERE: Placing = Placing {
     by: STILL,
 };
 
-/// Things behind a pass, and whether one was opened.
-#[derive(Drop)]
-pub struct Passed {
-    /// The things.
-    pub things: Vec<Thing>,
-    /// Whether one was opened.
-    pub is_open: bool,
-}
-
 impl<'a> Layout<'a> {
     /// Adds an array, which is handed over as a thing too, or what it shows one level down where it is to be opened. The result is
     /// whether it is opened so.
@@ -62,19 +53,19 @@ impl<'a> Layout<'a> {
         Ok(false)
     }
 
-    /// Adds a thing, or what it shows one level down where it is to be opened. The result is whether it is opened so.
-    fn pass_thing(&self, thing: &Thing, things: &mut Vec<Thing>) -> Result<bool, Stop>
+    /// Adds a thing, or what it shows one level down where it is to be opened.
+    fn pass_thing(&self, thing: &Thing, things: &mut Vec<Thing>) -> Result<(), Stop>
         requires layout { IsLayout self.now }
         requires thing { IsThing self.now.nodes.now thing.now }
         requires boxed { IsBoxed self.now.shelf.now thing.now }
         ensures { OnOk result (Adds self.now (thing_items self.now.shelf.now thing.now) things.old.items things.new.items) }
     {
         match thing {
-            Thing::Shape(_) => {
-                self.push(thing, things)?;
-                Ok(false)
+            Thing::Shape(_) => self.push(thing, things),
+            Thing::Array(array) => {
+                self.pass_array(array, thing, things)?;
+                Ok(())
             }
-            Thing::Array(array) => self.pass_array(array, thing, things),
         }
     }
 
@@ -82,20 +73,25 @@ impl<'a> Layout<'a> {
     ///
     /// # Errors
     /// As those of [`Layout::open`].
-    fn pass(&self, alloc: Global, old: &[Thing]) -> Result<Passed, Stop>
+    fn pass(&self, alloc: Global, old: &[Thing]) -> Result<Vec<Thing>, Stop>
         requires layout { IsLayout self.now }
         requires things { All (IsThing self.now.nodes.now) old.now }
         requires boxed { All (IsBoxed self.now.shelf.now) old.now }
-        ensures { IfOk result (λ passed. Adds self.now (things_items self.now.shelf.now old.now) [] passed.things.items) }
+        ensures { IfOk result (λ things. Adds self.now (things_items self.now.shelf.now old.now) [] things.items) }
     {
         let mut things = Vec::new(alloc);
-        let mut is_open = false;
         for thing in old {
-            if self.pass_thing(thing, &mut things)? {
-                is_open = true;
-            }
+            self.pass_thing(thing, &mut things)?;
         }
-        Ok(Passed { things, is_open })
+        Ok(things)
+    }
+
+    /// Whether one of the things is to be opened.
+    fn are_opened(&self, things: &[Thing]) -> bool {
+        things.iter().any(|thing| match thing {
+            Thing::Shape(_) => false,
+            Thing::Array(array) => self.is_opened(array),
+        })
     }
 
     /// The contents that things are once one pass after another has opened them.
@@ -111,15 +107,10 @@ impl<'a> Layout<'a> {
     {
         let mut things = from;
         for _ in 0..PASSES {
-            let passed = self.pass(alloc, &things)?;
-            let Passed {
-                things: next,
-                is_open,
-            } = passed;
-            if !is_open {
-                return Ok(Contents { things: next });
+            if !self.are_opened(&things) {
+                return Ok(Contents { things });
             }
-            things = next;
+            things = self.pass(alloc, &things)?;
         }
         Err(Stop::Many)
     }

@@ -18,7 +18,6 @@ use crate::contents::Contents;
 use crate::fit::{fitted, is_area_met, is_single, is_single_met};
 use crate::laws::names_are_opened;
 use crate::layout::{Layout, Opened};
-use crate::making::Passed;
 use crate::stop::Stop;
 use crate::thing::{Array, Shape, Thing};
 use mpw_geom::Box2;
@@ -38,6 +37,13 @@ pub struct Part<'a> {
     pub instances: u32,
     /// where the structure shows more than so many shapes.
     pub shapes: u64,
+}
+
+/// What of things may meet a window, and whether one of them was opened.
+#[derive(Drop)]
+struct Fitted {
+    things: Vec<Thing>,
+    is_open: bool,
 }
 
 impl<'a> Layout<'a> {
@@ -128,11 +134,11 @@ impl<'a> Layout<'a> {
     ///
     /// # Errors
     /// As those of [`Layout::fit_array`].
-    fn fit(&self, alloc: Global, old: &[Thing]) -> Result<Passed, Stop>
+    fn fit(&self, alloc: Global, old: &[Thing]) -> Result<Fitted, Stop>
         requires layout { IsLayout self.now }
         requires near { All IsNear old.now }
         requires boxed { All (IsBoxed self.now.shelf.now) old.now }
-        ensures { IfOk result (λ passed. Adds self.now (things_items self.now.shelf.now old.now) [] passed.things.items) }
+        ensures { IfOk result (λ fitted. Adds self.now (things_items self.now.shelf.now old.now) [] fitted.things.items) }
     {
         names_are_opened();
         let mut things = Vec::new(alloc);
@@ -142,7 +148,7 @@ impl<'a> Layout<'a> {
                 is_open = true;
             }
         }
-        Ok(Passed { things, is_open })
+        Ok(Fitted { things, is_open })
     }
 
     /// What of things meets the window, opened as wanted.
@@ -156,8 +162,8 @@ impl<'a> Layout<'a> {
         ensures boxed { IfOk result (All (IsBoxed self.now.shelf.now)) }
         ensures shows { IfOk result (λ contents. Shows self.now.window (things_items self.now.shelf.now old.now) (things_items self.now.shelf.now contents)) }
     {
-        let passed = self.fit(alloc, old)?;
-        let Passed { things, is_open } = passed;
+        let fitted = self.fit(alloc, old)?;
+        let Fitted { things, is_open } = fitted;
         if is_open {
             return self.finish(alloc, things);
         }

@@ -8,8 +8,8 @@ returns-then-is_open-clause-shows c =
     let l = c.args.self.now in
     let ss = l.shelf.now in
     let old = things_items ss c.args.old.now in
-    let first = c.in_ok-passed.passed.things.items in
+    let first = c.in_ok-fitted.fitted.things.items in
     IfOk-weaker c.finish.result _ _
     (λ contents h. shows_again l.window old (things_items ss first)
-    (things_items ss contents) (adds_shows l old first c.in_ok-passed.ensures) h)
+    (things_items ss contents) (adds_shows l old first c.in_ok-fitted.ensures) h)
     c.finish.ensures.shows
