@@ -1,5 +1,5 @@
 -- The parts of a picture's text that are the same in each, in the order in which they stand.
-use Rattle.std.specs.Prelude.{ℕ, List, codes}
+use Rattle.std.specs.Prelude.{ℕ, List, ◌++◌, codes}
 use Rattle.mpw_picture.specs.declared.part.Part.{Part}
 use Rattle.mpw_picture.specs.declared.part.Part.TheVariants.{Head, Title, LayerColours, RuleColours, Patterns, Ground, Dense, End}
 
@@ -10,10 +10,20 @@ part_text Head =
 part_text Title = codes "\">\n<title>"
 part_text LayerColours =
     codes
-    "</title>\n<style>\n.l{opacity:.6}\n.l0{fill:#4e79a7}\n.l1{fill:#f28e2b}\n.l2{fill:#59a14f}\n.l3{fill:#b07aa1}\n.l4{fill:#edc948}\n.l5{fill:#76b7b2}\n.l6{fill:#9c755f}\n.l7{fill:#17becf}\n.l8{fill:#bcbd22}\n.l9{fill:#8cd17d}\n.l10{fill:#9ecae1}\n.l11{fill:#79706e}\n"
+    "</title>\n<style>\n.l{opacity:.6}\n.l0{fill:#4e79a7}\n.l1{fill:#f28e2b}\n.l2{fill:#59a14f}\n.l3{fill:#b07aa1}\n.l4{fill:#edc948}\n"
+    ++ codes
+    ".l5{fill:#76b7b2}\n.l6{fill:#9c755f}\n.l7{fill:#17becf}\n.l8{fill:#bcbd22}\n.l9{fill:#8cd17d}\n.l10{fill:#9ecae1}\n.l11{fill:#79706e}\n"
 part_text RuleColours =
     codes
-    ".m{fill-opacity:.2;stroke-linejoin:round}\n.m0{fill:#d00000;stroke:#d00000}\n.m1{fill:#0000d0;stroke:#0000d0}\n.m2{fill:#b000b0;stroke:#b000b0}\n.m3{fill:#000000;stroke:#000000}\n.m4{fill:#007000;stroke:#007000}\n.m5{fill:#804000;stroke:#804000}\n.m6{fill:#ff5a00;stroke:#ff5a00}\n.m7{fill:#008b8b;stroke:#008b8b}\n.m8{fill:#6a00ff;stroke:#6a00ff}\n.m9{fill:#808000;stroke:#808000}\n.m10{fill:#ff1493;stroke:#ff1493}\n.m11{fill:#405a80;stroke:#405a80}\n.w{fill:none;stroke:#000;stroke-linecap:round;stroke-linejoin:round}\n"
+    ".m{fill-opacity:.2;stroke-linejoin:round}\n.m0{fill:#d00000;stroke:#d00000}\n.m1{fill:#0000d0;stroke:#0000d0}\n"
+    ++ codes
+    ".m2{fill:#b000b0;stroke:#b000b0}\n.m3{fill:#000000;stroke:#000000}\n.m4{fill:#007000;stroke:#007000}\n"
+    ++ codes
+    ".m5{fill:#804000;stroke:#804000}\n.m6{fill:#ff5a00;stroke:#ff5a00}\n.m7{fill:#008b8b;stroke:#008b8b}\n"
+    ++ codes
+    ".m8{fill:#6a00ff;stroke:#6a00ff}\n.m9{fill:#808000;stroke:#808000}\n.m10{fill:#ff1493;stroke:#ff1493}\n"
+    ++ codes
+    ".m11{fill:#405a80;stroke:#405a80}\n.w{fill:none;stroke:#000;stroke-linecap:round;stroke-linejoin:round}\n"
 part_text Patterns = codes "</style>\n<defs>\n"
 part_text Ground =
     codes
