@@ -50,7 +50,7 @@ fn boxes_of(alloc: Global, elements: &[Element]) -> Result<Vec<Option<Box2>>, Al
     requires { All IsElement elements.now }
     ensures { IfOk result (λ v. v.items ≡ map element_box elements.now) }
 {
-    let mut boxes = Vec::new(alloc);
+    let mut boxes = Vec::with_capacity(alloc, elements.len())?;
     for element in elements {
         boxes.push(element_box(element))?;
     }
