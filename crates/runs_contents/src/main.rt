@@ -6,9 +6,14 @@
 //!   WIDTH nm along the AXIS `x` or `y` is opened. A shape is told by its structure, its element and its placing, an array by its structure, its first
 //!   placing, its columns and rows, and its steps;
 //! - `alike MOST WIDTH AXIS WINDOW WINDOW | LIBRARY` tells by which displacement the contents of the second window are those of the first, or `other`,
-//!   and whether both have the same number.
+//!   and whether both have the same number;
+//! - `part MOST INSTANCES SHAPES WINDOW | LIBRARY` tells what of the top meets a window, as `see` does, or `none`: at most MOST things, where arrays of at
+//!   most INSTANCES instances are opened whose structure shows more than SHAPES shapes;
+//! - `boxes STRUCTURE | LIBRARY` tells how many boxes are held of the elements of the structure at that place of the library, and where they are at most
+//!   nine each of them, or `none` for a reference.
 #![tactic(auto)]
 
+mod part;
 mod seen;
 
 use anyhow::{Result, bail};
@@ -28,6 +33,11 @@ fn answer(rt: &(impl Print + AllocGlobal), line: &str) -> Result<()> {
             let wanted = seen::wanted(most, width, axis)?;
             seen::print_alike(rt, wanted, windows, library)
         }
+        ["part", most, instances, shapes, window @ ..] => {
+            let wish = part::Wish::of(most, instances, shapes, window)?;
+            part::print_part(rt, wish, library)
+        }
+        ["boxes", structure] => part::print_boxes_of(rt, structure, library),
         _ => bail!("a command"),
     }
 }

@@ -19,7 +19,7 @@ pub fn wanted(most: &str, width: &str, axis: &str) -> Result<Wanted> {
 }
 
 /// The shelf with a library's top alone.
-fn shelf_of(alloc: Global, library: &str) -> Result<Shelf> {
+pub fn shelf_of(alloc: Global, library: &str) -> Result<Shelf> {
     let mut shelf = Shelf::new(alloc);
     submit(alloc, &mut shelf, "chip", "TOP", library)?;
     Ok(shelf)
@@ -63,7 +63,12 @@ fn print_array(rt: &impl Print, name: &str, array: &Array) -> Result<()> {
     print_steps(rt, array)
 }
 
-fn print_contents(rt: &impl Print, structures: &[Structure], contents: &Contents) -> Result<()> {
+/// Tells things, one a line.
+pub fn print_contents(
+    rt: &impl Print,
+    structures: &[Structure],
+    contents: &Contents,
+) -> Result<()> {
     for thing in contents.things() {
         match thing {
             Thing::Shape(shape) => print_shape(rt, name_at(structures, shape.structure), shape)?,
