@@ -14,6 +14,12 @@ const FEW_MARKERS: usize = 1 << 20;
 /// What an element of the checked structure takes in the lists into which a layout of few structures is cut, in bytes.
 const FOR_AN_ELEMENT: u64 = 300;
 
+/// What the box of an element takes that is held for columns, with those of its structure beside it, in bytes,
+const FOR_A_BOX: u64 = 48;
+
+/// and of how many elements of the library they are held at most.
+const MOST_BOXES: u64 = 1 << 20;
+
 /// What a shape of a layout takes that is cut into the windows of tiles, in bytes.
 const FOR_A_SHAPE: u64 = 1024;
 
@@ -58,19 +64,35 @@ fn elements_of(layout: &Snapshot) -> u64 {
     (top.children.len() as u64).saturating_add(top.shapes.len() as u64)
 }
 
+/// How many elements the library has.
+fn elements_in(layout: &Snapshot) -> u64 {
+    let mut count = 0u64;
+    if let Some(submission) = layout.shelf().get(0) {
+        for structure in submission.library.structures() {
+            count = count.saturating_add(structure.elements.len() as u64);
+        }
+    }
+    count
+}
+
 /// What a layout takes that is cut into windows or lists, in bytes.
 fn for_layout(layout: &Snapshot) -> u64 {
     if checked_tiles(layout).is_some() {
         return layout.shelf().count(0).saturating_mul(FOR_A_SHAPE);
     }
+    let boxes = elements_in(layout)
+        .min(MOST_BOXES)
+        .saturating_mul(FOR_A_BOX);
     if is_placed(layout) {
-        return elements_of(layout).saturating_mul(FOR_AN_ELEMENT);
+        return elements_of(layout)
+            .saturating_mul(FOR_AN_ELEMENT)
+            .saturating_add(boxes);
     }
-    0
+    boxes
 }
 
 /// The most memory that a check is reckoned to take, in MB of 2^20 bytes: what the process had when the library was read, what the layout takes in windows or
-/// lists, what each of so many threads does, and the markers that are held. Shapes that lie over one another in great numbers take more.
+/// in lists and boxes, what each of so many threads does, and the markers that are held. Shapes that lie over one another in great numbers take more.
 pub fn reckoned(layout: &Snapshot, read: u64, threads: usize, held: usize) -> u64 {
     let markers = (held as u64).saturating_mul(FOR_A_MARKER);
     let bytes = for_layout(layout).saturating_add(markers);
