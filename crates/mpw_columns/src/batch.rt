@@ -70,6 +70,11 @@ fn task_along<'a>(layout: &'a Layout<'a>, axis: Axis) -> Task<'a>
 }
 
 impl Top {
+    /// Whether there is a list of things.
+    pub(crate) fn has_things(&self) -> bool {
+        self.things.is_some()
+    }
+
     /// The things in the window of the column of all places of these columns; none where there is no such list. A pass over the things; an error is want
     /// of memory.
     fn listed(

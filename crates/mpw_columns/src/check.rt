@@ -31,6 +31,9 @@ const FOR_EACH: usize = 4;
 
 const AT_LEAST: usize = 16;
 
+/// How many lists of rectangles are made at most, each of which is a walk over the top, and one more for each axis.
+const MOST_WALKS: usize = 16;
+
 /// How many shapes a column may show: with the walks and rectangles of so many a thread stays within some ten megabytes.
 pub const MAX_SHOWN: u32 = 1 << 16;
 
@@ -79,13 +82,18 @@ fn lists_of(
         .collect::<Result<Vec<ColumnKeys>, AllocError>>(rt, alloc)?
 }
 
-/// How many columns are worked at once: so many that no processor is idle for long where one takes longer than others.
-fn batch_of(rt: &impl Threads) -> usize
+/// How many columns are worked at once: so many that no processor is idle for long where one takes longer than others, and of those that share a list of
+/// rectangles so many that there are few lists.
+fn batch_of(rt: &impl Threads, batches: &Batches<'_>) -> usize
     ensures { 1 ≤ result }
 {
-    current_num_threads(rt)
+    let least = current_num_threads(rt)
         .saturating_mul(FOR_EACH)
-        .max(AT_LEAST)
+        .max(AT_LEAST);
+    if batches.top.has_things() {
+        return least;
+    }
+    least.max(batches.own.columns.len() / MOST_WALKS)
 }
 
 /// So many columns from a place on.
@@ -141,7 +149,7 @@ pub(crate) fn lists_from(
     ensures { IfOk result (λ v. AreNext batches.now.layout.now.snapshot.now batches.now.own.now.columns.now reached v.items) }
 {
     let columns = batches.own.columns;
-    let most = batch_of(rt).min(columns.len() - reached);
+    let most = batch_of(rt, batches).min(columns.len() - reached);
     let count = count_along(columns, reached, most);
     let next = batch_at(columns, reached, count);
     lists_of(rt, alloc, batches.layout, batches.top, next)
@@ -206,18 +214,18 @@ fn every_list<P: Progress>(
 /// The keys of columns of a layout, a list for each, in their order: those of the layout's maximal runs of the column's axis whose `x1` lies in
 /// the column. The columns may be all of the layout's, or a share of them: what a column finds is the same.
 ///
-/// A column whose window shows what that of an earlier one of these does, displaced, as far as a short list of shapes and arrays tells it, has
-/// that one's keys, displaced: for each column a list of at most 4096 of them is made, which costs a look at the top's shapes and
-/// references at least, and at most 2^20 things are kept. Where an array shows half of the layout, columns side by side are asked as one before they
-/// are halved and asked again, so that of an array of arrays few lists are made; at the worst these are twice as many as columns. The other columns
-/// are worked in batches of four for each processor, 16 at least, in at most two threads for each; progress is told of them, before the first and after
-/// each batch.
+/// A column whose window shows what that of an earlier one of these does, displaced, as far as a short list of shapes and arrays tells it, has that one's
+/// keys, displaced: for each column a list of at most 4096 of them is made, which costs a look at the top's shapes and references at least, and at most
+/// 2^20 things are kept. Where an array shows half of the layout, columns side by side are asked as one before they are halved and asked again, so that
+/// of an array of arrays few lists are made; at the worst these are twice as many as columns. The other columns are worked in batches of four for each
+/// processor, 16 at least, in at most two threads for each, or of a sixteenth of all where that is more and rectangles are shared; progress is told of
+/// them, before the first and after each batch.
 ///
 /// One walk a column gives the shapes whose boxes meet its window, and the rectangles of those on the rules' layers are listed; so what is held is the
-/// rectangles of as many columns as there are threads, and the keys. A walk looks at each shape and reference of the top: where these are 2^18 at
-/// least, one walk lists the rectangles of a batch that stands together, and each of its columns takes its own of them by one pass; then those of a
-/// batch are held. A column costs its walk or that pass, its rectangles, a sort of them by layer, a pass over them a halving, the bands and pairs of each part, and a sort of its keys; one
-/// that is like an earlier one a pass over that one's keys.
+/// rectangles of as many columns as there are threads, and the keys. A walk looks at each shape and reference of the top: where these are 2^18 at least,
+/// one walk lists the rectangles of a batch that stands together, and each of its columns takes its own of them by one pass; then those of a batch are
+/// held, and there are some 16 walks in all. A column costs its walk or that pass, its rectangles, a sort of them by layer, a pass over them a halving,
+/// the bands and pairs of each part, and a sort of its keys; one that is like an earlier one a pass over that one's keys.
 ///
 /// # Errors
 /// Want of memory; also where the progress has no room for the markers that are found.

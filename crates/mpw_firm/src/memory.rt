@@ -14,6 +14,9 @@ const FEW_MARKERS: usize = 1 << 20;
 /// What an element of the checked structure takes in the lists into which a layout of few structures is cut, in bytes.
 const FOR_AN_ELEMENT: u64 = 300;
 
+/// What a shape of another layout takes in the lists that a batch of columns shares, in bytes.
+const FOR_A_SHARED_SHAPE: u64 = 10;
+
 /// What the box of an element takes that is held for columns, with those of its structure beside it, in bytes,
 const FOR_A_BOX: u64 = 48;
 
@@ -83,12 +86,15 @@ fn for_layout(layout: &Snapshot) -> u64 {
     let boxes = elements_in(layout)
         .min(MOST_BOXES)
         .saturating_mul(FOR_A_BOX);
-    if is_placed(layout) {
-        return elements_of(layout)
-            .saturating_mul(FOR_AN_ELEMENT)
-            .saturating_add(boxes);
-    }
-    boxes
+    let lists = if is_placed(layout) {
+        elements_of(layout).saturating_mul(FOR_AN_ELEMENT)
+    } else {
+        layout
+            .shelf()
+            .count(0)
+            .saturating_mul(FOR_A_SHARED_SHAPE)
+    };
+    lists.saturating_add(boxes)
 }
 
 /// The most memory that a check is reckoned to take, in MB of 2^20 bytes: what the process had when the library was read, what the layout takes in windows or
