@@ -72,7 +72,7 @@ fn elements_in(layout: &Snapshot) -> u64 {
     let mut count = 0u64;
     if let Some(submission) = layout.shelf().get(0) {
         for structure in submission.library.structures() {
-            count = count.saturating_add(structure.elements.len() as u64);
+            count = count.saturating_add(structure.elements.as_slice().len() as u64);
         }
     }
     count
@@ -89,10 +89,7 @@ fn for_layout(layout: &Snapshot) -> u64 {
     let lists = if is_placed(layout) {
         elements_of(layout).saturating_mul(FOR_AN_ELEMENT)
     } else {
-        layout
-            .shelf()
-            .count(0)
-            .saturating_mul(FOR_A_SHARED_SHAPE)
+        layout.shelf().count(0).saturating_mul(FOR_A_SHARED_SHAPE)
     };
     lists.saturating_add(boxes)
 }
