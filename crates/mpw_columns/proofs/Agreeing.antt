@@ -1,5 +1,5 @@
 -- What a column finds depends on the squares of its window alone, which is no higher and no deeper than the column.
-use Rattle.std.proofs.Common.{◌≡◌, ℕ, ◌+◌, ◌≤◌, ℤ, pos, ◌-ℤ◌, ◌≤ℤ◌, ◌<ℤ◌, List, ◌⊎◌, inl, inr, refl, sym, ◌∙◌, arith}
+use Rattle.std.proofs.Common.{ℕ, ◌+◌, ◌≤◌, ℤ, pos, ◌-ℤ◌, ◌≤ℤ◌, ◌<ℤ◌, List, refl, sym, arith}
 use Rattle.std.specs.Prelude.{All}
 use Rattle.std.proofs.lemmas.Int.{ints}
 use Rattle.std.proofs.lemmas.List.Elements.{All-contains}
@@ -11,10 +11,10 @@ use Rattle.mpw_deck.specs.declared.rule.Check.TheVariants.{Width, Space, Separat
 use Rattle.mpw_edges.specs.declared.run.Axis.{Axis}
 use Rattle.mpw_edges.specs.declared.run.Axis.TheVariants.{V, H}
 use Rattle.mpw_region.specs.Exchange.{exchanged_box}
-use Rattle.mpw_edges.specs.Edges.{Squares, exchanged, IsRise, IsFall}
-use Rattle.mpw_edges.specs.Steps.{IsPair}
+use Rattle.mpw_edges.specs.Edges.{Squares, exchanged}
 use Rattle.mpw_edges.specs.Pieces.{HasVerticalStep, HasStep}
 use Rattle.mpw_edges.specs.Laws.{AreSameIn}
+use Rattle.mpw_edges.proofs.Window.{SameAlong, pair_same}
 use Rattle.mpw_markers.specs.declared.marker.Key.{Key}
 use Rattle.mpw_job.specs.Layers.{Coverage, first_squares, second_squares}
 use Rattle.mpw_job.proofs.Tests.{get_contains}
@@ -24,66 +24,6 @@ use Rattle.mpw_columns.specs.Found.{IsRun, HasStepAt, IsFound, HasLayers}
 use Rattle.mpw_columns.specs.Internal.Found.{IsLook, AgreeIn}
 
 -- ---- one row
-
--- the same squares in a row, from before x1 to x2
-abbrev SameAlong : Squares → Squares → ℤ → ℤ → ℤ → Type 0
-SameAlong a b x1 x2 j = (i : ℤ) → (x1 -ℤ pos 1) ≤ℤ i → i ≤ℤ x2 → a i j ≡ b i j
-
-rise_same : (a b : Squares) (x1 x2 j x : ℤ) → SameAlong a b x1 x2 j → x1 ≤ℤ x → x ≤ℤ x2
-    → IsRise a x j → IsRise b x j
-rise_same a b x1 x2 j x same l u r = (
-  sym (same x (omega (arith, ints, l)) u) ∙ r.0,
-  sym (same (x -ℤ pos 1) (omega (arith, ints, l)) (omega (arith, ints, u))) ∙ r.1,
-)
-
-fall_same : (a b : Squares) (x1 x2 j x : ℤ) → SameAlong a b x1 x2 j → x1 ≤ℤ x → x ≤ℤ x2
-    → IsFall a x j → IsFall b x j
-fall_same a b x1 x2 j x same l u r = (
-  sym (same (x -ℤ pos 1) (omega (arith, ints, l)) (omega (arith, ints, u))) ∙ r.0,
-  sym (same x (omega (arith, ints, l)) u) ∙ r.1,
-)
-
-at_first : (x1 x2 : ℤ) → x1 ≤ℤ x1
-at_first x1 x2 = omega (arith, ints)
-
-weak : (x1 x2 : ℤ) → x1 <ℤ x2 → x1 ≤ℤ x2
-weak x1 x2 h = omega (arith, ints, h)
-
--- either side of two layers, where each of its steps stays
-either_same : {S T A B C D A' B' C' D' : Type 0} → (A → A') → (B → B') → (C → C') → (D → D')
-    → ((S × A × B) ⊎ (T × C × D)) → ((S × A' × B') ⊎ (T × C' × D'))
-either_same a b c d (inl p) = inl (p.0, a p.1, b p.2)
-either_same a b c d (inr p) = inr (p.0, c p.1, d p.2)
-
-pair_same : (check : Check) (a b a' b' : Squares) (side : ℕ) (x1 x2 j : ℤ) → SameAlong a a' x1 x2 j
-    → SameAlong b b' x1 x2 j → IsPair check a b side x1 x2 j → IsPair check a' b' side x1 x2 j
-pair_same (Width l) a b a' b' side x1 x2 j f g w = (
-  w.0,
-  rise_same a a' x1 x2 j x1 f (at_first x1 x2) (weak x1 x2 w.3) w.1,
-  fall_same a a' x1 x2 j x2 f (weak x1 x2 w.3) (at_first x2 x1) w.2,
-  w.3,
-  λ i l u. sym (f i (omega (arith, ints, l)) (omega (arith, ints, u))) ∙ w.4 i l u,
-)
-pair_same (Space l) a b a' b' side x1 x2 j f g w = (
-  w.0,
-  fall_same a a' x1 x2 j x1 f (at_first x1 x2) (weak x1 x2 w.3) w.1,
-  rise_same a a' x1 x2 j x2 f (weak x1 x2 w.3) (at_first x2 x1) w.2,
-  w.3,
-)
-pair_same (Separation l m) a b a' b' side x1 x2 j f g w = (
-  w.0,
-  either_same (fall_same a a' x1 x2 j x1 f (at_first x1 x2) w.0)
-      (rise_same b b' x1 x2 j x2 g w.0 (at_first x2 x1))
-      (fall_same b b' x1 x2 j x1 g (at_first x1 x2) w.0)
-      (rise_same a a' x1 x2 j x2 f w.0 (at_first x2 x1)) w.1,
-)
-pair_same (Enclosing l m) a b a' b' side x1 x2 j f g w = (
-  w.0,
-  either_same (rise_same a a' x1 x2 j x1 f (at_first x1 x2) w.0)
-      (rise_same b b' x1 x2 j x2 g w.0 (at_first x2 x1))
-      (fall_same b b' x1 x2 j x1 g (at_first x1 x2) w.0)
-      (fall_same a a' x1 x2 j x2 f w.0 (at_first x2 x1)) w.1,
-)
 
 along : (a a' : Squares) (core : Box2) (distance greatest : ℕ) (x1 x2 j : ℤ) → distance ≤ greatest
     → AreSameIn (across core (greatest + 1)) a a' → core.x0 ≤ℤ x1 → x1 <ℤ core.x1 → core.y0 ≤ℤ j

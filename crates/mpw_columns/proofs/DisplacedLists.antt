@@ -29,6 +29,7 @@ use Rattle.mpw_columns.specs.Laws.{ColumnsHaveWholeRuns, DisplacedColumnsFindDis
 use Rattle.mpw_columns.specs.Runs.{IsRunOf, IsRunWithin}
 use Rattle.mpw_columns.specs.Lists.{IsColumnList}
 use Rattle.mpw_columns.specs.Internal.Found.{IsLook, IsUpright}
+use Rattle.mpw_columns.proofs.KeySides.{there_and_back}
 use Rattle.mpw_columns.proofs.SeenSteps.{found_maximal, maximal_found, step_on_seen}
 use Rattle.mpw_columns.proofs.Telling.{of_map, to_map}
 
@@ -80,29 +81,6 @@ run_of_found law whole s extent c k found =
       λ f. (whole s extent c k found).0 (found_maximal law s.deck.rules on extent c k f),
       λ r. maximal_found law s.deck.rules on extent c k ((whole s extent c k found).1 r),
     )
-
--- the key, displaced there and back
-there_and_back : (by : ℤ) (k : Key) → displaced_key by (displaced_key (neg_ℤ by) k) ≡ k
-there_and_back by k =
-    let back : (x : ℤ) → ((x +ℤ neg_ℤ by) +ℤ by) ≡ x = λ x. omega (arith, ints) in
-    ap (λ (x : ℤ). let l : Key = record {
-      rule = k.rule;
-      axis = k.axis;
-      side = k.side;
-      x1 = x;
-      x2 = (k.x2 +ℤ neg_ℤ by) +ℤ by;
-      y0 = k.y0;
-      y1 = k.y1;
-    } in l) (back k.x1)
-    ∙ ap (λ (x : ℤ). let l : Key = record {
-      rule = k.rule;
-      axis = k.axis;
-      side = k.side;
-      x1 = k.x1;
-      x2 = x;
-      y0 = k.y0;
-      y1 = k.y1;
-    } in l) (back k.x2)
 
 pub displaced_lists : TestDecidesPairSteps → ColumnsHaveWholeRuns
     → DisplacedColumnsFindDisplacedRuns → DisplacedColumnsHaveDisplacedLists

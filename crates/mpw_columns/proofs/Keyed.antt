@@ -1,19 +1,18 @@
 -- The keys of runs that stand apart are those of the maximal runs of their places.
-use Rattle.std.proofs.Common.{◌≡◌, ℕ, ◌<◌, ◌+◌, ℤ, pos, ◌-ℤ◌, ◌≤ℤ◌, ◌<ℤ◌, List, [], ◌∷◌, ◌++◌, length, get_or, take, map, Option, Some, ◌⊎◌, inl, inr, subst, refl, sym, ap, ◌∙◌, arith, append_assoc}
+use Rattle.std.proofs.Common.{◌≡◌, ℕ, ◌<◌, ◌+◌, ℤ, List, [], ◌∷◌, ◌++◌, length, get_or, take, map, Option, Some, ◌⊎◌, inl, inr, subst, refl, sym, ap, ◌∙◌, arith, append_assoc}
 use Rattle.std.specs.Prelude.{◌↔◌, Contains, slice_get}
-use Rattle.std.proofs.lemmas.Int.{ints, by_lt_z}
 use Rattle.std.proofs.lemmas.List.{map_more}
-use Rattle.std.proofs.lemmas.List.Elements.{All-contains, Contains-append_left, Contains-append_right, Contains-append_cases}
+use Rattle.std.proofs.lemmas.List.Elements.{Contains-append_left, Contains-append_right, Contains-append_cases}
 use Rattle.mpw_geom.specs.declared.plane.Box2.{Box2}
 use Rattle.mpw_deck.specs.declared.rule.Rule.{Rule}
 use Rattle.mpw_region.specs.declared.runs.Line.{Line}
 use Rattle.mpw_region.specs.declared.runs.Run.{Run}
-use Rattle.mpw_region.specs.Runs.{CoversPlace, IsFilled, StandsBefore, AreApart}
-use Rattle.mpw_region.proofs.Order.{line_before}
-use Rattle.mpw_region.proofs.Held.{held_map, map_held, one_or_before}
+use Rattle.mpw_region.specs.Runs.{AreApart}
+use Rattle.mpw_region.proofs.Held.{held_map, map_held}
 use Rattle.mpw_region.proofs.Joins.{no_run}
 use Rattle.mpw_edges.specs.declared.run.Axis.{Axis}
 use Rattle.mpw_edges.specs.Pieces.{HasVerticalStep}
+use Rattle.mpw_edges.proofs.Maximal.{HoldJust, run_is_maximal as run_of_apart, maximal_is_run as apart_has_run}
 use Rattle.mpw_markers.specs.declared.marker.Key.{Key}
 use Rattle.mpw_job.specs.Layers.{Coverage, first_squares, second_squares}
 use Rattle.mpw_columns.specs.Found.{IsRun, HasStepAt, IsFound}
@@ -21,85 +20,17 @@ use Rattle.mpw_columns.specs.Internal.Found.{AddsRule, AddsFirst, key_of_run}
 
 -- ---- runs that stand apart
 
--- two runs of one line are one, or apart
-alike : (runs : List Run) (r s : Run) → AreApart runs → Contains runs r → Contains runs s
-    → r.line ≡ s.line → (r ≡ s) ⊎ ((r.to <ℤ s.from) ⊎ (s.to <ℤ r.from))
-alike runs r s h p q e =
-    elim (one_or_before StandsBefore runs no_run r s h.ordered p q) [
-      | inl same ↦ inl same
-      | inr (inl before) ↦ inr (inl (apart r s before e))
-      | inr (inr behind) ↦ inr (inr (apart s r behind (sym e)))
-    ]
-  where
-    apart : (x y : Run) → StandsBefore x y → x.line ≡ y.line → x.to <ℤ y.from
-    apart x y (inl less) f = absurd (line_before x.line y.line less f)
-    apart x y (inr stands) f = stands.1
-
--- the runs hold just the places of P
-abbrev pub HoldJust : List Run → (Line → ℤ → Type 0) → Type 0
-HoldJust runs P = (line : Line) (j : ℤ) → CoversPlace runs line j ↔ P line j
-
 pub run_is_maximal : (runs : List Run) (P : Line → ℤ → Type 0) (r : Run) → AreApart runs
     → HoldJust runs P → Contains runs r → IsRun (P r.line) r.from r.to
-run_is_maximal runs P r h same c = record {
-  filled = filled;
-  rows = λ j l g. (same r.line j).0 (r, c, (refl, l, g));
-  below = λ p. below p;
-  above = λ p. above p;
-}
-  where
-    filled : r.from <ℤ r.to
-    filled = All-contains IsFilled runs r h.filled c
-
-    below : P r.line (r.from -ℤ pos 1) → ⊥
-    below p =
-        let s = (same r.line (r.from -ℤ pos 1)).1 p in
-        elim (alike runs r s.0 h c s.1 (sym s.2.0)) [
-          | inl e ↦ omega (arith, ints, ap (λ (x : Run). x.from) e, s.2.1)
-          | inr (inl left) ↦ omega (arith, ints, left, s.2.1, filled)
-          | inr (inr right) ↦ omega (arith, ints, right, s.2.2)
-        ]
-
-    above : P r.line r.to → ⊥
-    above p =
-        let s = (same r.line r.to).1 p in
-        elim (alike runs r s.0 h c s.1 (sym s.2.0)) [
-          | inl e ↦ omega (arith, ints, ap (λ (x : Run). x.to) e, s.2.2)
-          | inr (inl left) ↦ omega (arith, ints, left, s.2.1)
-          | inr (inr right) ↦ omega (arith, ints, right, filled, s.2.2)
-        ]
-
-same_run : (r s : Run) → s.line ≡ r.line → s.from ≡ r.from → s.to ≡ r.to → s ≡ r
-same_run r s e f g =
-    ap (λ (l : Line). let x : Run = record { line = l; from = s.from; to = s.to } in x) e
-    ∙ ap (λ (n : ℤ). let x : Run = record { line = r.line; from = n; to = s.to } in x) f
-    ∙ ap (λ (n : ℤ). let x : Run = record { line = r.line; from = r.from; to = n } in x) g
+run_is_maximal runs P r h same c =
+    let m = run_of_apart runs P r h same c in
+    record { filled = m.filled; rows = m.steps; below = m.below; above = m.above }
 
 pub maximal_is_run : (runs : List Run) (P : Line → ℤ → Type 0) (r : Run) → AreApart runs
     → HoldJust runs P → IsRun (P r.line) r.from r.to → Contains runs r
 maximal_is_run runs P r h same m =
-    let s = (same r.line r.from).1 (m.rows r.from (omega (arith, ints)) m.filled) in
-    let first : s.0.from ≡ r.from = by_lt_z s.0.from r.from
-    (λ less. absurd (m.below ((same r.line (r.from -ℤ pos 1)).0
-    (s.0, s.1, (s.2.0, omega (arith, ints, less), omega (arith, ints, s.2.2))))))
-    (λ more. omega (arith, ints, more, s.2.1)) in
-    let last : s.0.to ≡ r.to = by_lt_z s.0.to r.to
-    (λ less. absurd (cut s.0 s.1 s.2.0 s.2.1 s.2.2 less))
-    (λ more. by_lt_z r.to s.0.to
-    (λ less. absurd (m.above ((same r.line r.to).0
-    (s.0, s.1, (s.2.0, omega (arith, ints, s.2.1, m.filled), less)))))
-    (λ no_more. omega (arith, ints, more, no_more))) in
-    subst (λ x. Contains runs x) (same_run r s.0 s.2.0 first last) s.1
-  where
-    cut : (s : Run) → Contains runs s → s.line ≡ r.line → s.from ≤ℤ r.from → r.from <ℤ s.to
-        → s.to <ℤ r.to → ⊥
-    cut s c e l g less =
-        let t = (same r.line s.to).1 (m.rows s.to (omega (arith, ints, g)) less) in
-        elim (alike runs s t.0 h c t.1 (e ∙ sym t.2.0)) [
-          | inl f ↦ omega (arith, ints, ap (λ (x : Run). x.to) f, t.2.2)
-          | inr (inl left) ↦ omega (arith, ints, left, t.2.1)
-          | inr (inr right) ↦ omega (arith, ints, right, l, g, t.2.2)
-        ]
+    apart_has_run runs P r h same
+    (record { filled = m.filled; steps = m.rows; below = m.below; above = m.above })
 
 -- ---- keys
 

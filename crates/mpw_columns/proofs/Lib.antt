@@ -1,4 +1,3 @@
-pub mod Areas
 pub mod Keyed
 pub mod Agreeing
 pub mod Displacing
@@ -13,6 +12,7 @@ pub mod Covering
 pub mod Zipped
 pub mod Making
 pub mod Telling
+pub mod KeySides
 pub mod DisplacedLists
 pub mod BookMade
 pub mod Looking
@@ -29,7 +29,6 @@ pub mod Blocked
 pub mod Pieced
 pub mod PiecesMoved
 pub mod ThingsShown
-pub mod RunThrough
 pub mod ThingsListed
 pub mod Solving
 pub mod ListingMade

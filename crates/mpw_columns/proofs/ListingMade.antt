@@ -27,6 +27,7 @@ use Rattle.mpw_columns.specs.Internal.Checked.{AreNext, IsLayout}
 use Rattle.mpw_columns.specs.Internal.Firsts.{AddsFirsts, HasFirsts, HasListing, IsPlacedAt, IsSpot}
 use Rattle.mpw_columns.specs.Internal.Found.{IsUpright}
 use Rattle.mpw_columns.specs.Internal.Like.{IsLike}
+use Rattle.mpw_columns.proofs.KeySides.{one_still, one_twice}
 use Rattle.mpw_columns.proofs.DisplacedLists.{list_near}
 use Rattle.mpw_columns.proofs.OneLine.{ruled}
 use Rattle.mpw_columns.proofs.Zipped.{zip_append, zip_at, zip_length}
@@ -116,56 +117,12 @@ next_batch s most lists columns reached each old new next h adds =
 
 -- ---- displaced
 
-one_twice : (a b : ℤ) (k : Key) → displaced_key b (displaced_key a k) ≡ displaced_key (a +ℤ b) k
-one_twice a b k =
-    let sum : (x : ℤ) → ((x +ℤ a) +ℤ b) ≡ (x +ℤ (a +ℤ b)) = λ x. omega (arith, ints) in
-    ap (λ (x : ℤ). let l : Key = record {
-      rule = k.rule;
-      axis = k.axis;
-      side = k.side;
-      x1 = x;
-      x2 = (k.x2 +ℤ a) +ℤ b;
-      y0 = k.y0;
-      y1 = k.y1;
-    } in l) (sum k.x1)
-    ∙ ap (λ (x : ℤ). let l : Key = record {
-      rule = k.rule;
-      axis = k.axis;
-      side = k.side;
-      x1 = k.x1 +ℤ (a +ℤ b);
-      x2 = x;
-      y0 = k.y0;
-      y1 = k.y1;
-    } in l) (sum k.x2)
-
 twice : (a b : ℤ) (keys : List Key)
     → map (displaced_key b) (map (displaced_key a) keys) ≡ map (displaced_key (a +ℤ b)) keys
 twice a b [] = refl
 twice a b (k ∷ ks) =
     ap (λ (l : Key). l ∷ map (displaced_key b) (map (displaced_key a) ks)) (one_twice a b k)
     ∙ ap (λ (ls : List Key). displaced_key (a +ℤ b) k ∷ ls) (twice a b ks)
-
-one_still : (k : Key) → displaced_key (pos 0) k ≡ k
-one_still k =
-    let none : (x : ℤ) → (x +ℤ pos 0) ≡ x = λ x. omega (arith, ints) in
-    ap (λ (x : ℤ). let l : Key = record {
-      rule = k.rule;
-      axis = k.axis;
-      side = k.side;
-      x1 = x;
-      x2 = k.x2 +ℤ pos 0;
-      y0 = k.y0;
-      y1 = k.y1;
-    } in l) (none k.x1)
-    ∙ ap (λ (x : ℤ). let l : Key = record {
-      rule = k.rule;
-      axis = k.axis;
-      side = k.side;
-      x1 = k.x1;
-      x2 = x;
-      y0 = k.y0;
-      y1 = k.y1;
-    } in l) (none k.x2)
 
 still : (keys : List Key) → map (displaced_key (pos 0)) keys ≡ keys
 still [] = refl

@@ -25,7 +25,7 @@ use Rattle.mpw_columns.specs.Internal.Found.{IsLook, AgreeIn, left_of, right_of}
 use Rattle.mpw_columns.specs.Internal.Pieces.{IsStepIn, ArePieces, AddsPieces, below_of, above_of}
 use Rattle.mpw_columns.proofs.Agreeing.{vertical_same, first_agree, second_agree}
 use Rattle.mpw_columns.proofs.OneLine.{small_side}
-use Rattle.mpw_columns.proofs.RunThrough.{IsRunAt, run_at}
+use Rattle.mpw_markers.proofs.RunThrough.{IsRunAt, run_at}
 
 -- ---- rows of lists
 

@@ -49,7 +49,7 @@ pub record IsRunOf (P : Line → ℤ → Type 0) (r : Run) : Type 0 where
 abbrev pub HoldJust : List Run → (Line → ℤ → Type 0) → Type 0
 HoldJust runs P = (line : Line) (j : ℤ) → CoversPlace runs line j ↔ P line j
 
-run_is_maximal : (runs : List Run) (P : Line → ℤ → Type 0) (r : Run) → AreApart runs
+pub run_is_maximal : (runs : List Run) (P : Line → ℤ → Type 0) (r : Run) → AreApart runs
     → HoldJust runs P → Contains runs r → IsRunOf P r
 run_is_maximal runs P r h same c = record {
   filled = filled;
@@ -85,7 +85,7 @@ same_run r s e f g =
     ∙ ap (λ (n : ℤ). let x : Run = record { line = r.line; from = n; to = s.to } in x) f
     ∙ ap (λ (n : ℤ). let x : Run = record { line = r.line; from = r.from; to = n } in x) g
 
-maximal_is_run : (runs : List Run) (P : Line → ℤ → Type 0) (r : Run) → AreApart runs
+pub maximal_is_run : (runs : List Run) (P : Line → ℤ → Type 0) (r : Run) → AreApart runs
     → HoldJust runs P → IsRunOf P r → Contains runs r
 maximal_is_run runs P r h same m =
     let s = (same r.line r.from).1 (m.steps r.from (omega (arith, ints)) m.filled) in

@@ -46,7 +46,7 @@ exchange rule a b core p = (to p.axis refl, from p.axis refl)
 -- ---- the window
 
 -- the same squares in a row, from before x1 to x2
-abbrev SameAlong : Squares → Squares → ℤ → ℤ → ℤ → Type 0
+abbrev pub SameAlong : Squares → Squares → ℤ → ℤ → ℤ → Type 0
 SameAlong a b x1 x2 j = (i : ℤ) → (x1 -ℤ pos 1) ≤ℤ i → i ≤ℤ x2 → a i j ≡ b i j
 
 rise_same : (a b : Squares) (x1 x2 j x : ℤ) → SameAlong a b x1 x2 j → x1 ≤ℤ x → x ≤ℤ x2
@@ -77,7 +77,7 @@ either_same : {S T A B C D A' B' C' D' : Type 0} → (A → A') → (B → B') �
 either_same a b c d (inl p) = inl (p.0, a p.1, b p.2)
 either_same a b c d (inr p) = inr (p.0, c p.1, d p.2)
 
-pair_same : (check : Check) (a b a' b' : Squares) (side : ℕ) (x1 x2 j : ℤ) → SameAlong a a' x1 x2 j
+pub pair_same : (check : Check) (a b a' b' : Squares) (side : ℕ) (x1 x2 j : ℤ) → SameAlong a a' x1 x2 j
     → SameAlong b b' x1 x2 j → IsPair check a b side x1 x2 j → IsPair check a' b' side x1 x2 j
 pair_same (Width l) a b a' b' side x1 x2 j f g w = (
   w.0,

@@ -6,3 +6,4 @@ pub mod Made
 pub mod Edges
 pub mod Unique
 pub mod Filled
+pub mod Areas

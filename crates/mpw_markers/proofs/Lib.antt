@@ -5,6 +5,7 @@ mod Gathered
 mod Grouped
 pub mod Joins
 pub mod Unique
+pub mod RunThrough
 mod Maximal
 mod Found
 mod Shared

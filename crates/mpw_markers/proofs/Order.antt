@@ -1,5 +1,5 @@
 -- The order of lines and of markers.
-use Rattle.std.proofs.Common.{◌≡◌, ◌&&◌, [], ◌∷◌, map, Bool, true, eqb, int_eq, ℕ, ℤ, ◌<ℤ◌, ◌+◌, zero, suc, add-zero, ◌<◌, false, List, length, get_or, drop, sym, refl, ap, ◌∙◌, subst, inl, inr, arith}
+use Rattle.std.proofs.Common.{◌≡◌, ◌&&◌, [], ◌∷◌, Bool, true, eqb, int_eq, ℕ, ℤ, ◌<ℤ◌, ◌+◌, zero, suc, add-zero, ◌<◌, false, List, length, get_or, drop, sym, refl, ap, ◌∙◌, subst, inl, inr, arith}
 use Rattle.std.specs.Prelude.{Contains, ◌↔◌}
 use Rattle.std.proofs.lemmas.Int.{ints}
 use Rattle.std.specs.Cmp.{IsTotalOrder}

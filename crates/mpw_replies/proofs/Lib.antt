@@ -2,6 +2,7 @@ mod EntryLemmas
 pub mod FirstLineLemmas
 mod ListingLemmas
 mod MarkerLemmas
+pub mod NamesRise
 mod RankLemmas
 mod TrailLemmas
 pub mod RowParts

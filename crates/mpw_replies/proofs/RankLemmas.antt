@@ -1,14 +1,13 @@
 -- The places of names in their order, and the cells that a marker meets by the places of its submissions' cells.
-use Rattle.std.proofs.Common.{◌≡◌, ℕ, zero, suc, ◌+◌, ◌<◌, ◌≤◌, Bool, true, false, cond, ◌&&◌, ◌||◌, ◌==◌, Option, Some, Err, List, []}
-use Rattle.std.proofs.Common.{◌∷◌, ◌++◌, map, length, get_or, take, drop, replicate, inl, inr, refl, sym, ap, ◌∙◌, arith, subst}
-use Rattle.std.specs.Prelude.{T, slice_get, slice_index_or, filter}
+use Rattle.std.proofs.Common.{◌≡◌, ℕ, zero, suc, ◌+◌, ◌<◌, ◌≤◌, Bool, true, false, cond, ◌||◌, ◌==◌, Option, Some, Err, List, []}
+use Rattle.std.proofs.Common.{◌∷◌, ◌++◌, length, get_or, take, drop, replicate, inl, inr, refl, sym, ap, ◌∙◌, arith, subst}
+use Rattle.std.specs.Prelude.{AllPairs, slice_get, slice_index_or, filter}
 use Rattle.std.specs.List.{list_any}
 use Rattle.std.specs.List.Sorted.{IsBinarySearchResult, IsSortedBy}
 use Rattle.std.specs.Ordering.{is_lt, is_eq, ordering_reverse}
 use Rattle.std.specs.declared.cmp.Ordering.{Ordering}
 use Rattle.std.specs.declared.cmp.Ordering.TheVariants.{Less, Equal, Greater}
 use Rattle.std.specs.Cmp.Lexicographic.{nat_list_cmp_total, texts_ties}
-use Rattle.std.specs.FinMap.Entries.{is_sorted, below_all, is_sorted-put}
 use Rattle.std.proofs.lemmas.Bool.{eq-eqb}
 use Rattle.std.proofs.lemmas.Bool.Decides.{nat_tests}
 use Rattle.std.proofs.lemmas.Cmp.{tied_itself}
@@ -18,62 +17,18 @@ use Rattle.std.proofs.lemmas.List.{get_or_default}
 use Rattle.std.proofs.lemmas.List.Sorted.{searchable_from_sorted}
 use Rattle.std.proofs.lemmas.Map.Lookups.{exact_bytes}
 use Rattle.std.proofs.lemmas.Option.{get_or_from_slice_get, slice_get_within}
-use Rattle.mpw_geom.specs.Names.{name_eq, name_cmp, placed_by_name, by_name}
+use Rattle.mpw_geom.specs.Names.{name_eq, name_cmp, by_name}
 use Rattle.mpw_hier.specs.declared.submission.Submission.{Submission}
 use Rattle.mpw_roles.specs.Hierarchy.{Name}
 use Rattle.mpw_replies.specs.declared.met.Turn.{Turn}
 use Rattle.mpw_replies.specs.Ranks.{AreMarks, met_left, is_at, is_met_at, cell_if, met_from, met_of}
 use Rattle.mpw_replies.specs.Internal.Ranks.{IsRank, AreRanks}
 use Rattle.mpw_replies.specs.Sight.{is_of, cells_on, met_cells}
+use Rattle.mpw_replies.proofs.NamesRise.{rising}
 
-abbrev Entry : Type 0
-Entry = List ℕ × Unit {0}
-
-abbrev key : Entry → List ℕ
-key e = e.0
-
-first : (a b : Bool) → T (a && b) → T a
-first true b p = tt
-first false b p = p
-
-second : (a b : Bool) → T (a && b) → T b
-second true b p = p
-second false b p = absurd p
-
-less : (o : Ordering) → T (is_lt o) → o ≡ Less
-less Less p = refl
-less Equal p = absurd p
-less Greater p = absurd p
-
--- ---- names by their bytes stand in order
-
-placed_sorted : (xs : List (List ℕ)) → T (is_sorted name_cmp (placed_by_name xs))
-placed_sorted [] = tt
-placed_sorted (x ∷ xs) = is_sorted-put name_cmp nat_list_cmp_total x tt _ (placed_sorted xs)
-
-below_at : (x : List ℕ) (es : List Entry) → T (below_all name_cmp x es) → (j : ℕ) (d : List ℕ)
-    → j < length (map key es)
-    → name_cmp x (get_or (map key es) j d) ≡ Less
-below_at x [] h j d l = absurd (omega (arith, l))
-below_at x (e ∷ es) h zero d l = less _ (first _ _ h)
-below_at x (e ∷ es) h (suc j) d l = below_at x es (second _ _ h) j d (omega (arith, l))
-
-rising_at : (es : List Entry) → T (is_sorted name_cmp es) → (i j : ℕ) (d : List ℕ) → i < j
-    → j < length (map key es)
-    → name_cmp (get_or (map key es) i d) (get_or (map key es) j d) ≡ Less
-rising_at [] h i j d lt l = absurd (omega (arith, l))
-rising_at (e ∷ es) h i zero d lt l = absurd (omega (arith, lt))
-rising_at (e ∷ es) h zero (suc j) d lt l = below_at e.0 es (first _ _ h) j d (omega (arith, l))
-rising_at (e ∷ es) h (suc i) (suc j) d lt l =
-    rising_at es (second _ _ h) i j d (omega (arith, lt)) (omega (arith, l))
-
-rising : (names cells : List Name) → cells ≡ by_name names → (i j : ℕ) (d : Name) → i < j
-    → j < length cells
-    → name_cmp (get_or cells i d) (get_or cells j d) ≡ Less
-rising names cells is =
-    subst (λ cs. (i j : ℕ) (d : Name) → i < j → j < length cs
-    → name_cmp (get_or cs i d) (get_or cs j d) ≡ Less) (sym is)
-    (rising_at (placed_by_name names) (placed_sorted names))
+risen : (names cells : List Name) → cells ≡ by_name names
+    → AllPairs (λ a b. name_cmp a b ≡ Less) cells
+risen names cells is = subst (AllPairs (λ a b. name_cmp a b ≡ Less)) (sym is) (rising names)
 
 turned : (x y : Name) → name_cmp x y ≡ Less → name_cmp y x ≡ Greater
 turned x y e = nat_list_cmp_total.antisymm y x ∙ ap ordering_reverse e
@@ -96,14 +51,14 @@ rank_found names cells name i is l found place cell at =
     elim (cases_lt i place) [
       | inl lt ↦
           let up : name_cmp (get_or cells i name) (get_or cells place name) ≡ Less =
-          rising names cells is i place name lt inside in
+          risen names cells is i place name lt inside in
           let apart : name_cmp name cell ≡ Less = alike (sym name_is) (sym cell_is) up in
           let no : (i == place) ≡ false = grind (arith, nat_tests, lt) in
           no ∙ sym (differ cell name Greater (turned name cell apart) refl)
       | inr le ↦ elim (cases_lt place i) [
         | inl lt ↦
             let up : name_cmp (get_or cells place name) (get_or cells i name) ≡ Less =
-            rising names cells is place i name lt l in
+            risen names cells is place i name lt l in
             let apart : name_cmp cell name ≡ Less = alike (sym cell_is) (sym name_is) up in
             let no : (i == place) ≡ false = grind (arith, nat_tests, lt) in
             no ∙ sym (differ cell name Less apart refl)
@@ -120,7 +75,7 @@ sorted : (names cells : List Name) → cells ≡ by_name names
     → IsSortedBy (λ x y. is_lt (name_cmp x y)) cells
 sorted names cells is k d low high =
     ap is_lt (turned (get_or cells k d) (get_or cells (k + 1) d)
-    (rising names cells is k (k + 1) d (omega arith) high))
+    (risen names cells is k (k + 1) d (omega arith) high))
 
 pub rank_none : (names cells : List Name) (name : Name) (k : ℕ) → cells ≡ by_name names
     → IsBinarySearchResult (λ y. name_cmp y name) cells (Err k) → IsRank cells name (length cells)

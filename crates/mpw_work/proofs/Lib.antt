@@ -1,4 +1,3 @@
-pub mod Areas
 pub mod ByLayer
 pub mod Meeting
 pub mod Adding

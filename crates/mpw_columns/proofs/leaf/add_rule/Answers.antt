@@ -9,7 +9,8 @@ use Rattle.mpw_edges.specs.Edges.{Squares}
 use Rattle.mpw_edges.specs.Pieces.{HasVerticalStep}
 use Rattle.mpw_columns.specs.Internal.Bands.{banded_on}
 use Rattle.mpw_columns.specs.Internal.Found.{key_of_run}
-use Rattle.mpw_columns.proofs.Keyed.{rule_keys, HoldJust}
+use Rattle.mpw_edges.proofs.Maximal.{HoldJust}
+use Rattle.mpw_columns.proofs.Keyed.{rule_keys}
 use Rattle.mpw_columns.proofs.leaf.add_rule.Goals as goal
 
 -- the runs hold the steps of what the bands cover

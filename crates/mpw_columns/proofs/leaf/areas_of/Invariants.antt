@@ -1,4 +1,4 @@
-use Rattle.mpw_columns.proofs.Areas.{HaveSquares}
+use Rattle.mpw_job.proofs.Areas.{HaveSquares}
 use Rattle.mpw_columns.proofs.leaf.areas_of.Given as goal
 
 abbrev pub invariant-loop-rectangle : goal.invariant-loop-rectangle

@@ -1,4 +1,4 @@
-use Rattle.std.proofs.Common.{◌∙◌, take, sym, subst}
+use Rattle.std.proofs.Common.{take, sym, subst}
 use Rattle.mpw_markers.specs.declared.marker.Marker.{Marker}
 use Rattle.mpw_markers.specs.Markers.{key_of}
 use Rattle.mpw_markers.specs.Internal.Runs.{AreMetBy, IsFirstRun}

@@ -1,4 +1,4 @@
-use Rattle.mpw_work.proofs.Areas.{none_yet, one_more, passed_over, all_of}
+use Rattle.mpw_job.proofs.Areas.{none_yet, one_more, passed_over, all_of}
 use Rattle.std.proofs.Common.{◌∙◌, sym}
 use Rattle.mpw_work.proofs.layers.areas_of.Goals as goal
 use Rattle.mpw_work.proofs.layers.areas_of.Goals.{then-same_layer+in_ok-push, else-same_layer}

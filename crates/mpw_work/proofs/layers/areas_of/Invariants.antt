@@ -1,4 +1,4 @@
-use Rattle.mpw_work.proofs.Areas.{HaveSquares}
+use Rattle.mpw_job.proofs.Areas.{HaveSquares}
 use Rattle.mpw_work.proofs.layers.areas_of.Given as goal
 
 abbrev pub invariant-loop-rectangle : goal.invariant-loop-rectangle

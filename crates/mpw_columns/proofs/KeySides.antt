@@ -1,0 +1,50 @@
+-- Keys whose lines lie elsewhere by sums.
+use Rattle.std.proofs.Common.{◌≡◌, ℤ, pos, neg_ℤ, ◌+ℤ◌, ap, ◌∙◌, arith}
+use Rattle.std.proofs.lemmas.Int.{ints}
+use Rattle.mpw_markers.specs.declared.marker.Key.{Key}
+use Rattle.mpw_keys.specs.Keys.{displaced_key}
+
+abbrev with_lines : (ℤ → ℤ) → Key → Key
+with_lines f k = record {
+  rule = k.rule;
+  axis = k.axis;
+  side = k.side;
+  x1 = f k.x1;
+  x2 = f k.x2;
+  y0 = k.y0;
+  y1 = k.y1;
+}
+
+-- two sums that come to one
+same_lines : (f g : ℤ → ℤ) (k : Key) → ((x : ℤ) → f x ≡ g x) → with_lines f k ≡ with_lines g k
+same_lines f g k same =
+    ap (λ (x : ℤ). let l : Key = record {
+      rule = k.rule;
+      axis = k.axis;
+      side = k.side;
+      x1 = x;
+      x2 = f k.x2;
+      y0 = k.y0;
+      y1 = k.y1;
+    } in l) (same k.x1)
+    ∙ ap (λ (x : ℤ). let l : Key = record {
+      rule = k.rule;
+      axis = k.axis;
+      side = k.side;
+      x1 = g k.x1;
+      x2 = x;
+      y0 = k.y0;
+      y1 = k.y1;
+    } in l) (same k.x2)
+
+-- displaced there and back, twice, and not at all
+pub there_and_back : (by : ℤ) (k : Key) → displaced_key by (displaced_key (neg_ℤ by) k) ≡ k
+there_and_back by k =
+    same_lines (λ x. (x +ℤ neg_ℤ by) +ℤ by) (λ x. x) k (λ x. omega (arith, ints))
+
+pub one_twice : (a b : ℤ) (k : Key)
+    → displaced_key b (displaced_key a k) ≡ displaced_key (a +ℤ b) k
+one_twice a b k = same_lines (λ x. (x +ℤ a) +ℤ b) (λ x. x +ℤ (a +ℤ b)) k (λ x. omega (arith, ints))
+
+pub one_still : (k : Key) → displaced_key (pos 0) k ≡ k
+one_still k = same_lines (λ x. x +ℤ pos 0) (λ x. x) k (λ x. omega (arith, ints))
