@@ -1,6 +1,6 @@
 -- The markers of a flat layout, by tests and by relations.
-use Rattle.std.proofs.Common.{◌≡◌, ℕ, Bool, true, List, refl, sym, subst, ◌∙◌}
-use Rattle.std.specs.Prelude.{ℤ, pos, ◌-ℤ◌, Contains, ◌↔◌}
+use Rattle.std.proofs.Common.{◌≡◌, ℕ, Bool, true, List, sym, subst, ◌∙◌}
+use Rattle.std.specs.Prelude.{ℤ, pos, ◌-ℤ◌, ◌↔◌}
 use Rattle.std.proofs.lemmas.Bool.{false≢true}
 use Rattle.std.proofs.lemmas.List.Elements.{All-contains}
 use Rattle.mpw_geom.specs.declared.plane.Layer.{Layer}

@@ -1,5 +1,5 @@
 -- The squares of layers that a rule looks at, and its pair steps row by row.
-use Rattle.std.specs.Prelude.{◌≡◌, ℤ, Bool, false, List, Some, slice_get}
+use Rattle.std.specs.Prelude.{◌≡◌, ℤ, false, List, Some, slice_get}
 use Rattle.mpw_geom.specs.declared.plane.Layer.{Layer}
 use Rattle.mpw_deck.specs.declared.rule.Check.{Check}
 use Rattle.mpw_deck.specs.declared.rule.Check.TheVariants.{Width, Space, Separation, Enclosing}
