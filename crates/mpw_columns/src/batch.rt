@@ -7,7 +7,8 @@ ghost use Rattle.mpw_keys.specs.Columns.{seen_box, upright};
 ghost use Rattle.mpw_columns.specs.Found.{IsFound};
 ghost use Rattle.mpw_columns.specs.Internal.Blocks.{IsUprightIn, AreUprightIn};
 ghost use Rattle.mpw_columns.specs.Internal.Checked.{IsLayout, IsShared, IsTop, IsBatch, HasThings};
-ghost use Rattle.mpw_columns.specs.Internal.Pieces.{seen_layout};
+ghost use Rattle.mpw_columns.specs.Internal.Pieces.{AreThingsIn, seen_layout};
+ghost use Rattle.mpw_columns.specs.declared.layout.Layout.{Layout as LayoutValue};
 
 use crate::block::{is_part, whole_of};
 use crate::cores::{core_of, keys_in};
@@ -19,6 +20,7 @@ use crate::things::{Task, all_things, is_inside, things_in, whole_core};
 use mpw_contents::Contents;
 use mpw_cuts::is_placed;
 use mpw_edges::Axis;
+use mpw_geom::Box2;
 use mpw_keys::Column;
 use mpw_markers::Key;
 use std::alloc::{AllocError, Global};
@@ -36,11 +38,18 @@ pub(crate) struct Listed {
     things: Contents,
 }
 
-/// What the columns of a batch share.
+/// What the columns of a batch share; nothing of their own, where they take what they need from the whole layout's things.
 #[derive(Drop)]
 pub(crate) struct Batch {
     rectangles: Option<Shared>,
     things: Option<Listed>,
+}
+
+/// What the columns of a batch are checked from: what they share, and the things of the whole layout.
+#[derive(Clone, Copy)]
+pub(crate) struct Source<'a> {
+    pub(crate) top: &'a Top,
+    pub(crate) batch: &'a Batch,
 }
 
 /// The things of the whole layout. Linear in what the top has; an error is want of memory.
@@ -75,6 +84,23 @@ impl Top {
         self.things.is_some()
     }
 
+    /// The things of the whole layout, for a core that lies in it; none where there is no such list.
+    fn for_core(&self, task: &Task<'_>, core: &Box2) -> Option<&Contents>
+        requires top { IsTop task.now.layout.now self.now }
+        ensures { IfSome result (λ things. AreThingsIn task.now.layout.now task.now.axis core.now things.now) }
+    {
+        let Some(things) = &self.things else {
+            return None;
+        };
+        let Some(outer) = whole_core(task) else {
+            return None;
+        };
+        if !is_inside(core, &outer) {
+            return None;
+        }
+        Some(things)
+    }
+
     /// The things in the window of the column of all places of these columns; none where there is no such list. A pass over the things; an error is want
     /// of memory.
     fn listed(
@@ -88,9 +114,6 @@ impl Top {
         requires top { IsTop layout.now self.now }
         ensures { IfOk result (λ o. IfSome o (HasThings layout.now)) }
     {
-        let Some(things) = &self.things else {
-            return Ok(None);
-        };
         if columns.is_empty() {
             return Ok(None);
         }
@@ -102,12 +125,9 @@ impl Top {
             axis: whole.axis,
         };
         let core = core_of(layout, &whole);
-        let Some(outer) = whole_core(&task) else {
+        let Some(things) = self.for_core(&task, &core) else {
             return Ok(None);
         };
-        if !is_inside(&core, &outer) {
-            return Ok(None);
-        }
         match things_in(alloc, &task, &core, things)? {
             Some(things) => Ok(Some(Listed { whole, things })),
             None => Ok(None),
@@ -141,7 +161,34 @@ impl Top {
 }
 
 impl Batch {
-    /// The keys of the maximal runs in the core of a column: from the things that the batch shares, or from rectangles. An error is want of memory.
+    /// Nothing is shared.
+    pub(crate) fn none() -> Batch
+        ensures { (l : LayoutValue) → IsBatch l result }
+    {
+        Batch {
+            rectangles: None,
+            things: None,
+        }
+    }
+}
+
+impl Source<'_> {
+    /// Things that show in the window of a column's core what the layout does there; none where rectangles serve better.
+    fn things_of(&self, task: &Task<'_>, core: &Box2, column: &Column) -> Option<&Contents>
+        requires top { IsTop task.now.layout.now self.now.top.now }
+        requires batch { IsBatch task.now.layout.now self.now.batch.now }
+        requires axis { task.now.axis ≡ column.now.axis }
+        requires core { core.now ≡ upright (seen_box column.now.axis task.now.layout.now.extent) column.now }
+        ensures { IfSome result (λ things. AreThingsIn task.now.layout.now task.now.axis core.now things.now) }
+    {
+        match &self.batch.things {
+            Some(listed) if is_part(column, &listed.whole) => Some(&listed.things),
+            _ => self.top.for_core(task, core),
+        }
+    }
+
+    /// The keys of the maximal runs in the core of a column: from the things that the batch shares, or from rectangles where it shares some, or else from the
+    /// things of the whole layout. An error is want of memory.
     pub(crate) fn keys_of(
         &self,
         alloc: Global,
@@ -150,24 +197,21 @@ impl Batch {
     ) -> Result<Vec<Key>, AllocError>
         requires layout { IsLayout layout.now }
         requires upright { IsUprightIn layout.now column.now }
-        requires batch { IsBatch layout.now self.now }
+        requires top { IsTop layout.now self.now.top.now }
+        requires batch { IsBatch layout.now self.now.batch.now }
         ensures { IfOk result (λ v. (k : KeyValue) → Contains v.items k ↔ IsFound layout.now.snapshot.now.deck.rules column.now.axis
             (seen_layout layout.now column.now.axis) (upright (seen_box column.now.axis layout.now.extent) column.now) k) }
     {
         let core = core_of(layout, column);
-        match &self.things {
-            Some(listed) if is_part(column, &listed.whole) => {
-                let task = Task {
-                    layout,
-                    axis: column.axis,
-                };
-                runs_in(alloc, &task, &core, &listed.things)
-            }
-            _ => {
-                let rectangles = rectangles_of(alloc, layout, &self.rectangles, column)?;
-                keys_in(alloc, layout, column.axis, &core, rectangles.as_slice())
-            }
+        let task = Task {
+            layout,
+            axis: column.axis,
+        };
+        if let Some(things) = self.things_of(&task, &core, column) {
+            return runs_in(alloc, &task, &core, things);
         }
+        let rectangles = rectangles_of(alloc, layout, &self.batch.rectangles, column)?;
+        keys_in(alloc, layout, column.axis, &core, rectangles.as_slice())
     }
 }
 

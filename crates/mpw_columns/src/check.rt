@@ -9,7 +9,7 @@ ghost use Rattle.mpw_columns.specs.Lists.{IsColumnList};
 ghost use Rattle.mpw_columns.specs.Internal.Found.{IsUpright};
 ghost use Rattle.mpw_columns.specs.Internal.Checked.{AreBatches, AreNext, IsLayout, HaveLists, IsTop, IsBatch};
 
-use crate::batch::{Batch, Top, count_along, top_of};
+use crate::batch::{Batch, Source, Top, count_along, top_of};
 use crate::earlier::equal_to_earlier;
 use crate::laws::{columns_have_whole_runs, columns_lie_within, lists_make_the_layout};
 use crate::layout::{Layout, Ready};
@@ -37,21 +37,22 @@ const MOST_WALKS: usize = 16;
 /// How many shapes a column may show: with the walks and rectangles of so many a thread stays within some ten megabytes.
 pub const MAX_SHOWN: u32 = 1 << 16;
 
-/// The keys of a column of the layout. What the batch's things or rectangles take ([`Batch::keys_of`]), and a sort of the keys. An error is want of memory.
+/// The keys of a column of the layout. What the things or rectangles take ([`Source::keys_of`]), and a sort of the keys. An error is want of memory.
 fn check_column(
     alloc: Global,
     layout: &Layout<'_>,
-    batch: &Batch,
+    source: &Source<'_>,
     column: &Column,
 ) -> Result<ColumnKeys, AllocError>
     requires layout { IsLayout layout.now }
     requires upright { IsUpright (upright (seen_box column.now.axis layout.now.extent) column.now) }
-    requires batch { IsBatch layout.now batch.now }
+    requires top { IsTop layout.now source.now.top.now }
+    requires batch { IsBatch layout.now source.now.batch.now }
     ensures { IfOk result (IsColumnList layout.now.snapshot.now column.now) }
 {
     columns_have_whole_runs();
     test_decides_pair_steps();
-    let keys = batch.keys_of(alloc, layout, column)?;
+    let keys = source.keys_of(alloc, layout, column)?;
     Ok(ColumnKeys::of(keys))
 }
 
@@ -60,24 +61,24 @@ fn lists_of(
     rt: &(impl Threads + Sync),
     alloc: Global,
     layout: &Layout<'_>,
-    top: &Top,
+    source: &Source<'_>,
     columns: &[Column],
 ) -> Result<Vec<ColumnKeys>, AllocError>
     requires layout { IsLayout layout.now }
     requires upright { All (λ c. IsUpright (upright (seen_box c.axis layout.now.extent) c)) columns.now }
-    requires top { IsTop layout.now top.now }
+    requires top { IsTop layout.now source.now.top.now }
+    requires batch { IsBatch layout.now source.now.batch.now }
     ensures { IfOk result (λ v. AllZip (IsColumnList layout.now.snapshot.now) columns.now v.items) }
 {
-    let batch = &top.batch(alloc, layout, columns)?;
     columns
         .par_iter()
         .with_min_len(1)
         .map(
             |column: &Column| -> Result<ColumnKeys, AllocError>
                 requires { IsLayout layout.now × (IsUpright (upright (seen_box column.now.axis layout.now.extent) column.now)
-                    × IsBatch layout.now batch.now) }
+                    × (IsTop layout.now source.now.top.now × IsBatch layout.now source.now.batch.now)) }
                 ensures { IfOk result (IsColumnList layout.entry.now.snapshot.now column.now) }
-            { check_column(alloc, layout, batch, column) },
+            { check_column(alloc, layout, source, column) },
         )
         .collect::<Result<Vec<ColumnKeys>, AllocError>>(rt, alloc)?
 }
@@ -137,6 +138,39 @@ pub(crate) struct Batches<'a> {
     pub(crate) top: &'a Top,
 }
 
+impl Batches<'_> {
+    /// Whether all columns are one batch of so many: then each takes its things from those of the whole layout, where there is such a list.
+    fn are_at_once(&self, most: usize) -> bool {
+        self.top.has_things() && most == self.own.columns.len()
+    }
+
+    /// What these columns share.
+    fn batch(&self, alloc: Global, columns: &[Column]) -> Result<Batch, AllocError>
+        requires batches { AreBatches self.now }
+        requires upright { All (λ c. IsUpright (upright (seen_box c.axis self.now.layout.now.extent) c)) columns.now }
+        ensures { IfOk result (IsBatch self.now.layout.now) }
+    {
+        if self.are_at_once(columns.len()) {
+            return Ok(Batch::none());
+        }
+        self.top.batch(alloc, self.layout, columns)
+    }
+}
+
+/// How many columns from a place on are the next batch: of one axis, unless all columns are one batch.
+fn next_count(rt: &impl Threads, batches: &Batches<'_>, reached: usize) -> usize
+    requires { reached < length batches.now.own.now.columns.now }
+    ensures some { 1 ≤ result }
+    ensures within { reached + result ≤ length batches.now.own.now.columns.now }
+{
+    let columns = batches.own.columns;
+    let most = batch_of(rt, batches).min(columns.len() - reached);
+    if batches.are_at_once(most) {
+        return most;
+    }
+    count_along(columns, reached, most)
+}
+
 /// The keys of the columns of the next batch, from a place on, a list for each: of one at least. An error is want of memory.
 pub(crate) fn lists_from(
     rt: &(impl Threads + Sync),
@@ -148,11 +182,14 @@ pub(crate) fn lists_from(
     requires within { reached < length batches.now.own.now.columns.now }
     ensures { IfOk result (λ v. AreNext batches.now.layout.now.snapshot.now batches.now.own.now.columns.now reached v.items) }
 {
-    let columns = batches.own.columns;
-    let most = batch_of(rt, batches).min(columns.len() - reached);
-    let count = count_along(columns, reached, most);
-    let next = batch_at(columns, reached, count);
-    lists_of(rt, alloc, batches.layout, batches.top, next)
+    let count = next_count(rt, batches, reached);
+    let next = batch_at(batches.own.columns, reached, count);
+    let batch = batches.batch(alloc, next)?;
+    let source = Source {
+        top: batches.top,
+        batch: &batch,
+    };
+    lists_of(rt, alloc, batches.layout, &source, next)
 }
 
 /// The keys of columns, a list for each, one batch after another; progress is told before the first and after each.

@@ -11,12 +11,11 @@ returns g c =
     let columns = c.args.batches.now.own.now.columns.now in
     let s = c.args.batches.now.layout.now.snapshot.now in
     let reached = c.args.reached in
-    let count = c.count_along-count.result in
-    let some = c.count_along-count.ensures.some in
-    let few = c.count_along-count.ensures.few in
-    let least = c.min-most.ensures in
+    let count = c.next_count-count.result in
+    let some = c.next_count-count.ensures.some in
+    let few = c.next_count-count.ensures.within in
     let rest = length-drop reached columns in
-    let fits : count ≤ length (drop reached columns) = omega (arith, few, least, rest) in
+    let fits : count ≤ length (drop reached columns) = omega (arith, few, rest) in
     let next = c.batch_at-next.ensures in
     IfOk-weaker c.lists_of.result _ _
     (λ v h.
@@ -25,7 +24,7 @@ returns g c =
     ∙ length-take-le count (drop reached columns) fits in
     let within = c.requires.within in record {
       some = omega (arith, long, some);
-      within = omega (arith, long, few, least, within);
+      within = omega (arith, long, few, within);
       each = subst (λ (n : ℕ). AllZip (IsColumnList s) (take n (drop reached columns)) v.items) (sym long)
           (subst (λ (cs : List Column). AllZip (IsColumnList s) cs v.items) next h);
     }) c.lists_of.ensures
