@@ -2,11 +2,8 @@
 //! serves connections that share a desk.
 #![tactic(auto)]
 
-mod line;
-
-use line::Line;
 use mpw_core::Core;
-use mpw_serve::{Executor, command_line, print_help, run_script, tell};
+use mpw_serve::{Executor, TerminalLine, command_line, print_help, run_script, tell};
 use mpw_server::run as run_service;
 use mpw_settings::{Script, Settings};
 use mpw_stored_script::run_stored_script;
@@ -19,7 +16,7 @@ fn script(rt: &HostRuntime, threads: &(impl Threads + Sync), script: Script) -> 
     let executor = Executor {
         threads,
         alloc: rt.alloc(),
-        progress: Line::new(rt),
+        progress: TerminalLine::new(rt),
     };
     let Script { officer, store } = script;
     match store {
@@ -39,7 +36,7 @@ fn script(rt: &HostRuntime, threads: &(impl Threads + Sync), script: Script) -> 
 fn main(rt: HostRuntime) -> ExitCode {
     match command_line(&rt) {
         Ok(Settings::Script(asked)) => script(&rt, &rt, asked),
-        Ok(Settings::Serve(service)) => run_service(&rt, &rt, &service, Line::new(&rt)),
+        Ok(Settings::Serve(service)) => run_service(&rt, &rt, &service, TerminalLine::new(&rt)),
         Ok(Settings::Help(text)) => print_help(&rt, text.as_str()),
         Err(fault) => tell(&rt, &fault),
     }

@@ -16,6 +16,7 @@ mod progress;
 mod responder;
 mod script;
 mod serve;
+mod terminal_line;
 mod working;
 
 pub use executor::Executor;
@@ -26,4 +27,5 @@ pub use progress::{Progress, Silent};
 pub use responder::Responder;
 pub use script::serve_script;
 pub use serve::{End, MAX_LINES, Served, serve_connection};
+pub use terminal_line::TerminalLine;
 pub use working::work_behind;

@@ -1,29 +1,29 @@
-//! The line on which a terminal is told how far a run that is worked off came.
+//! How far a run has come, on one line of a terminal.
 
-use mpw_serve::Progress;
+use crate::progress::Progress;
 use std::io::{IsTerminal, Stderr, Write};
 
-/// A line on the standard error, none where that isn't a terminal.
+/// A line on the standard error that shows how far a run has come. If the standard error is no terminal, it shows nothing.
 #[derive(Drop)]
-pub struct Line {
+pub struct TerminalLine {
     terminal: Option<Stderr>,
 }
 
-impl Line {
+impl TerminalLine {
     /// The line on the standard error.
-    pub fn new(rt: &HostRuntime) -> Line {
+    pub fn new(rt: &HostRuntime) -> TerminalLine {
         let stderr = rt.stderr();
         let terminal = if stderr.is_terminal() {
             Some(stderr)
         } else {
             None
         };
-        Line { terminal }
+        TerminalLine { terminal }
     }
 }
 
-impl Progress for Line {
-    /// Writes the line anew, and ends it after the last job. A terminal that fails keeps nothing from being worked off.
+impl Progress for TerminalLine {
+    /// Rewrites the line, and ends it after the last job. A terminal that fails doesn't stop the run.
     fn tell(&mut self, done: usize, total: usize) {
         if let Some(stderr) = &mut self.terminal {
             let end = if done == total { "\n" } else { "" };
