@@ -2,7 +2,7 @@
 
 use mpw_deck::{Check, Rule};
 use mpw_geom::{Box2, Layer, Name};
-use mpw_words::{check_of, coordinate_or_zero};
+use gate_words::{check_of, coordinate_or_zero};
 use std::alloc::{AllocError, Global};
 
 const FIRST: Layer = Layer {

@@ -13,7 +13,7 @@ use mpw_check::{Silent, check_tiles, tile_count};
 use mpw_columns::check_columns;
 use mpw_deck::Rules;
 use mpw_markers::{Book, Marker, stitch};
-use mpw_samples::text_of_library;
+use gate_samples::text_of_library;
 use mpw_tiles::Snapshot;
 use std::alloc::Global;
 use std::thread::Threads;

@@ -4,7 +4,7 @@ use anyhow::{Result, bail};
 use mpw_deck::{Deck, read_deck};
 use mpw_geom::{Orient, Placing, Point};
 use mpw_hier::Shelf;
-use mpw_plain::submit_text;
+use gate_plain::submit_text;
 use mpw_tiles::{Snapshot, are_roots};
 use mpw_walk::Root;
 use std::alloc::Global;

@@ -13,7 +13,7 @@ mod told;
 
 use anyhow::Result;
 use layout::{SAMPLE, SAMPLE_SIDE, snapshot};
-use mpw_samples::text_of_library;
+use gate_samples::text_of_library;
 use mpw_tiles::Snapshot;
 use std::thread::Threads;
 use std::time::{Clock, Instant};

@@ -1,0 +1,57 @@
+//! Books of markers: lists of tiles stitched, and random lists compared with a plain body that goes row by row.
+//!
+//! Each line is repeated, with the answer below. A line that begins with `#`, and an empty one, says nothing.
+//! - `tile` begins the list of another tile, and `clear` begins anew;
+//! - `marker RULE AXIS SIDE X1 X2 Y0 Y1 SUBMISSION ..` adds a marker to the tile's list;
+//! - `book` stitches the lists and prints the book, a marker a line;
+//! - `find RULE AXIS SIDE X1 X2 Y0 Y1` looks the key up in the last book;
+//! - `rectangle SUBMISSION X0 Y0 X1 Y1` and `box X0 Y0 X1 Y1` add to the shapes and to the boxes, `origins` prints which
+//!   submissions each box meets, and `scattered N` compares those of N random sets with a search square by square;
+//! - `random N` compares the books of N random sets of lists, and what is found in them, with the plain body.
+mod asked;
+mod compare;
+mod plain;
+mod scattered;
+mod shapes;
+mod tiles;
+mod words;
+
+use anyhow::{Result, bail};
+use shapes::Shapes;
+use tiles::Tiles;
+
+fn answer(
+    rt: &(impl Print + AllocGlobal),
+    tiles: &mut Tiles,
+    shapes: &mut Shapes,
+    line: &str,
+) -> Result<()> {
+    if line.is_empty() || line.starts_with('#') {
+        return Ok(());
+    }
+    let words: Vec<&str> = line.split_whitespace().collect(rt.alloc())?;
+    match words.as_slice() {
+        ["tile"] => tiles.close(rt.alloc()),
+        ["clear"] => tiles.clear(rt.alloc()),
+        ["marker", rest @ ..] => tiles.add(rt.alloc(), rest),
+        ["book"] => tiles.print_book(rt),
+        ["find", rest @ ..] => tiles.find(rt, rest),
+        ["rectangle", rest @ ..] => shapes.add_rectangle(rest),
+        ["box", rest @ ..] => shapes.add_box(rest),
+        ["origins"] => shapes.print_origins(rt),
+        ["scattered", count] => scattered::compared(rt, count),
+        ["random", count] => compare::compared(rt, count),
+        _ => bail!("a command"),
+    }
+}
+
+/// Answers the lines of its table.
+pub(crate) fn run(rt: &HostRuntime, lines: &[String]) -> Result<()> {
+    let mut tiles = Tiles::new(rt.alloc());
+    let mut shapes = Shapes::new(rt.alloc());
+    for line in lines {
+        println!(rt; "{line}")?;
+        answer(rt, &mut tiles, &mut shapes, line.as_str())?;
+    }
+    Ok(())
+}

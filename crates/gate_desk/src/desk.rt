@@ -1,0 +1,78 @@
+//! A table of events of the core, each with what it is answered.
+//!
+//! Each line is repeated, with the answer below. A line that begins with `#`, and an empty one, says nothing.
+//! - `new NAME` begins with a new desk, whose officer is `root`, asks what the lines of the data file of that name ask, each
+//!   on connection 1, and tells how many of them are accepted;
+//! - `ask CONN WORDS` asks a request on a connection and tells the reply. A library, in the notation of `gate_samples`, or
+//!   a deck's lines, with `; ` between them, stand behind a bar; what is placed lies as it is drawn;
+//! - `gone CONN` ends a connection, and `restart` starts the desk anew;
+//! - `take WORKER AS` calls for a job, tells which, does it, and keeps the answer under a name, in place of an earlier one;
+//! - `hand AS` hands a kept answer in, as often as it is said;
+//! - `cut AS RUN OF` does the job of cutting what another answer cut, as if it were of that run, and keeps the answer;
+//! - `tile AS RUN NUMBER CORE WINDOW RULES` does a job of that run and number with the core of one kept answer, the window of
+//!   another and the rules of a third, and keeps the answer;
+//! - `calls` tells how many calls the history has;
+//! - `replay` goes on with the desk that the events of the history give, and tells how many of its calls are answered
+//!   otherwise;
+//! - `fill CONN N` ends a connection until the history has room for N calls.
+mod table;
+
+use crate::desk::table::Table;
+use anyhow::{Result, bail};
+use gate_words::number;
+use std::fs;
+
+/// Begins with a new desk that is asked what a data file says.
+fn begin(rt: &HostRuntime, table: &mut Table, name: &str) -> Result<()> {
+    let path = format!(in rt.alloc(); "{name}.txt")?;
+    let text = fs::read_to_string(rt, path.as_str())?;
+    table.begin(rt, text.as_str())
+}
+
+/// Lines over kept answers, and over the history.
+fn answer_more(rt: &HostRuntime, table: &mut Table, words: &[&str]) -> Result<()> {
+    match words {
+        ["hand", name] => table.hand(rt, name),
+        ["cut", name, run, of] => table.forge_cut(rt, name, number(run)?, of),
+        ["tile", name, run, tile, core, window, rules] => {
+            let numbers = (number(run)?, number(tile)?);
+            table.forge_tile(rt, name, numbers, [core, window, rules])
+        }
+        ["calls"] => table.tell_calls(rt),
+        ["replay"] => table.replay(rt),
+        ["fill", connection, room] => table.fill(number(connection)?, number(room)?),
+        _ => bail!("a line of a table"),
+    }
+}
+
+/// Answers a line.
+fn answer(rt: &HostRuntime, table: &mut Table, line: &str) -> Result<()> {
+    if line.is_empty() || line.starts_with('#') {
+        return Ok(());
+    }
+    let (command, payload) = line.split_once('|').unwrap_or((line, ""));
+    let words: Vec<&str> = command.split_whitespace().collect(rt.alloc())?;
+    match words.as_slice() {
+        ["new", name] => begin(rt, table, name),
+        ["ask", connection, asked @ ..] => table.ask(
+            rt,
+            number(connection)?,
+            asked,
+            payload.trim(),
+        ),
+        ["gone", connection] => table.end(rt, number(connection)?),
+        ["restart"] => table.restart(rt),
+        ["take", worker, name] => table.take(rt, number(worker)?, name),
+        words => answer_more(rt, table, words),
+    }
+}
+
+/// Answers the lines of its table.
+pub(crate) fn run(rt: &HostRuntime, lines: &[String]) -> Result<()> {
+    let mut table = Table::new(rt.alloc())?;
+    for line in lines {
+        println!(rt; "{line}")?;
+        answer(rt, &mut table, line.as_str())?;
+    }
+    Ok(())
+}

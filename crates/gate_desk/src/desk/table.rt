@@ -1,0 +1,206 @@
+//! A desk, and the answers that are kept beside it.
+
+use anyhow::{Result, bail};
+use gate_events::{
+    Kept, cut_job, different, digest, event_of, events_of, find, find_cut, find_tile, is_accepted,
+    job_of, keep, name, request, tell_response, tile_job, work,
+};
+use mpw_core::{Core, MAX_EVENTS, replay};
+use mpw_events::{Event, NoKeeper, Response};
+use mpw_geom::Name;
+use mpw_job::Job;
+use std::alloc::{AllocError, Global};
+
+/// A desk, and the answers that are kept beside it.
+#[derive(Drop)]
+pub struct Table {
+    core: Box<Core>,
+    kept: Vec<Kept>,
+}
+
+/// A desk behind a pointer, so that to let it go is one step wherever it is held.
+fn boxed(alloc: Global, core: Core) -> Result<Box<Core>, AllocError> {
+    match Box::new(alloc, core) {
+        Ok(core) => Ok(core),
+        Err(_) => Err(AllocError),
+    }
+}
+
+/// A new desk.
+fn new_core(alloc: Global, officer: Name) -> Result<Box<Core>, AllocError> {
+    Core::new_boxed(alloc, officer, digest("abc"))
+}
+
+/// The desk that events give.
+fn replayed(alloc: Global, officer: Name, events: &[Event]) -> Result<Box<Core>, AllocError> {
+    boxed(alloc, replay(alloc, officer, digest("abc"), events)?)
+}
+
+/// Handles an event. The response stands behind a pointer too.
+fn handle(alloc: Global, core: &mut Core, event: Event) -> Result<Box<Response>, AllocError> {
+    let response = core.handle(&mut NoKeeper, event)?;
+    match Box::new(alloc, response) {
+        Ok(response) => Ok(response),
+        Err(_) => Err(AllocError),
+    }
+}
+
+/// Ends a connection so many times.
+fn end_times(core: &mut Core, connection: u32, count: usize) -> Result<(), AllocError> {
+    for _ in 0..count {
+        core.handle(&mut NoKeeper, Event::Gone { connection })?;
+    }
+    Ok(())
+}
+
+impl Table {
+    /// A new desk, beside which nothing is kept.
+    pub fn new(alloc: Global) -> Result<Table> {
+        let officer = name(alloc, "root")?;
+        let core = new_core(alloc, officer)?;
+        Ok(Table {
+            core,
+            kept: Vec::new(alloc),
+        })
+    }
+
+    /// Begins with a new desk, which is asked what the lines of a text ask.
+    pub fn begin(&mut self, rt: &HostRuntime, text: &str) -> Result<()> {
+        *self = Table::new(rt.alloc())?;
+        let mut count = 0usize;
+        for line in text.lines() {
+            self.set_up(rt.alloc(), line)?;
+            count = count.saturating_add(1);
+        }
+        Ok(println!(rt; "    {count} accepted")?)
+    }
+
+    /// Asks what has to be accepted.
+    fn set_up(&mut self, alloc: Global, line: &str) -> Result<()> {
+        let (command, payload) = line.split_once('|').unwrap_or((line, ""));
+        let words: Vec<&str> = command.split_whitespace().collect(alloc)?;
+        let request = request(alloc, words.as_slice(), payload.trim())?;
+        let response = handle(
+            alloc,
+            &mut self.core,
+            Event::Ask {
+                connection: 1,
+                request,
+            },
+        )?;
+        if !is_accepted(&response) {
+            bail!("a line of a new desk");
+        }
+        Ok(())
+    }
+
+    /// Handles an event, and tells the response.
+    fn tell(&mut self, rt: &HostRuntime, event: Event) -> Result<()> {
+        let response = handle(rt.alloc(), &mut self.core, event)?;
+        tell_response(rt, &response)
+    }
+
+    /// Asks a request of a connection, with its payload where it has one, and tells the reply.
+    pub fn ask(
+        &mut self,
+        rt: &HostRuntime,
+        connection: u32,
+        words: &[&str],
+        payload: &str,
+    ) -> Result<()> {
+        let request = request(rt.alloc(), words, payload)?;
+        self.tell(
+            rt,
+            Event::Ask {
+                connection,
+                request,
+            },
+        )
+    }
+
+    /// Ends a connection, and tells the response.
+    pub fn end(&mut self, rt: &HostRuntime, connection: u32) -> Result<()> {
+        self.tell(rt, Event::Gone { connection })
+    }
+
+    /// Restarts the desk, and tells the response.
+    pub fn restart(&mut self, rt: &HostRuntime) -> Result<()> {
+        self.tell(rt, Event::Restart)
+    }
+
+    /// Does a job, and keeps the answer.
+    fn work(&mut self, alloc: Global, name_word: &str, job: &Job) -> Result<()> {
+        let work = work(alloc, job)?;
+        let name = name(alloc, name_word)?;
+        keep(&mut self.kept, name, work)
+    }
+
+    /// Calls for a job, and does it.
+    pub fn take(&mut self, rt: &HostRuntime, worker: u32, name: &str) -> Result<()> {
+        let response = handle(rt.alloc(), &mut self.core, Event::Take { worker })?;
+        tell_response(rt, &response)?;
+        match job_of(rt.alloc(), &response)? {
+            Some(job) => self.work(rt.alloc(), name, &job),
+            None => Ok(()),
+        }
+    }
+
+    /// Hands a kept answer in.
+    pub fn hand(&mut self, rt: &HostRuntime, name: &str) -> Result<()> {
+        let event = event_of(find(self.kept.as_slice(), name)?)?;
+        self.tell(rt, event)
+    }
+
+    /// Does the job of a run that cuts what another answer cut.
+    pub fn forge_cut(&mut self, rt: &HostRuntime, name: &str, run: u32, of: &str) -> Result<()> {
+        let of = find_cut(self.kept.as_slice(), of)?;
+        let job = cut_job(rt.alloc(), run, of.get())?;
+        self.work(rt.alloc(), name, &job)
+    }
+
+    /// Does the job of a run and a tile of those numbers, with the core, the window and the rules of three answers.
+    pub fn forge_tile(
+        &mut self,
+        rt: &HostRuntime,
+        name: &str,
+        numbers: (u32, u32),
+        parts: [&str; 3],
+    ) -> Result<()> {
+        let kept = self.kept.as_slice();
+        let core = find_tile(kept, parts[0])?;
+        let window = find_tile(kept, parts[1])?;
+        let rules = find_tile(kept, parts[2])?;
+        let job = tile_job(
+            numbers.0,
+            numbers.1,
+            core.get().job(),
+            window.get().job(),
+            rules.get().job(),
+        )?;
+        self.work(rt.alloc(), name, &job)
+    }
+
+    /// Tells how many calls the history has.
+    pub fn tell_calls(&self, rt: &HostRuntime) -> Result<()> {
+        Ok(println!(rt; "    {} calls", self.core.history().len())?)
+    }
+
+    /// Goes on with the desk that the events of the history give.
+    pub fn replay(&mut self, rt: &HostRuntime) -> Result<()> {
+        let events = events_of(rt.alloc(), self.core.history())?;
+        let officer = name(rt.alloc(), "root")?;
+        let core = replayed(rt.alloc(), officer, events.as_slice())?;
+        let different = different(self.core.history(), core.history());
+        let count = core.history().len();
+        self.core = core;
+        Ok(println!(rt; "    {count} calls, {different} answered otherwise")?)
+    }
+
+    /// Ends a connection until the history has room for so many calls.
+    pub fn fill(&mut self, connection: u32, room: u32) -> Result<()> {
+        let count = MAX_EVENTS
+            .saturating_sub(room as usize)
+            .saturating_sub(self.core.history().len());
+        Ok(end_times(&mut self.core, connection, count)?)
+    }
+}

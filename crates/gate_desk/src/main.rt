@@ -1,0 +1,39 @@
+//! Golden tests of the desk: its policy, its events, scripts, and a desk that threads share.
+//!
+//! The standard input has tables of lines. A line `== NAME` begins a table; the module of that name says what its lines are.
+#![tactic(auto)]
+
+mod desk;
+mod policy;
+mod scripts;
+mod shared;
+
+use anyhow::{Result, bail};
+use gate_words::{Table, read_tables};
+use std::sync::Wait;
+use std::thread::Threads;
+use std::time::Clock;
+
+/// Runs a table.
+fn run<T: Threads + Wait + Clock + Sync>(
+    rt: &HostRuntime,
+    threads: &T,
+    table: &Table,
+) -> Result<()> {
+    match table.name() {
+        "policy" => Ok(policy::run(rt)?),
+        "desk" => desk::run(rt, table.lines()),
+        "scripts" => scripts::run(rt, threads, table.lines()),
+        "shared" => shared::run(rt, threads, table.lines()),
+        _ => bail!("no table has this name"),
+    }
+}
+
+fn main(rt: HostRuntime) -> Result<()> {
+    let tables = read_tables(&rt)?;
+    for table in &tables {
+        println!(rt; "== {}", table.name())?;
+        run(&rt, &rt, table)?;
+    }
+    Ok(())
+}

@@ -1,0 +1,29 @@
+//! Shows what no clause says of the policy: rows of requests as a table, and the role masks beside a plain search.
+mod hierarchies;
+mod sessions;
+mod sets;
+
+use mpw_geom::Name;
+use std::alloc::{AllocError, Global};
+use std::io;
+
+/// A name that is known to be one.
+fn name(alloc: Global, text: &str) -> Result<Name, AllocError> {
+    match Name::read(alloc, text.as_bytes()) {
+        Ok(name) => Ok(name),
+        Err(_) => Err(AllocError),
+    }
+}
+
+/// The name of a role with a number.
+fn role_name(alloc: Global, number: usize) -> Result<Name, AllocError> {
+    let text = format!(in alloc; "r{number}")?;
+    name(alloc, text.as_str())
+}
+
+/// Shows what the policy answers.
+pub(crate) fn run(rt: &HostRuntime) -> io::Result<()> {
+    sets::show(rt)?;
+    sessions::show(rt)?;
+    hierarchies::show(rt)
+}

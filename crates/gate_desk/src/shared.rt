@@ -1,0 +1,88 @@
+//! A desk that threads share, with a gate that workers pass before they work a tile.
+//!
+//! Each line is repeated, with what came of it below, which is the same however the threads take turns.
+//! - `NAME HOLD KEPT` is the day of the script of that name: its connections and its workers are threads of their own over one desk with
+//!   six tiles. The gate holds `each` pass of tile 0, or the `first` alone, until the flag `passing` is set. At the end all passes are
+//!   handed back, and one is kept where `KEPT` is `connection` or `worker`, and not `none`;
+//! - `session NAME` serves the script of that name, as `gate_events` has them, to a pass of a new desk without workers. With
+//!   `source N` behind it the source fails at that byte, with `sink N` the sink takes so many bytes and fails, and with `source each` and
+//!   `sink each` they fail so at each place in turn. A front is told where what was written is a front of the replies, the history has just
+//!   the requests that were read and the end, and all calls are the pass's;
+//! - `passes N` takes passes, one after another, until there is none or there were N and one more.
+//!
+//! A connection's steps stand in lines below one another:
+//! - `tell REQUEST` asks, and tells the reply;
+//! - `until FRONT REQUEST` asks until a line of the reply begins so, and tells nothing;
+//! - `set FLAG` sets a flag, and `wait FLAG` waits for one. The flag `held` is set by the gate.
+mod account;
+mod day;
+mod ending;
+mod faults;
+mod flags;
+mod passes;
+mod session;
+mod setup;
+mod shared_day;
+mod steps;
+mod threads;
+
+use crate::shared::day::Day;
+use crate::shared::faults::tell_session;
+use crate::shared::passes::tell_passes;
+use crate::shared::setup::desk_of;
+use crate::shared::shared_day::tell_day;
+use anyhow::{Result, bail};
+use gate_events::read_transcript;
+use gate_words::number;
+use std::fs;
+use std::sync::Wait;
+use std::thread::Threads;
+use std::time::Clock;
+
+/// The data file with what sets a desk up.
+const DESK: &str = "six-tiles.txt";
+
+/// The text of a script.
+fn read_script(rt: &HostRuntime, name: &str) -> Result<String> {
+    let path = format!(in rt.alloc(); "{name}.txt")?;
+    Ok(fs::read_to_string(rt, path.as_str())?)
+}
+
+/// Serves a script as the words behind its name say.
+fn run_session(rt: &HostRuntime, waits: &impl Wait, name: &str, words: &[&str]) -> Result<()> {
+    let text = read_script(rt, name)?;
+    let script = read_transcript(rt.alloc(), text.as_str())?;
+    tell_session(rt, waits, &script, words)
+}
+
+/// Runs one line of the standard input.
+fn run_case<R: Threads + Wait + Clock + Sync>(
+    rt: &HostRuntime,
+    threads: &R,
+    line: &str,
+) -> Result<()> {
+    println!(rt; "{line}")?;
+    let words: Vec<&str> = line.split_whitespace().collect(rt.alloc())?;
+    match words.as_slice() {
+        ["session", name, words @ ..] => run_session(rt, threads, name, words),
+        ["passes", count] => tell_passes(rt, threads, desk_of(rt, DESK)?, number(count)?),
+        [name, hold, kept_back] => {
+            let core = desk_of(rt, DESK)?;
+            let day = Day::read(rt.alloc(), read_script(rt, name)?, hold, kept_back)?;
+            tell_day(rt, threads, core, &day)
+        }
+        _ => bail!("the name of a day"),
+    }
+}
+
+/// Answers the lines of its table.
+pub(crate) fn run<R: Threads + Wait + Clock + Sync>(
+    rt: &HostRuntime,
+    waits: &R,
+    lines: &[String],
+) -> Result<()> {
+    for line in lines {
+        run_case(rt, waits, line.as_str())?;
+    }
+    Ok(())
+}

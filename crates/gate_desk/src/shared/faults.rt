@@ -1,0 +1,183 @@
+//! A session that is served over devices of which one fails at a place, told.
+
+use crate::shared::session::{Devices, Session, serve_session};
+use anyhow::{Result, bail};
+use gate_events::{Paper, Text, Transcript, name};
+use gate_words::number;
+use mpw_core::Core;
+use mpw_events::Handler;
+use mpw_requests::digest_of;
+use mpw_serve::End;
+use mpw_wire::WireFault;
+use std::alloc::Global;
+use std::str::from_utf8;
+use std::sync::Wait;
+
+/// A device that fails, and where.
+#[derive(Clone, Copy)]
+pub enum Fault {
+    /// None fails.
+    Never,
+    /// The source, at that byte of the input, from 0.
+    Source(usize),
+    /// The sink, once it took so many bytes.
+    Sink(usize),
+}
+
+/// Serves a script over a new desk, with a device that fails.
+fn serve(rt: &impl Wait, alloc: Global, script: &Transcript, fault: Fault) -> Result<Session> {
+    let core = Core::new_boxed(alloc, name(alloc, "root")?, digest_of(b"abc"))?;
+    let (fails_at, room) = match fault {
+        Fault::Never => (usize::MAX, usize::MAX),
+        Fault::Source(place) => (place, usize::MAX),
+        Fault::Sink(place) => (usize::MAX, place),
+    };
+    let reader = Text {
+        bytes: script.input.as_slice(),
+        at: 0,
+        fails_at,
+        failures: 0,
+    };
+    let writer = Paper::new(alloc, room);
+    Ok(serve_session(rt, alloc, core, Devices { reader, writer })?)
+}
+
+/// How many lines stand behind a reply's first line.
+fn lines_behind(first: &str) -> usize {
+    match first.split_once(' ') {
+        Some(("OK", count)) => count.parse::<usize>().unwrap_or(0),
+        _ => 0,
+    }
+}
+
+/// How many lines of a text end.
+fn whole_lines(text: &[u8]) -> usize {
+    let mut count = 0usize;
+    for byte in text {
+        if *byte == b'\n' {
+            count = count.saturating_add(1);
+        }
+    }
+    count
+}
+
+/// How many replies a text has in whole.
+fn whole_replies(text: &[u8]) -> usize {
+    let (mut count, mut behind) = (0usize, 0usize);
+    for line in from_utf8(text)
+        .unwrap_or("")
+        .lines()
+        .take(whole_lines(text))
+    {
+        behind = if behind > 0 {
+            behind - 1
+        } else {
+            lines_behind(line)
+        };
+        if behind == 0 {
+            count = count.saturating_add(1);
+        }
+    }
+    count
+}
+
+/// Whether a session ended at a fault: what was written is a front of the replies, the history has a front of the requests, with that whose
+/// reply could not be written as the last, and the end behind them.
+fn is_cut(session: &Session, whole: &Session, fault: Fault) -> bool {
+    let text = session.text.as_slice();
+    let (ended, last) = match fault {
+        Fault::Source(_) => (Err(WireFault::Read), 0),
+        Fault::Sink(_) => (Err(WireFault::Write), 1),
+        Fault::Never => (Ok(End::Closed), 0),
+    };
+    let requests = whole_replies(text).saturating_add(last);
+    whole.text.as_slice().starts_with(text)
+        && whole.asked.as_str().starts_with(session.asked.as_str())
+        && session.requests == requests
+        && session.ended == ended
+        && session.is_gone
+}
+
+/// Tells of a session over devices of which none fails.
+fn tell_whole(rt: &HostRuntime, script: &Transcript, whole: &Session) -> Result<()> {
+    let is_written = whole.text.as_slice() == script.replies.as_slice();
+    if is_written && is_cut(whole, whole, Fault::Never) {
+        println!(rt;
+            "  answered as written, {} requests and the end",
+            whole.requests
+        )?;
+    } else {
+        println!(rt; "  answered OTHERWISE")?;
+    }
+    Ok(())
+}
+
+/// Tells of a session over a device that fails at a place.
+fn tell_cut(rt: &HostRuntime, session: &Session, whole: &Session, fault: Fault) -> Result<()> {
+    let cut = if is_cut(session, whole, fault) {
+        "a front"
+    } else {
+        "NO front"
+    };
+    println!(rt;
+        "  {} bytes, {} requests: {cut}",
+        session.text.len(),
+        session.requests
+    )?;
+    Ok(())
+}
+
+/// The fault of a device at a place.
+fn fault_at(device: &str, place: usize) -> Result<Fault> {
+    match device {
+        "source" => Ok(Fault::Source(place)),
+        "sink" => Ok(Fault::Sink(place)),
+        _ => bail!("a device"),
+    }
+}
+
+/// Tells of a session over a device that fails at each place in turn.
+fn tell_each(
+    rt: &HostRuntime,
+    waits: &impl Wait,
+    script: &Transcript,
+    whole: &Session,
+    device: &str,
+) -> Result<()> {
+    let places = match device {
+        "source" => script.input.len(),
+        _ => script.replies.len(),
+    };
+    let mut count = 0usize;
+    for place in 0..places {
+        let fault = fault_at(device, place)?;
+        let session = serve(waits, rt.alloc(), script, fault)?;
+        if is_cut(&session, whole, fault) {
+            count = count.saturating_add(1);
+        }
+    }
+    Ok(println!(rt; "  {places} places: {count} times a front")?)
+}
+
+/// Tells of a script over a desk that is shared for it: in whole, or with a device that fails at a place or at each in turn.
+///
+/// # Errors
+/// Where the words are none of these, there is no memory, or it can't be printed.
+pub fn tell_session(
+    rt: &HostRuntime,
+    waits: &impl Wait,
+    script: &Transcript,
+    words: &[&str],
+) -> Result<()> {
+    let whole = serve(waits, rt.alloc(), script, Fault::Never)?;
+    match words {
+        [] => tell_whole(rt, script, &whole),
+        [device, "each"] => tell_each(rt, waits, script, &whole, device),
+        [device, place] => {
+            let fault = fault_at(device, number(place)? as usize)?;
+            let session = serve(waits, rt.alloc(), script, fault)?;
+            tell_cut(rt, &session, &whole, fault)
+        }
+        _ => bail!("a device and a place"),
+    }
+}

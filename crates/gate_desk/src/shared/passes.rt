@@ -1,0 +1,46 @@
+//! How many passes a desk has.
+ghost use Rattle.std.specs.Prelude.{◌≡◌, ◌≤◌, None};
+ghost use Rattle.mpw_events.specs.History.{kept_desk};
+
+use crate::shared::threads::FIRST;
+use anyhow::Result;
+use mpw_desk::{Blank, Room, Shared};
+use mpw_events::{Handler, NoKeeper};
+use std::marker::Brand;
+use std::sync::Wait;
+
+/// Takes so many passes at most, each of which is let go at once, and gives how many there were.
+fn count_passes<H: Handler + Drop, N: Room, R: Wait>(
+    rt: &R,
+    core: Box<H>,
+    blank: Blank,
+    most: u32,
+) -> u32
+    requires begun { N.begun ≡ kept_desk (H.desk core.value) None 0 }
+    requires name { blank.name ≡ N.name }
+    requires parts { (blank.parts ≡ N.parts) × (N.all ≡ N.parts) × (1048577 ≤ N.all) }
+    requires table { blank.table ≡ N.table }
+{
+    let shared: Shared<H, NoKeeper, N> = Shared::new(core, NoKeeper, blank, FIRST);
+    for count in 0..most {
+        if shared.pass(rt).is_none() {
+            return count;
+        }
+    }
+    most
+}
+
+/// Tells how many of so many passes and one more there are.
+///
+/// # Errors
+/// Where there is no memory, or it can't be printed.
+pub fn tell_passes<H: Handler + Drop, R: Wait>(
+    rt: &HostRuntime,
+    threads: &R,
+    core: Box<H>,
+    most: u32,
+) -> Result<()> {
+    let blank = Blank::new(rt.alloc())?;
+    let count = count_passes::<H, Brand, R>(threads, core, blank, most.saturating_add(1));
+    Ok(println!(rt; "  {count} passes of {most} and one more")?)
+}

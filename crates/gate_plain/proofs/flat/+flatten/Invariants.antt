@@ -1,0 +1,4 @@
+use Rattle.gate_plain.proofs.flat.+flatten.Given as goal
+
+abbrev pub decreases-flatten : goal.decreases-flatten
+decreases-flatten l = l.depth

@@ -1,0 +1,25 @@
+//! What readers of libraries do with the libraries of the standard input, one a line.
+//!
+//! A line is a command and a library in the notation of `gate_samples`. Each line is repeated, with what came of it
+//! below:
+//! - `read` prints the library, or the fault with its offset; `read N` does so with N zero bytes behind the text;
+//! - `records` prints each record's offset, type and data type in hex, and size;
+//! - `prefixes` reads every shorter text, and prints from where on which fault comes;
+//! - `lengths N ..` puts each length at each record, and prints the faults;
+//! - `size`, and `size N`, print the number of bytes, of structures, and of all their elements;
+//! - a line that begins with `#`, and an empty one, says nothing.
+//!
+//! A text is read by `LibraryText`, and what is printed is a copy of its library's elements.
+mod print;
+mod texts;
+
+use anyhow::Result;
+
+/// Answers the lines of its table.
+pub(crate) fn run(rt: &HostRuntime, lines: &[String]) -> Result<()> {
+    for line in lines {
+        println!(rt; "{line}")?;
+        texts::answer(rt, line.as_str())?;
+    }
+    Ok(())
+}

@@ -1,0 +1,40 @@
+//! The rectangles of elements: the lines of the standard input are commands, with a library in the notation of
+//! `gate_samples` behind a bar where one is asked for. Each line is repeated, with the answer below. A line that begins
+//! with `#`, and an empty one, says nothing.
+//!
+//! - `boxes | ..` prints the rectangles of each element, `total | ..` how many they are, and the sum of their areas;
+//! - `squares x y .. | ..` counts their unit squares from 0 to 39, and tells whether each of the squares is one;
+//! - `figure NAME` prints how many points a boundary of a known form has, how many boxes it gives, and their area;
+//!   `figure NAME N` tells only that the boxes are at most so many, if they are;
+//! - `scribbles N` compares the boxes of random boundaries with the winding numbers of each square.
+mod figures;
+mod shapes;
+
+use anyhow::Result;
+
+fn answer_words(rt: &(impl Print + AllocGlobal), words: &[&str], notation: &str) -> Result<()> {
+    match words {
+        ["figure", name, rest @ ..] => shapes::figure(rt, name, rest),
+        ["scribbles", count] => shapes::scribbles(rt, count),
+        _ => shapes::answer(rt, words, &shapes::boxes_of_notation(rt.alloc(), notation)?),
+    }
+}
+
+/// Prints a line, and answers it.
+fn answer(rt: &(impl Print + AllocGlobal), line: &str) -> Result<()> {
+    println!(rt; "{line}")?;
+    if line.is_empty() || line.starts_with('#') {
+        return Ok(());
+    }
+    let (command, notation) = line.split_once('|').unwrap_or((line, ""));
+    let words: Vec<&str> = command.split_whitespace().collect(rt.alloc())?;
+    answer_words(rt, &words, notation)
+}
+
+/// Answers the lines of its table.
+pub(crate) fn run(rt: &HostRuntime, lines: &[String]) -> Result<()> {
+    for line in lines {
+        answer(rt, line.as_str())?;
+    }
+    Ok(())
+}

@@ -1,0 +1,61 @@
+//! The reports of markers.
+//!
+//! The lines are a deck, a line `--`, the name of the structure, and then a marker a line as `RULE AXIS SIDE X1 X2 Y0 Y1`. The report of all markers is
+//! written. Where there is a line `original FILE`, a full report stands behind it, of that file, with at most `limit N` items a rule, and
+//! with the notes of the lines `note NOTE`, and the faults of the lines `fault CODE BYTE STRUCTURE [X0 Y0 X1 Y1]`, whose structure may be `-` for none.
+//! Where there is a line `counts N..` too, the same report stands behind that by these numbers of markers, rule by rule.
+mod given;
+
+use anyhow::Result;
+use given::Given;
+use mpw_report::{Report, write_full_report, write_report};
+use std::io::BufWriter;
+
+/// Writes the report of all markers.
+fn print_all(rt: &HostRuntime, given: &Given) -> Result<()> {
+    let deck = given.deck(rt.alloc())?;
+    let mut output = BufWriter::new(rt.alloc(), rt.stdout())?;
+    let rules = deck.rules().as_slice();
+    Ok(write_report(&mut output, rules, given.top()?, given.markers.as_slice())?)
+}
+
+/// Writes the full report of a file, by numbers of markers where there are some.
+fn print_full(
+    rt: &HostRuntime,
+    given: &Given,
+    original: &str,
+    counts: Option<&[usize]>,
+) -> Result<()> {
+    let deck = given.deck(rt.alloc())?;
+    let notes = given.notes(rt.alloc())?;
+    let faults = given.faults(rt.alloc())?;
+    let mut output = BufWriter::new(rt.alloc(), rt.stdout())?;
+    let report = Report {
+        original: Some(original),
+        top: given.top()?,
+        rules: deck.rules().as_slice(),
+        markers: given.markers.as_slice(),
+        counts,
+        limit: given.limit.unwrap_or(usize::MAX),
+        notes: notes.as_slice(),
+        faults: faults.as_slice(),
+    };
+    Ok(write_full_report(&mut output, &report)?)
+}
+
+/// Answers the lines of its table.
+pub(crate) fn run(rt: &HostRuntime, lines: &[String]) -> Result<()> {
+    let mut given = Given::new(rt.alloc());
+    for line in lines {
+        given.take(rt.alloc(), line.as_str())?;
+    }
+    print_all(rt, &given)?;
+    let Some(original) = &given.original else {
+        return Ok(());
+    };
+    print_full(rt, &given, original.as_str(), None)?;
+    match &given.counts {
+        Some(counts) => print_full(rt, &given, original.as_str(), Some(counts.as_slice())),
+        None => Ok(()),
+    }
+}
