@@ -1,7 +1,7 @@
-// Times Casbin's Go library on the policies of crates/bench_policy: so many roles in a tree, so many grants of reading a
+// Times Casbin's Go library on the policies of `gate_bench policy`: so many roles in a tree, so many grants of reading a
 // cell each to the roles in turn, and a user at the top of the tree.
 //
-// Debian's packages stand in a GOPATH of their own, so this file wants one beside it:
+// Debian's packages are in a GOPATH of their own, so this file needs one next to it:
 //
 //	mkdir -p gopath/src/bench && cp casbin.go gopath/src/bench/main.go && cd gopath/src/bench
 //	printf 'module bench\n\nrequire github.com/casbin/casbin/v2 v2.60.0\n' > go.mod

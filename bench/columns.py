@@ -3,7 +3,7 @@
 
   bench/columns.py [PROGRAM] [KIND N SIDE]..     KIND is wires or array; the four layouts of runs.py where none is given
 
-PROGRAM is crates/bench_columns/out/bench_columns where none is given (`scripts/build.py bench_columns`). Each row is one layout: the
+Without PROGRAM it is crates/gate_bench/out/gate_bench (`scripts/build.py gate_bench`). Each row is one layout: the
 program's own milliseconds of the check, without reading, and the processor seconds and the greatest size of the whole process, its
 reading included; by columns that show at most 65536 shapes each, and by tiles of that side. The markers of both are compared by their
 numbers, rule by rule.
@@ -17,7 +17,7 @@ import tempfile
 import runs
 
 HERE = os.path.dirname(os.path.abspath(__file__))
-PROGRAM = os.path.join(HERE, '..', 'crates', 'bench_columns', 'out', 'bench_columns')
+PROGRAM = os.path.join(HERE, '..', 'crates', 'gate_bench', 'out', 'gate_bench')
 MOST = 65536
 HEADS = ['Layout', 'Tiles of', 'Columns, ms', 'CPU s', 'MB', 'Tiles, ms', 'CPU s', 'MB', 'Markers']
 
@@ -41,8 +41,8 @@ def told(out):
 def row(program, folder, kind, n, side):
     path = os.path.join(folder, f'{kind}{n}.gds')
     runs.make(path, kind, n)
-    columns, columns_cpu, columns_mb = measured([program, path, str(MOST)])
-    tiles, tiles_cpu, tiles_mb = measured([program, path, 'tiles', str(side)])
+    columns, columns_cpu, columns_mb = measured([program, 'columns', path, str(MOST)])
+    tiles, tiles_cpu, tiles_mb = measured([program, 'columns', path, 'tiles', str(side)])
     (ms, markers), (tiles_ms, others) = told(columns), told(tiles)
     if markers != others:
         sys.exit(f'{kind} {n}: {markers} by columns, {others} by tiles')

@@ -1,7 +1,7 @@
 #!/usr/bin/env python3
-"""Times the checks beside KLayout: compare.py [KIND N]..
+"""Times the checks next to KLayout's: compare.py [KIND N]..
 
-Needs crates/bench_checks/out/bench_checks (`rt run` in crates/bench_checks), and klayout on the path for its columns.
+Needs crates/gate_bench/out/gate_bench (`scripts/build.py gate_bench`), and klayout on the path for its columns.
 Seconds are processor seconds without reading; megabytes are the most that a process held.
 """
 import os
@@ -12,7 +12,7 @@ import sys
 import tempfile
 
 HERE = os.path.dirname(os.path.abspath(__file__))
-PROGRAM = os.path.join(HERE, '..', 'crates', 'bench_checks', 'out', 'bench_checks')
+PROGRAM = os.path.join(HERE, '..', 'crates', 'gate_bench', 'out', 'gate_bench')
 LAYOUTS = [('wires', 20000), ('wires', 200000), ('array', 64), ('array', 512)]
 
 
@@ -33,8 +33,8 @@ def counts(output):
 
 
 def ours(path, shapes):
-    _, reading, _ = run([PROGRAM], shapes)
-    output, seconds, megabytes = run([PROGRAM], path)
+    _, reading, _ = run([PROGRAM, 'checks'], shapes)
+    output, seconds, megabytes = run([PROGRAM, 'checks'], path)
     return seconds - reading, megabytes, counts(output)
 
 

@@ -2,12 +2,12 @@
 """Compares the readers of libraries, decks and request lines with the model of model/, on random texts.
 
   fuzz.py [libraries N] [decks N] [requests N] [--first K] [--jobs J] [--program PROGRAM]
-  fuzz.py --write FOLDER     the first texts of each kind as FOLDER/stdin, and what the model tells of them as FOLDER/stdout
+  fuzz.py --write FOLDER     the first texts of each kind as FOLDER/texts, and what the model returns for them as FOLDER/texts.stdout
 
 Texts are made by their grammar, and most are changed then: bytes, records that are cut, doubled, exchanged or left out, lengths, numbers at their
 limits, words. A library is read whole, and as up to three of its fronts; a request line with its payload as a connection reads it. PROGRAM is
-crates/bench_texts/out/bench_texts, as `rt run` leaves it. A text is made of its kind and its number alone, so it is the same each time. Those that are
-read otherwise than the model reads them stay in bench/out. The exit status is 1 where one is.
+crates/gate_bench/out/gate_bench (`scripts/build.py gate_bench`). A text is made of its kind and its number alone, so it is the same each time. Texts
+that the program reads otherwise than the model are stored in bench/out, and then the exit status is 1.
 """
 import argparse
 import hashlib
@@ -38,7 +38,7 @@ from replies import Refused  # noqa: E402
 elements.boxes_of_boundary = elements.boxes_of_path = lambda *_: []
 elements.box_of_points = lambda *_: None
 
-PROGRAM = os.path.join(TOP, "crates", "bench_texts", "out", "bench_texts")
+PROGRAM = os.path.join(TOP, "crates", "gate_bench", "out", "gate_bench")
 CHUNK = 2000
 MODULUS = 2**64
 
@@ -295,7 +295,7 @@ def a_library(random):
 
 
 class Sum:
-    """One number of many, as crates/bench_texts makes it."""
+    """One number of many, as `gate_bench texts` makes it."""
 
     def __init__(self):
         self.value = 0
@@ -546,7 +546,7 @@ def compare(task):
     """Compares the texts of a kind from a number on: how many lines there were, what the model told by its first words, and which differ."""
     program, kind, first, count = task
     cases = [CASES[kind](Chance(f"{kind}-{place}")) for place in range(first, first + count)]
-    ended = subprocess.run([program], input=b"".join(text for text, _ in cases), stdout=subprocess.PIPE, check=True)
+    ended = subprocess.run([program, "texts"], input=b"".join(text for text, _ in cases), stdout=subprocess.PIPE, check=True)
     told = ended.stdout.decode("ascii").splitlines()
     differing, tally, at = [], Counter(), 0
     for place, (text, wanted) in enumerate(cases, first):
@@ -581,13 +581,13 @@ def run(pool, program, kind, first, count):
 
 
 def write(folder, count=8):
-    """Writes texts as the input of a stored run, and what the model tells of them as its output."""
+    """Writes texts as the input of a golden test, and what the model returns for them as its output."""
     by_hand = [(b"library 0\n", ["short 0"]), (b"library 4 2\n\0\x06\0\x02", ["short 0", "short 0"]), (b"deck 0\n", [f"1: {DECK_WORDS['tile']}"]),
                (b"deck 9\ntile 256\n", ["deck 256 0 0"]), (b"request 0\n", ["end 0"]), (b"request 7\nwhoami\n", ["asked 7 - whoami"])]
     cases = by_hand + [CASES[kind](Chance(f"{kind}-{place}")) for kind in CASES for place in range(count)]
-    with open(os.path.join(folder, "stdin"), "wb") as file:
+    with open(os.path.join(folder, "texts"), "wb") as file:
         file.write(b"".join(text for text, _ in cases))
-    with open(os.path.join(folder, "stdout"), "w", encoding="ascii") as file:
+    with open(os.path.join(folder, "texts.stdout"), "w", encoding="ascii") as file:
         file.write("".join(f"{outcome}\n" for _, wanted in cases for outcome in wanted))
 
 

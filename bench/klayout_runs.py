@@ -3,7 +3,7 @@ klayout -b -r klayout_runs.py -rd library=FILE -rd mode=flat|tiled|deep -rd side
 
 Listed, the pairs of the deep mode are made flat, as those of the others are: a list of all of them, and not of each once for all instances of its cell.
 
-Shielded, KLayout leaves out a pair of edges with another edge between them, as of the rules of bench_job `width` alone does: so that is shielded
+Shielded, KLayout leaves out a pair of edges with another edge between them, as of the rules of `gate_bench job` `width` alone does: so that is shielded
 whatever is asked."""
 import time
 

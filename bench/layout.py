@@ -1,5 +1,5 @@
 #!/usr/bin/env python3
-"""Writes a layout and four checks as lines for bench_checks: layout.py wires N | array N | comb N | row N | equal N | stairs N"""
+"""Writes a layout and four checks as lines for `gate_bench checks`: layout.py wires N | array N | comb N | row N | equal N | stairs N"""
 import random
 import sys
 

@@ -1,9 +1,9 @@
 #!/usr/bin/env python3
-"""Prints connections' lines for bench_lines: a desk of 512 roles and 4096 grants, and then lines of several kinds.
+"""Prints connections' lines for `gate_bench lines`: a desk of 512 roles and 4096 grants, and then lines of several kinds.
 
-  lines.py [ROLES GRANTS] | ../crates/bench_lines/out/bench_lines
+  lines.py [ROLES GRANTS] | ../crates/gate_bench/out/gate_bench lines
 
-The roles stand in a binary tree, as in bench_policy; grants are of reading cells, round the roles.
+The roles form a binary tree, as in `gate_bench policy`; grants are of reading cells, to the roles in turn.
 """
 import sys
 

@@ -3,7 +3,7 @@
 
   bench/runs.py [ROUNDS] [KIND N SIDE]..     at least one round; KIND is wires or array; the four layouts where none is given
 
-Needs crates/bench_job/out/bench_job (`scripts/build.py bench_job`). In each round a layout is run twice, with its jobs on one thread
+Needs crates/gate_bench/out/gate_bench (`scripts/build.py gate_bench`). In each round a layout is run twice, with its jobs on one thread
 and on all, each in a process of its own, and the rounds go on until ours took 20 seconds, since short runs swing. Where klayout is installed, its flat, tiled and deep modes stand behind them in the same round,
 each on one thread, until they have taken two minutes: times and memory of shielded checks, which are KLayout's faster ones. Its counts on up
 to 20,000 wires are those of unshielded ones, which are those of our rules. All times are those in the middle of the rounds, and ratios are those of
@@ -24,7 +24,7 @@ import time
 import layouts
 
 HERE = os.path.dirname(os.path.abspath(__file__))
-PROGRAM = os.path.join(HERE, '..', 'crates', 'bench_job', 'out', 'bench_job')
+PROGRAM = os.path.join(HERE, '..', 'crates', 'gate_bench', 'out', 'gate_bench')
 RUNS = [('wires', 20000, 4096), ('wires', 200000, 8192), ('array', 64, 2048), ('array', 512, 8192)]
 MODES = ['flat', 'tiled', 'deep']
 HEADS = ['Layout', 'Tiles', 'Rounds', 'Cut', 'Jobs, one thread', 'Jobs, all threads', 'Times one (by the least)', 'Stitching', 'Run on one thread', 'Memory',
@@ -87,7 +87,7 @@ def run(command):
 
 def ours(path, side, threads):
     """The tiles, the counts of the rules, the milliseconds of each part, and the megabytes."""
-    output, megabytes = run([PROGRAM, path, str(side), threads])
+    output, megabytes = run([PROGRAM, 'job', path, str(side), threads])
     parts = {what: float(taken) for what, taken in re.findall(r'^(\w+).*: ([\d.]+) ms$', output, re.M)}
     tiles = int(re.search(r'^cut: (\d+) tiles', output, re.M).group(1))
     counts = [int(count) for count in re.findall(r'^  \w+: (\d+)$', output, re.M)]

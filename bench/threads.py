@@ -3,7 +3,7 @@
 
   bench/threads.py [ROUNDS [KIND N SIDE]..]     7 rounds and the four layouts of runs.py where none are given
 
-Needs crates/bench_job/out/bench_job. In each round each layout is run twice, on one thread and on as many as there are
+Needs crates/gate_bench/out/gate_bench (`scripts/build.py gate_bench`). In each round each layout is run twice, on one thread and on as many as there are
 processors, by turns which of them first. Milliseconds are medians and, in brackets, the best; behind them stand the
 seconds of processor in the system and the page faults of the whole process, which tell what memory costs. Two
 columns of ours are how many times as fast all threads are, by medians and by bests.
@@ -36,7 +36,7 @@ THREADS = PROCESSORS + 2
 
 
 def begun(path, side, threads):
-    words = [runs.PROGRAM, path, str(side), threads]
+    words = [runs.PROGRAM, 'job', path, str(side), threads]
     return subprocess.Popen(words, stdin=subprocess.DEVNULL, stdout=subprocess.PIPE, text=True)
 
 

@@ -1,44 +1,63 @@
-//! Asks a shared desk from several threads at once, and tells how many requests a second it answered.
+//! Asks a shared desk from several threads at once, and prints how many requests a second it answered.
 //!
-//! The command line has the number of threads and how often each asks `whoami`; with a third word no time is told. Each thread has a
-//! session of the officer.
-#![tactic(auto)]
+//! The words are the number of threads and how often each asks `whoami`. Each thread has a session of the officer.
 
 mod asking;
-mod desk;
 
-use asking::{Plan, ask_in_threads};
-use desk::new_desk;
-use std::{env, io};
+use crate::asks::asking::{Plan, ask_in_threads};
+use crate::desk::new_desk;
+use anyhow::Result;
+use std::sync::Wait;
+use std::thread::Threads;
+use std::time::Clock;
 
-/// The numbers of the command line; four threads and 25,000 requests where there are none.
-fn plan(rt: &HostRuntime) -> io::Result<Plan> {
-    let mut words = env::args(rt)?.skip(1);
-    let mut number = |default: u32| -> u32 {
-        match words.next() {
-            Some(word) => word.as_str().parse().unwrap_or(default),
-            None => default,
-        }
-    };
-    let (threads, times) = (number(4), number(25_000));
-    Ok(Plan { threads, times })
+/// The plan of the small form.
+const SMALL: Plan = Plan {
+    threads: 4,
+    times: 10,
+};
+
+/// The number of the word at that place, or the default if there is none or it is no number.
+fn number(words: &[String], place: usize, default: u32) -> u32 {
+    match words.get(place) {
+        Some(word) => word.as_str().parse().unwrap_or(default),
+        None => default,
+    }
 }
 
-/// Asks as the command line says.
-fn main(rt: HostRuntime) -> io::Result<()> {
-    let alloc = rt.alloc();
-    let still = env::args(&rt)?.count() > 3;
-    let plan = plan(&rt)?;
-    let core = new_desk(alloc)?;
-    let Some(asked) = ask_in_threads(&rt, alloc, core, plan)? else {
-        println!(rt; "not all were asked")?;
-        return Ok(());
+/// Asks as planned, and prints how many calls the desk answered.
+fn ask<R: Threads + Wait + Clock + Sync>(
+    rt: &HostRuntime,
+    threads: &R,
+    plan: Plan,
+    still: bool,
+) -> Result<()> {
+    let core = new_desk(rt.alloc())?;
+    let Some(asked) = ask_in_threads(threads, rt.alloc(), core, plan)? else {
+        return Ok(println!(rt; "not all were asked")?);
     };
     let calls = asked.calls;
     if still {
-        println!(rt; "{calls} calls")?;
+        Ok(println!(rt; "{calls} calls")?)
     } else {
-        println!(rt; "{calls} calls, {} a second", asked.rate())?;
+        Ok(println!(rt; "{calls} calls, {} a second", asked.rate())?)
     }
-    Ok(())
+}
+
+/// Asks as the words say; without words four threads ask 25,000 times each.
+pub fn run<R: Threads + Wait + Clock + Sync>(
+    rt: &HostRuntime,
+    threads: &R,
+    words: &[String],
+) -> Result<()> {
+    let plan = Plan {
+        threads: number(words, 0, 4),
+        times: number(words, 1, 25_000),
+    };
+    ask(rt, threads, plan, false)
+}
+
+/// Asks as the plan of the small form says, and prints no times.
+pub fn run_still<R: Threads + Wait + Clock + Sync>(rt: &HostRuntime, threads: &R) -> Result<()> {
+    ask(rt, threads, SMALL, true)
 }

@@ -1,31 +1,33 @@
-//! Reads rectangles of two layers and checks, and tells how many pieces each check finds and how long it took.
+//! Takes rectangles of two layers and checks, and prints how many pieces each check finds and how long it took.
 //!
 //! A line is a rectangle of the first layer, `a X0 Y0 X1 Y1`, or of the second, `b X0 Y0 X1 Y1`, or a check with
-//! its distance, as `width 56`. With the word `still` on the command line no times are told.
-#![tactic(auto)]
+//! its distance, as `width 56`.
 
 mod shapes;
 
-use shapes::Shapes;
+use crate::checks::shapes::Shapes;
+use anyhow::Result;
 use std::time::Instant;
-use std::{env, io};
 
-fn main(rt: HostRuntime) -> io::Result<()> {
-    let alloc = rt.alloc();
-    let still = env::args(&rt)?.count() > 1;
-    let mut shapes = Shapes::new(alloc);
-    for line in rt.lines(alloc) {
-        let line = line?;
-        let start = Instant::now(&rt)?;
-        let Some(pieces) = shapes.answer(alloc, line.as_str())? else {
-            continue;
-        };
-        let taken = start.elapsed(&rt)?.as_millis();
-        if still {
-            println!(rt; "{line}: {pieces} pieces")?;
-        } else {
-            println!(rt; "{line}: {pieces} pieces, {taken} ms")?;
-        }
+/// Takes a line; prints what it finds if it is a check.
+fn answer(rt: &HostRuntime, shapes: &mut Shapes, line: &str, still: bool) -> Result<()> {
+    let start = Instant::now(rt)?;
+    let Some(pieces) = shapes.answer(rt.alloc(), line)? else {
+        return Ok(());
+    };
+    let taken = start.elapsed(rt)?.as_millis();
+    if still {
+        Ok(println!(rt; "{line}: {pieces} pieces")?)
+    } else {
+        Ok(println!(rt; "{line}: {pieces} pieces, {taken} ms")?)
+    }
+}
+
+/// Takes the lines of the text in turn.
+pub fn run(rt: &HostRuntime, text: &str, still: bool) -> Result<()> {
+    let mut shapes = Shapes::new(rt.alloc());
+    for line in text.lines() {
+        answer(rt, &mut shapes, line, still)?;
     }
     Ok(())
 }

@@ -1,24 +1,26 @@
-//! Tells what a check by columns takes, in milliseconds, and how many markers each rule has.
+//! Prints what a check by columns takes, in milliseconds, and how many markers each rule has.
 //!
-//! `bench_columns FILE MOST` reads the library of the file, places its structure `TOP` where it was drawn, and checks it by columns that
-//! show at most so many shapes each: with the rules of `bench_job`, and beside it. `bench_columns FILE tiles SIDE` checks it by tiles of that side, as a
-//! whole. Without words it takes a small library of its own and tells no times.
-#![tactic(auto)]
+//! `FILE MOST` reads the library of the file, places its structure `TOP` where it was drawn, and checks it by columns of at most
+//! MOST flat shapes each, with the rules of `layout`. `FILE tiles SIDE` checks it by tiles of that side, as a whole.
 
-mod layout;
-
+use crate::layout::{SAMPLE, SAMPLE_SIDE, snapshot};
+use crate::rules::print_rules;
 use anyhow::{Context, Result, bail};
-use layout::{SAMPLE, snapshot};
+use gate_samples::text_of_library;
 use mpw_check::{Silent, check_tiles, tile_count};
 use mpw_columns::check_columns;
-use mpw_deck::Rules;
-use mpw_markers::{Book, Marker, stitch};
-use gate_samples::text_of_library;
+use mpw_markers::{Book, stitch};
 use mpw_tiles::Snapshot;
 use std::alloc::Global;
+use std::fs;
 use std::thread::Threads;
 use std::time::{Clock, Instant};
-use std::{env, fs};
+
+/// The greatest side of a tile, in nm.
+const WHOLE: &str = "1073741824";
+
+/// The greatest number of shapes of a column of the sample.
+const SAMPLE_MOST: &str = "4";
 
 /// The book of the snapshot by columns.
 fn by_columns(
@@ -40,24 +42,8 @@ fn by_tiles(rt: &(impl Threads + Sync), alloc: Global, snapshot: &Snapshot) -> R
     Ok(stitch(alloc, &lists)?)
 }
 
-/// How many markers the rule at that place has.
-fn of_rule(markers: &[Marker], place: usize) -> usize {
-    markers
-        .iter()
-        .filter(|marker| marker.rule as usize == place)
-        .count()
-}
-
-/// Prints how many markers each rule has.
-fn print_rules(rt: &impl Print, rules: &Rules, markers: &[Marker]) -> Result<()> {
-    for (place, rule) in rules.as_slice().iter().enumerate() {
-        println!(rt; "  {}: {}", rule.name.as_str(), of_rule(markers, place))?;
-    }
-    Ok(())
-}
-
-/// Checks the library, and prints what was found; the time too, where it is told.
-fn run(
+/// Checks the library, and prints what was found.
+fn check(
     rt: &(impl Print + AllocGlobal + Clock + Threads + Sync),
     text: &[u8],
     way: &str,
@@ -80,20 +66,23 @@ fn run(
     print_rules(rt, snapshot.deck().rules(), book.as_slice())
 }
 
-fn main(rt: HostRuntime) -> Result<()> {
-    let words: Vec<String> = env::args(&rt)?.collect(rt.alloc())?;
-    match words.as_slice() {
-        [_, path, way] => {
-            let text = fs::read(&rt, path.as_str())?;
-            run(&rt, &text, way.as_str(), "1073741824", false)
-        }
-        [_, path, way, side] => {
-            let text = fs::read(&rt, path.as_str())?;
-            run(&rt, &text, way.as_str(), side.as_str(), false)
-        }
-        _ => {
-            let text = text_of_library(rt.alloc(), SAMPLE)?;
-            run(&rt, &text, "4", "1320", true)
-        }
-    }
+/// Checks the library of a file as the words say.
+pub fn run(
+    rt: &HostRuntime,
+    threads: &(impl Print + AllocGlobal + Clock + Threads + Sync),
+    words: &[String],
+) -> Result<()> {
+    let (path, way, side) = match words {
+        [path, way] => (path, way, WHOLE),
+        [path, way, side] => (path, way, side.as_str()),
+        _ => bail!("FILE MOST, or FILE tiles SIDE"),
+    };
+    let text = fs::read(rt, path.as_str())?;
+    check(threads, &text, way.as_str(), side, false)
+}
+
+/// Checks the sample, and prints no times.
+pub fn run_still(rt: &(impl Print + AllocGlobal + Clock + Threads + Sync)) -> Result<()> {
+    let text = text_of_library(rt.alloc(), SAMPLE)?;
+    check(rt, &text, SAMPLE_MOST, SAMPLE_SIDE, true)
 }

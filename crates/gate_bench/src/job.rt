@@ -1,38 +1,37 @@
-//! Tells what a whole run takes: the cut, the jobs of all tiles on one thread and on at most two for each
+//! Prints what the parts of a run take: the cut, the jobs of all tiles on one thread and on at most two for each
 //! processor, and the stitching, each with its milliseconds, and how many markers each rule has.
 //!
-//! `bench_job FILE SIDE [THREADS]` reads the library of the file, places its structure `TOP` where it was drawn, and checks
-//! it by tiles of that side: layer 1/0 for width 56 and space 51, and layers 1/0 and 2/0 for separation 9 and enclosing 10.
-//! The jobs are done on one thread and then again on all; with the word `one` or `all` once, so that neither finds the
-//! memory that the other touched. Without words it takes a small library of its own and tells no times.
-#![tactic(auto)]
+//! `FILE SIDE [THREADS]` reads the library of the file, places its structure `TOP` where it was drawn, and checks it by tiles of
+//! that side with the rules of `layout`. The jobs are executed on one thread and then again on all. With the word `one` or `all` they
+//! are executed once, so that neither finds the memory that the other touched.
 
-mod layout;
 mod parts;
-mod told;
+mod timed;
 
-use anyhow::Result;
-use layout::{SAMPLE, SAMPLE_SIDE, snapshot};
+use crate::layout::{SAMPLE, SAMPLE_SIDE, snapshot};
+use crate::rules::print_rules;
+use anyhow::{Result, bail};
 use gate_samples::text_of_library;
 use mpw_tiles::Snapshot;
+use std::fs;
 use std::thread::Threads;
 use std::time::{Clock, Instant};
-use std::{env, fs};
 
-/// Runs the snapshot, and tells each part.
-fn run(
+/// Runs the snapshot, and prints each part.
+fn run_snapshot(
     rt: &(impl Print + AllocGlobal + Clock + Threads + Sync),
     snapshot: &Snapshot,
     threads: &str,
     still: bool,
 ) -> Result<()> {
-    let cut = told::cut(rt, snapshot, still)?;
+    let cut = timed::cut(rt, snapshot, still)?;
     let jobs = parts::jobs(rt.alloc(), snapshot, cut.windows())?;
-    let answers = told::done(rt, &jobs, threads, still)?;
-    let book = told::stitched(rt, &answers, still)?;
-    told::by_rule(rt, snapshot.deck().rules(), book.as_slice())
+    let answers = timed::done(rt, &jobs, threads, still)?;
+    let book = timed::stitched(rt, &answers, still)?;
+    print_rules(rt, snapshot.deck().rules(), book.as_slice())
 }
 
+/// Reads a library and runs it, and prints each part.
 fn run_text(
     rt: &(impl Print + AllocGlobal + Clock + Threads + Sync),
     text: &[u8],
@@ -42,20 +41,27 @@ fn run_text(
 ) -> Result<()> {
     let start = Instant::now(rt)?;
     let snapshot = snapshot(rt.alloc(), text, side)?;
-    told::part(rt, "read", &start, still)?;
-    run(rt, &snapshot, threads, still)
+    timed::part(rt, "read", &start, still)?;
+    run_snapshot(rt, &snapshot, threads, still)
 }
 
-fn main(rt: HostRuntime) -> Result<()> {
-    let words: Vec<String> = env::args(&rt)?.collect(rt.alloc())?;
-    let (path, side, threads) = match words.as_slice() {
-        [_, path, side] => (path, side, ""),
-        [_, path, side, threads] => (path, side, threads.as_str()),
-        _ => {
-            let text = text_of_library(rt.alloc(), SAMPLE)?;
-            return run_text(&rt, &text, SAMPLE_SIDE, "", true);
-        }
+/// Runs the library of a file as the words say.
+pub fn run(
+    rt: &HostRuntime,
+    threads: &(impl Print + AllocGlobal + Clock + Threads + Sync),
+    words: &[String],
+) -> Result<()> {
+    let (path, side, on) = match words {
+        [path, side] => (path, side, ""),
+        [path, side, on] => (path, side, on.as_str()),
+        _ => bail!("FILE SIDE [THREADS]"),
     };
-    let text = fs::read(&rt, path.as_str())?;
-    run_text(&rt, &text, side.as_str(), threads, false)
+    let text = fs::read(rt, path.as_str())?;
+    run_text(threads, &text, side.as_str(), on, false)
+}
+
+/// Runs the sample, and prints no times.
+pub fn run_still(rt: &(impl Print + AllocGlobal + Clock + Threads + Sync)) -> Result<()> {
+    let text = text_of_library(rt.alloc(), SAMPLE)?;
+    run_text(rt, &text, SAMPLE_SIDE, "", true)
 }

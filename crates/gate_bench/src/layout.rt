@@ -1,15 +1,17 @@
-//! The snapshot of a library.
+//! The snapshot of a library: its structure `TOP` where it was drawn, and four rules on it.
+//!
+//! Layer 1/0 has width 56 and space 51; layers 1/0 and 2/0 have separation 9 and enclosing 10.
 
 use anyhow::{Result, bail};
+use gate_plain::submit_text;
 use mpw_deck::{Deck, read_deck};
 use mpw_geom::{Orient, Placing, Point};
 use mpw_hier::Shelf;
-use gate_plain::submit_text;
 use mpw_tiles::{Snapshot, are_roots};
 use mpw_walk::Root;
 use std::alloc::Global;
 
-/// Cells in an array of 8 by 8, 300 nm apart. `bench/README.md` counts what its run lists and finds.
+/// Cells in an array of 8 by 8, 300 nm apart. `bench/README.md` counts its rectangles and markers.
 pub const SAMPLE: &str =
     "TOP: a E 8 8 0 0 2400 0 0 2400; E: b 1/0 0 0 100 250; b 1/0 0 100 250 150; b 1/0 200 0 250 90; b 2/0 5 20 45 60; b 2/0 105 20 125 40";
 

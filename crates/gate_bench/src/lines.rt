@@ -1,21 +1,18 @@
-//! Serves connections one after the other over one desk, and tells how many lines a second each was answered.
+//! Serves connections one after the other over one desk, and prints how many lines a second the desk answered on each.
 //!
-//! The standard input has the connections' lines; a line `-- NAME` begins a connection. The officer is `root`, whose token is
-//! `abc`. With the word `still` on the command line no times are told, only how many lines were accepted.
-#![tactic(auto)]
+//! The text has the connections' lines; a line `-- NAME` begins a connection. The officer is `root`, whose token is `abc`.
 
-mod desk;
 mod part;
 
-use desk::new_desk;
+use crate::desk::new_desk;
+use crate::lines::part::{Part, accepted};
+use anyhow::Result;
 use mpw_core::Core;
 use mpw_events::NoKeeper;
 use mpw_serve::{Executor, OwnDesk, Silent, serve_core};
 use mpw_wire::Counted;
-use part::{Part, accepted};
 use std::thread::Threads;
 use std::time::Instant;
-use std::{env, io};
 
 /// So many lines a second.
 fn rate(lines: usize, nanoseconds: u128) -> u128 {
@@ -25,14 +22,14 @@ fn rate(lines: usize, nanoseconds: u128) -> u128 {
     (lines as u128).saturating_mul(1_000_000_000) / nanoseconds
 }
 
-/// Serves a connection, tells what came of it, and gives the desk back.
+/// Serves a connection, prints how many of its lines were accepted, and returns the desk.
 fn serve(
     rt: &HostRuntime,
     threads: &(impl Threads + Sync),
     core: Box<Core>,
     part: &Part,
     still: bool,
-) -> io::Result<Box<Core>> {
+) -> Result<Box<Core>> {
     let alloc = rt.alloc();
     let mut replies: Vec<u8> = Vec::new(alloc);
     let mut input = Counted::new(part.text.as_bytes());
@@ -62,21 +59,24 @@ fn serve(
     Ok(core)
 }
 
-/// Serves the connections of the standard input.
-fn main(rt: HostRuntime) -> io::Result<()> {
+/// Serves the connections of the text.
+pub fn run(
+    rt: &HostRuntime,
+    threads: &(impl Threads + Sync),
+    text: &str,
+    still: bool,
+) -> Result<()> {
     let alloc = rt.alloc();
-    let still = env::args(&rt)?.count() > 1;
     let mut core = new_desk(alloc)?;
     let mut part = Part::new(alloc, 1, "")?;
-    for line in rt.lines(alloc) {
-        let line = line?;
+    for line in text.lines() {
         if !line.starts_with("-- ") {
-            part.push(line.as_str())?;
+            part.push(line)?;
             continue;
         }
-        core = serve(&rt, &rt, core, &part, still)?;
-        part = Part::new(alloc, part.connection.saturating_add(1), line.as_str())?;
+        core = serve(rt, threads, core, &part, still)?;
+        part = Part::new(alloc, part.connection.saturating_add(1), line)?;
     }
-    serve(&rt, &rt, core, &part, still)?;
+    serve(rt, threads, core, &part, still)?;
     Ok(())
 }

@@ -1,24 +1,23 @@
-//! Tells how many calls a second the policy answers, for policies of several sizes.
+//! Prints how many calls a second the policy answers, for policies of several sizes.
 //!
-//! With the word `still` on the command line no times are told, only what is permitted.
-#![tactic(auto)]
+//! Without times it prints what is permitted and accepted, for two smaller sizes.
 
 mod calls;
 mod changes;
 mod desk;
 
-use changes::Change;
-use desk::{name, new_desk};
+use crate::policy::changes::Change;
+use crate::policy::desk::{name, new_desk};
+use anyhow::Result;
 use mpw_permissions::Object;
 use mpw_rbac::Policy;
 use std::alloc::{AllocError, Global};
 use std::time::Instant;
-use std::{env, io};
 
 /// How many permissions are asked for.
 const CALLS: u32 = 1_000_000;
 
-/// How often a session is told of itself, and a role made active and dropped.
+/// How often a session asks `whoami`, and how often a role is made active and dropped.
 const TURNS: u32 = 1_000;
 
 /// How often a change is made.
@@ -60,72 +59,67 @@ fn rate(calls: u32, nanoseconds: u128) -> u128 {
 /// and the one at the top.
 type Size = (u32, u32, u32);
 
-/// Tells how many permissions a second are answered.
-fn time_permits(
-    rt: &HostRuntime,
-    policy: &Policy,
-    cells: &[Object],
-    still: bool,
-) -> io::Result<()> {
+/// Prints how many permissions a second are answered.
+fn time_permits(rt: &HostRuntime, policy: &Policy, cells: &[Object], still: bool) -> Result<()> {
     let start = Instant::now(rt)?;
     let permitted = calls::permitted(policy, cells, CALLS);
     let taken = start.elapsed(rt)?.as_nanos();
     if still {
-        return println!(rt; "  {permitted} of {CALLS} permitted");
+        return Ok(println!(rt; "  {permitted} of {CALLS} permitted")?);
     }
-    println!(rt;
+    Ok(println!(rt;
         "  permits {} a second, {permitted} of {CALLS} permitted",
         rate(CALLS, taken)
-    )
+    )?)
 }
 
-/// Tells how many lists of objects a second are looked through with one access.
-fn time_access(rt: &HostRuntime, policy: &Policy, cells: &[Object], still: bool) -> io::Result<()> {
+/// Prints how many lists of objects a second are looked through with one access.
+fn time_access(rt: &HostRuntime, policy: &Policy, cells: &[Object], still: bool) -> Result<()> {
     let start = Instant::now(rt)?;
     let permitted = calls::accessible(policy, cells, CALLS);
     let taken = start.elapsed(rt)?.as_nanos();
     if still {
-        return println!(rt; "  {permitted} of {CALLS} accessible");
+        return Ok(println!(rt; "  {permitted} of {CALLS} accessible")?);
     }
-    println!(rt; "  access.permits {} a second", rate(CALLS, taken))
+    Ok(println!(rt; "  access.permits {} a second", rate(CALLS, taken))?)
 }
 
-/// Tells how many requests of sessions a second are answered.
-fn time_sessions(rt: &HostRuntime, policy: &mut Policy, still: bool) -> io::Result<()> {
+/// Prints how many requests of sessions a second are answered.
+fn time_sessions(rt: &HostRuntime, policy: &mut Policy, still: bool) -> Result<()> {
     let role = name(rt.alloc(), "r1")?;
     let start = Instant::now(rt)?;
-    let told = calls::told(policy, TURNS);
+    let told = calls::known(policy, TURNS);
     let whoami = start.elapsed(rt)?.as_nanos();
     let start = Instant::now(rt)?;
     let activated = calls::activated(policy, &role, TURNS);
     let active = start.elapsed(rt)?.as_nanos();
     if still {
-        return println!(rt; "  {told} told, {activated} activated");
+        return Ok(println!(rt; "  {told} told, {activated} activated")?);
     }
-    println!(rt;
+    Ok(println!(rt;
         "  whoami {} a second, activate and drop {} a second",
         rate(TURNS, whoami),
         rate(TURNS, active)
-    )
+    )?)
 }
 
-/// Tells how many changes of a kind a second are made, each in a copy of the policy.
-fn time_change(rt: &HostRuntime, policy: &Policy, kind: Change, still: bool) -> io::Result<()> {
+/// Prints how many changes of a kind a second are made, each in a copy of the policy.
+fn time_change(rt: &HostRuntime, policy: &Policy, kind: Change, still: bool) -> Result<()> {
     let text = kind.text();
     let start = Instant::now(rt)?;
     let accepted = changes::changed(rt.alloc(), policy, kind, CHANGES)?;
     let taken = start.elapsed(rt)?.as_nanos();
     if still {
-        return println!(rt; "  {text}: {accepted} of {CHANGES} accepted");
+        return Ok(println!(rt; "  {text}: {accepted} of {CHANGES} accepted")?);
     }
-    println!(rt;
+    Ok(println!(rt;
         "  copy and {text} {} a second, {accepted} of {CHANGES} accepted",
         rate(CHANGES, taken)
-    )
+    )?)
 }
 
-/// Tells how many changes of each kind a second are made.
-fn time_changes(rt: &HostRuntime, policy: &Policy, still: bool) -> io::Result<()> {
+/// Prints how many changes of each kind a second are made.
+fn time_changes(rt: &HostRuntime, policy: &Policy, still: bool) -> Result<()> {
     for kind in KINDS {
         time_change(rt, policy, kind, still)?;
     }
@@ -133,12 +127,7 @@ fn time_changes(rt: &HostRuntime, policy: &Policy, still: bool) -> io::Result<()
 }
 
 /// Times the calls of a policy.
-fn time_calls(
-    rt: &HostRuntime,
-    policy: &mut Policy,
-    cells: &[Object],
-    still: bool,
-) -> io::Result<()> {
+fn time_calls(rt: &HostRuntime, policy: &mut Policy, cells: &[Object], still: bool) -> Result<()> {
     time_permits(rt, policy, cells, still)?;
     time_access(rt, policy, cells, still)?;
     time_sessions(rt, policy, still)?;
@@ -146,7 +135,7 @@ fn time_calls(
 }
 
 /// Fills a policy, and times its calls.
-fn time(rt: &HostRuntime, policy: &mut Policy, size: Size, still: bool) -> io::Result<()> {
+fn time(rt: &HostRuntime, policy: &mut Policy, size: Size, still: bool) -> Result<()> {
     let (roles, grants, users) = size;
     let filled = desk::fill(rt.alloc(), policy, roles, grants, users)?;
     println!(rt; "{roles} roles, {grants} grants, {users} users more: {filled} refused")?;
@@ -155,12 +144,12 @@ fn time(rt: &HostRuntime, policy: &mut Policy, size: Size, still: bool) -> io::R
 }
 
 /// Times a policy of a size.
-fn show(rt: &HostRuntime, size: Size, still: bool) -> io::Result<()> {
+fn show(rt: &HostRuntime, size: Size, still: bool) -> Result<()> {
     let mut policy = new_desk(rt.alloc())?;
     time(rt, &mut policy, size, still)
 }
 
-/// The sizes of the policies. One more role, grant and user fit, but the role where there are 512.
+/// The sizes of the policies. One more role, grant and user fit, but the role if there are 512.
 const SIZES: [Size; 7] = [
     (10, 10, 0),
     (10, 4094, 0),
@@ -171,18 +160,18 @@ const SIZES: [Size; 7] = [
     (511, 4094, 509),
 ];
 
-/// The sizes where no times are told.
+/// The sizes if no times are printed.
 const STILL_SIZES: [Size; 2] = [(10, 10, 10), (100, 100, 0)];
 
-fn main(rt: HostRuntime) -> io::Result<()> {
-    let still = env::args(&rt)?.count() > 1;
+/// Times the policies of all sizes.
+pub fn run(rt: &HostRuntime, still: bool) -> Result<()> {
     let sizes = if still {
         STILL_SIZES.as_slice()
     } else {
         SIZES.as_slice()
     };
     for size in sizes {
-        show(&rt, *size, still)?;
+        show(rt, *size, still)?;
     }
     Ok(())
 }

@@ -1,14 +1,12 @@
-//! Reads many texts off the standard input, and tells in a line what reading each gives: for `bench/fuzz.py`, which compares that with
-//! the model.
+//! Reads many texts, and prints in a line what reading each gives: for `bench/fuzz.py`, which compares that with the model.
 //!
-//! Each text stands behind a line that says what it is, and how many bytes it has:
+//! A line before each text says what it is, and how many bytes it has:
 //! - `library N END ..` is read whole, and then each of its fronts that ends before byte END;
 //! - `deck N` is read as a deck;
 //! - `request N` is read as the input of a connection, of which one line with its payload is taken.
 //!
-//! Of a library or a deck that is read the numbers of its parts are told, and the sum of all that it says, in order
-//! (`src/sum.rt`); of a request its stored line; and else the first fault with its place.
-#![tactic(auto)]
+//! Of a library or a deck it prints the numbers of its parts, and the sum of all that it says, in order (`sum.rt`). Of a request it
+//! prints the stored line. If the text can't be read, it prints the first fault with its place.
 
 mod decks;
 mod input;
@@ -16,10 +14,9 @@ mod libraries;
 mod requests;
 mod sum;
 
+use crate::texts::input::Input;
 use anyhow::{Context, Result, bail};
-use input::Input;
 use mpw_text::{parts, read_count};
-use std::io::Read;
 
 /// The greatest number of bytes that a line may say.
 const MOST_BYTES: usize = 1 << 32;
@@ -29,7 +26,7 @@ fn count(word: &[u8]) -> Result<usize> {
     Ok(read_count(word, 0, MOST_BYTES).context("a number of bytes")?)
 }
 
-/// Answers a line with the bytes behind it.
+/// Reads the text after a line, and prints what that gives.
 fn answer(rt: &(impl Print + AllocGlobal), line: &[u8], input: &mut Input<'_>) -> Result<()> {
     let words = parts(rt.alloc(), line, b' ')?;
     let [kind, length, ends @ ..] = words.as_slice() else {
@@ -38,27 +35,26 @@ fn answer(rt: &(impl Print + AllocGlobal), line: &[u8], input: &mut Input<'_>) -
     let bytes = input.take(count(length)?).context("as many bytes")?;
     match str::from_utf8(kind) {
         Ok("library") => {
-            libraries::tell(rt, bytes)?;
+            libraries::report(rt, bytes)?;
             for end in ends {
-                libraries::tell_front(rt, bytes.get(..count(end)?).context("a front")?)?;
+                libraries::report_front(rt, bytes.get(..count(end)?).context("a front")?)?;
             }
             Ok(())
         }
-        Ok("deck") => decks::tell(rt, bytes),
-        Ok("request") => requests::tell(rt, bytes),
+        Ok("deck") => decks::report(rt, bytes),
+        Ok("request") => requests::report(rt, bytes),
         _ => bail!("a kind of text"),
     }
 }
 
-fn main(rt: HostRuntime) -> Result<()> {
-    let mut bytes = Vec::new(rt.alloc());
-    rt.stdin().read_to_end(&mut bytes)?;
-    let mut input = Input::new(&bytes);
+/// Reads the texts of the bytes in turn.
+pub fn run(rt: &(impl Print + AllocGlobal), bytes: &[u8]) -> Result<()> {
+    let mut input = Input::new(bytes);
     for _ in 0..u64::MAX {
         let Some(line) = input.line() else {
             break;
         };
-        answer(&rt, line, &mut input)?;
+        answer(rt, line, &mut input)?;
     }
     Ok(())
 }

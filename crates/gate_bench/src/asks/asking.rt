@@ -46,7 +46,7 @@ fn opening(alloc: Global) -> Result<SharedRequest, AllocError> {
     SharedRequest::new(alloc, Request::Policy(PolicyRequest::Open { user, digest }))
 }
 
-/// Opens a session, asks so often, and hands in the end.
+/// Opens a session, asks so often, and ends the connection.
 fn ask_so_often<N: Room, R: Wait>(
     rt: &R,
     alloc: Global,
@@ -62,7 +62,7 @@ fn ask_so_often<N: Room, R: Wait>(
     Ok(())
 }
 
-/// What a thread does; its pass is given back, where there was memory for all that it asked.
+/// What a thread does; it returns its pass unless it ran out of memory.
 fn ask<N: Room, R: Wait>(
     rt: &R,
     alloc: Global,
@@ -76,7 +76,7 @@ fn ask<N: Room, R: Wait>(
     }
 }
 
-/// Asks in threads, and gives the passes of those that asked all.
+/// Asks in threads, and returns the passes of those that asked all.
 fn ask_all<N: Room + Send + Sync, R: Threads + Wait + Sync>(
     rt: &R,
     alloc: Global,
@@ -105,7 +105,7 @@ fn ask_all<N: Room + Send + Sync, R: Threads + Wait + Sync>(
     })
 }
 
-/// Asks a desk under its name; none where the passes that came back didn't make all its calls.
+/// Asks a desk under its name; none if the passes that came back didn't make all its calls.
 fn ask_named<N: Room + Send + Sync, R: Threads + Wait + Clock + Sync>(
     rt: &R,
     alloc: Global,
@@ -135,7 +135,7 @@ fn ask_named<N: Room + Send + Sync, R: Threads + Wait + Clock + Sync>(
     }
 }
 
-/// Asks a new desk in threads; none where not all was asked, or the clock can't be read.
+/// Asks a new desk in threads; none if not all was asked, or the clock can't be read.
 pub fn ask_in_threads<R: Threads + Wait + Clock + Sync>(
     rt: &R,
     alloc: Global,

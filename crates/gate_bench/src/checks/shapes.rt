@@ -1,8 +1,8 @@
 //! The rectangles of two layers, and what a check finds among them.
 
+use gate_words::{check_of, coordinate_or_zero};
 use mpw_deck::{Check, Rule};
 use mpw_geom::{Box2, Layer, Name};
-use gate_words::{check_of, coordinate_or_zero};
 use std::alloc::{AllocError, Global};
 
 const FIRST: Layer = Layer {
@@ -50,7 +50,7 @@ impl Shapes {
         }
     }
 
-    /// Takes a rectangle, or tells how many pieces a check finds.
+    /// Takes a rectangle, or returns how many pieces a check finds.
     pub fn answer(&mut self, alloc: Global, line: &str) -> Result<Option<usize>, AllocError> {
         let mut words = line.split(' ');
         let verb = words.next().unwrap_or("");

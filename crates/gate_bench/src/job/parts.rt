@@ -2,7 +2,7 @@
 
 use anyhow::{Context, Result, bail};
 use mpw_job::{Answer, CutAnswer, CutJob, Job, tile_job};
-use mpw_markers::{Book, Marker, TileMarkers, stitch};
+use mpw_markers::{Book, TileMarkers, stitch};
 use mpw_tiles::{Snapshot, Windows};
 use mpw_work::do_job;
 use std::alloc::Global;
@@ -33,7 +33,7 @@ pub fn jobs(alloc: Global, snapshot: &Snapshot, windows: &Windows) -> Result<Vec
     Ok(jobs)
 }
 
-/// Does the jobs one after another on this thread.
+/// Executes the jobs one after another on this thread.
 pub fn done_in_turn(alloc: Global, jobs: &[Job]) -> Result<Vec<Answer>> {
     let mut answers = Vec::new(alloc);
     for job in jobs {
@@ -74,17 +74,6 @@ pub fn listed(windows: &Windows) -> usize {
     let mut count = 0usize;
     for window in windows.as_slice() {
         count = count.saturating_add(window.as_slice().len());
-    }
-    count
-}
-
-/// How many of the markers are of the rule with that place in its deck.
-pub fn of_rule(markers: &[Marker], rule: usize) -> usize {
-    let mut count = 0usize;
-    for marker in markers {
-        if marker.rule as usize == rule {
-            count = count.saturating_add(1);
-        }
     }
     count
 }

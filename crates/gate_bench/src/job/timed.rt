@@ -1,16 +1,15 @@
-//! The parts of a run, each told with the time that it took where times are told.
+//! The parts of a run, each printed with the time that it took unless no times are printed.
 
-use crate::parts;
+use crate::job::parts;
 use anyhow::Result;
-use mpw_deck::Rules;
 use mpw_job::{Answer, CutAnswer, Job};
-use mpw_markers::{Book, Marker};
+use mpw_markers::Book;
 use mpw_tiles::Snapshot;
 use mpw_work::work_all;
 use std::thread::Threads;
 use std::time::{Clock, Instant};
 
-/// Prints what was done, and the milliseconds since then where times are told.
+/// Prints what was executed, and the milliseconds since then unless no times are printed.
 pub fn part(rt: &(impl Print + Clock), what: &str, since: &Instant, still: bool) -> Result<()> {
     let taken = since.elapsed(rt)?.as_micros();
     if still {
@@ -35,7 +34,7 @@ pub fn cut(
     Ok(cut)
 }
 
-/// Does the jobs on this thread alone, and keeps their answers as the other threads would.
+/// Executes the jobs on this thread alone.
 pub fn done_in_turn(
     rt: &(impl Print + AllocGlobal + Clock),
     jobs: &[Job],
@@ -49,7 +48,7 @@ pub fn done_in_turn(
     Ok(answers)
 }
 
-/// Does the jobs in at most two threads for each processor.
+/// Executes the jobs in at most two threads for each processor.
 pub fn done_by_all(
     rt: &(impl Print + AllocGlobal + Clock + Threads + Sync),
     jobs: &[Job],
@@ -61,7 +60,7 @@ pub fn done_by_all(
     Ok(answers)
 }
 
-/// Does the jobs on one thread, on all, or on one and then again on all, as the word tells.
+/// Executes the jobs on one thread, on all, or on one and then again on all, as the word says.
 pub fn done(
     rt: &(impl Print + AllocGlobal + Clock + Threads + Sync),
     jobs: &[Job],
@@ -89,16 +88,4 @@ pub fn stitched(
     let what = format!(in rt.alloc(); "stitch: {} markers", book.len())?;
     part(rt, what.as_str(), &start, still)?;
     Ok(book)
-}
-
-/// Prints how many markers each rule has.
-pub fn by_rule(rt: &impl Print, rules: &Rules, markers: &[Marker]) -> Result<()> {
-    for (place, rule) in rules.as_slice().iter().enumerate() {
-        println!(rt;
-            "  {}: {}",
-            rule.name.as_str(),
-            parts::of_rule(markers, place)
-        )?;
-    }
-    Ok(())
 }

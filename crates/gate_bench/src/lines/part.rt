@@ -7,7 +7,7 @@ use std::alloc::{AllocError, Global};
 pub struct Part {
     /// The connection's number.
     pub connection: u32,
-    /// What it is called in the table of times.
+    /// Its name in the table of times.
     pub name: String,
     /// The lines, each with its line feed.
     pub text: String,

@@ -1,6 +1,6 @@
 //! The calls that are timed.
 
-use crate::desk::is_accepted;
+use crate::policy::desk::is_accepted;
 use mpw_geom::Name;
 use mpw_permissions::{Object, Operation};
 use mpw_rbac::{Identity, Policy, PolicyFault};
@@ -44,20 +44,20 @@ pub fn accessible(policy: &Policy, objects: &[Object], calls: u32) -> u32 {
     permitted
 }
 
-/// Whether `whoami` told something.
-fn is_told(identity: Result<Identity, PolicyFault>) -> bool {
+/// Whether `whoami` returned an identity.
+fn is_known(identity: Result<Identity, PolicyFault>) -> bool {
     identity.is_ok()
 }
 
-/// Asks `whoami` so often; how often it is told.
-pub fn told(policy: &Policy, calls: u32) -> u32 {
-    let mut told: u32 = 0;
+/// Asks `whoami` so often; how often it returned an identity.
+pub fn known(policy: &Policy, calls: u32) -> u32 {
+    let mut known: u32 = 0;
     for _ in 0..calls {
-        if is_told(policy.whoami(2)) {
-            told = told.saturating_add(1);
+        if is_known(policy.whoami(2)) {
+            known = known.saturating_add(1);
         }
     }
-    told
+    known
 }
 
 /// Makes a role active and drops it so often; how often both were accepted.

@@ -1,6 +1,6 @@
 //! The changes that are timed, each in a copy of the policy, as the desk makes it.
 
-use crate::desk::{DIGEST, grant_of, is_accepted, name, numbered};
+use crate::policy::desk::{DIGEST, grant_of, is_accepted, name, numbered};
 use mpw_rbac::Policy;
 use std::alloc::{AllocError, Global};
 
@@ -28,7 +28,7 @@ pub enum Change {
 }
 
 impl Change {
-    /// What it is called in the table of times.
+    /// Its name in the table of times.
     pub fn text(self) -> &'static str {
         match self {
             Change::Grant => "grant",

@@ -1,6 +1,6 @@
 //! What reading a deck gives.
 
-use crate::sum::Sum;
+use crate::texts::sum::Sum;
 use anyhow::{Result, bail};
 use mpw_deck::{Check, Deck, DeckError, DeckFault, DeckText, Rule};
 use mpw_geom::Layer;
@@ -29,7 +29,7 @@ fn add_rule(sum: &mut Sum, rule: &Rule) {
 }
 
 /// Prints the side of the tiles, the number of rules, and the sum.
-fn tell_deck(rt: &impl Print, deck: &Deck) -> Result<()> {
+fn report_deck(rt: &impl Print, deck: &Deck) -> Result<()> {
     let mut sum = Sum::new();
     let rules = deck.rules().as_slice();
     for rule in rules {
@@ -39,10 +39,10 @@ fn tell_deck(rt: &impl Print, deck: &Deck) -> Result<()> {
 }
 
 /// Reads a text as that of a request is read, and prints what that gives.
-pub fn tell(rt: &(impl Print + AllocGlobal), bytes: &[u8]) -> Result<()> {
+pub fn report(rt: &(impl Print + AllocGlobal), bytes: &[u8]) -> Result<()> {
     let text = DeckText::read(rt.alloc(), Vec::from_slice(rt.alloc(), bytes)?)?;
     match text.deck(rt.alloc()) {
-        Ok(deck) => tell_deck(rt, &deck),
+        Ok(deck) => report_deck(rt, &deck),
         Err(DeckError::Fault(DeckFault { kind, line })) => Ok(println!(rt; "{line}: {kind}")?),
         Err(DeckError::Memory) => bail!("out of memory"),
     }

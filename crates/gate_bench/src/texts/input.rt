@@ -12,7 +12,7 @@ impl<'a> Input<'a> {
         Input { rest }
     }
 
-    /// The next line, without its line feed; none where no line feed is left.
+    /// The next line, without its line feed; none if no line feed is left.
     pub fn line(&mut self) -> Option<&'a [u8]> {
         let end = self.rest.iter().position(|byte| *byte == b'\n')?;
         let (line, rest) = (&self.rest[..end], &self.rest[end + 1..]);
@@ -20,7 +20,7 @@ impl<'a> Input<'a> {
         Some(line)
     }
 
-    /// So many bytes; none where fewer are left.
+    /// So many bytes; none if fewer are left.
     pub fn take(&mut self, count: usize) -> Option<&'a [u8]> {
         let taken = self.rest.get(..count)?;
         self.rest = self.rest.get(count..)?;

@@ -1,6 +1,6 @@
 //! What reading a library gives.
 
-use crate::sum::Sum;
+use crate::texts::sum::Sum;
 use anyhow::{Result, bail};
 use mpw_elements::ReadError;
 use mpw_library::{LibraryText, read_library};
@@ -51,7 +51,7 @@ fn add_structure(sum: &mut Sum, found: &Structure) {
 }
 
 /// Prints the numbers of structures and of their elements, and the sum.
-fn tell_library(rt: &impl Print, found: &Library) -> Result<()> {
+fn report_library(rt: &impl Print, found: &Library) -> Result<()> {
     let (mut sum, mut elements) = (Sum::new(), 0usize);
     for structure in found.structures() {
         add_structure(&mut sum, structure);
@@ -62,21 +62,24 @@ fn tell_library(rt: &impl Print, found: &Library) -> Result<()> {
 }
 
 /// Prints what reading gave.
-fn tell_outcome(rt: &impl Print, outcome: &std::result::Result<Library, ReadError>) -> Result<()> {
+fn report_outcome(
+    rt: &impl Print,
+    outcome: &std::result::Result<Library, ReadError>,
+) -> Result<()> {
     match outcome {
-        Ok(library) => tell_library(rt, library),
+        Ok(library) => report_library(rt, library),
         Err(ReadError::Fault(ReadFault { code, offset })) => Ok(println!(rt; "{code} {offset}")?),
         Err(ReadError::Memory) => bail!("out of memory"),
     }
 }
 
 /// Reads a text as a submission's is read, and prints what that gives.
-pub fn tell(rt: &(impl Print + AllocGlobal), bytes: &[u8]) -> Result<()> {
+pub fn report(rt: &(impl Print + AllocGlobal), bytes: &[u8]) -> Result<()> {
     let text = LibraryText::read(rt.alloc(), Vec::from_slice(rt.alloc(), bytes)?)?;
-    tell_outcome(rt, &text.library(rt.alloc()))
+    report_outcome(rt, &text.library(rt.alloc()))
 }
 
 /// Reads the front of a text, and prints what that gives.
-pub fn tell_front(rt: &(impl Print + AllocGlobal), bytes: &[u8]) -> Result<()> {
-    tell_outcome(rt, &read_library(rt.alloc(), bytes))
+pub fn report_front(rt: &(impl Print + AllocGlobal), bytes: &[u8]) -> Result<()> {
+    report_outcome(rt, &read_library(rt.alloc(), bytes))
 }

@@ -1,13 +1,13 @@
 //! What reading a line with its payload gives.
 
 use anyhow::{Result, bail};
+use gate_events::Text;
 use mpw_requests::Request;
 use mpw_stored_text::{stored_line, stored_payload};
-use gate_events::Text;
 use mpw_wire::{Asked, WireFault, read_request};
 
 /// Prints how many bytes were taken, those of the payload, and the request's stored line.
-fn tell_request(rt: &(impl Print + AllocGlobal), request: &Request, taken: usize) -> Result<()> {
+fn report_request(rt: &(impl Print + AllocGlobal), request: &Request, taken: usize) -> Result<()> {
     let line = stored_line(rt.alloc(), request)?;
     match stored_payload(request) {
         Some(bytes) => Ok(println!(rt; "asked {taken} {} {line}", bytes.len())?),
@@ -16,7 +16,7 @@ fn tell_request(rt: &(impl Print + AllocGlobal), request: &Request, taken: usize
 }
 
 /// Takes a line and what is to follow it, and prints what it asks.
-pub fn tell(rt: &(impl Print + AllocGlobal), bytes: &[u8]) -> Result<()> {
+pub fn report(rt: &(impl Print + AllocGlobal), bytes: &[u8]) -> Result<()> {
     let mut source = Text {
         bytes,
         at: 0,
@@ -24,7 +24,7 @@ pub fn tell(rt: &(impl Print + AllocGlobal), bytes: &[u8]) -> Result<()> {
         failures: 0,
     };
     match read_request(rt.alloc(), &mut source) {
-        Ok(Asked::Request(request)) => tell_request(rt, request.get(), source.at),
+        Ok(Asked::Request(request)) => report_request(rt, request.get(), source.at),
         Ok(Asked::Form) => Ok(println!(rt; "form {}", source.at)?),
         Ok(Asked::Long) => Ok(println!(rt; "long")?),
         Ok(Asked::Cut) => Ok(println!(rt; "cut")?),

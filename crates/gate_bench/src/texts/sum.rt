@@ -3,7 +3,7 @@
 use mpw_geom::{Layer, Name, Point};
 use mpw_structures::Points;
 
-/// The sum so far: each number is added to 1,000,003 times what stood before it, modulo 2^64.
+/// The sum so far: each number is added to 1,000,003 times the sum before it, modulo 2^64.
 #[derive(Clone, Copy)]
 pub struct Sum {
     value: u64,

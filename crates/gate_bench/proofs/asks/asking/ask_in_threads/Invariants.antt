@@ -1,7 +1,7 @@
--- the new desk is named by what it is made of: its blank's ledger and register, and its core
+-- the name of the new desk is what it is made of: its blank's ledger and register, and its core
 use Rattle.std.specs.Prelude.{None}
 use Rattle.mpw_events.specs.History.{kept_desk}
-use Rattle.bench_asks.proofs.asking.ask_in_threads.Given as goal
+use Rattle.gate_bench.proofs.asks.asking.ask_in_threads.Given as goal
 
 abbrev pub ghosts-ask_named-N-Ledger : goal.ghosts-ask_named-N-Ledger
 ghosts-ask_named-N-Ledger g a = record { name = a.blank.name; parts = a.blank.parts }
