@@ -269,7 +269,7 @@ def notation(text):
 
 def secret_script(secret):
     """The stored script `secret-narrow` with another library in the secret cell's place, as its bytes."""
-    with open(os.path.join(store.TOP, "crates", "runs_scripts", "data", "secret-narrow.txt"), encoding="ascii") as file:
+    with open(os.path.join(store.TOP, "crates", "gate_desk", "data", "secret-narrow.txt"), encoding="ascii") as file:
         lines = file.read().splitlines()
     text, is_first = b"", True
     for line, following in zip(lines, lines[1:] + [""]):

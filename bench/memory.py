@@ -6,8 +6,8 @@
   memory.py store [SESSION ..] [--jobs J] [--step S]    each allocation of a session over a store, which is then opened again
   memory.py serve [SESSION ..] [--jobs J] [--step S]    each allocation of a service whose one connection is served a session
   memory.py check [--jobs J] [--step S]                 each allocation of `mpw check` of examples/, alone and with all that come after it
-  memory.py stored [--jobs J] [--step S]                each allocation of stored runs: answers to a run that come late, twice and by others (runs_desk), and a store in
-                                                        memory that is reopened (runs_store); such a program ends where memory is wanting
+  memory.py stored [--jobs J] [--step S]                each allocation of stored runs: answers to a run that come late, twice and by others (gate_desk/desk), and a store in
+                                                        memory that is reopened (gate_store/store); such a program ends where memory is wanting
 
 Sessions: first, firms, sight, duties, late. Behind each stand lines by which every user looks at all that there is. A line that is told `17 memory` is left out
 of what the model's desk is asked, so all other replies have to be those of a desk that never had it. A run for whose work memory was wanting
@@ -33,8 +33,9 @@ import store
 from store import Difference, model, request_of
 
 HERE, TOP = store.HERE, store.TOP
-sys.path.append(os.path.join(TOP, "examples"))
+sys.path += [os.path.join(TOP, "examples"), os.path.join(TOP, "scripts")]
 
+import golden  # noqa: E402
 import replies  # noqa: E402
 import wafer as model_wafer  # noqa: E402
 from make import box, library, placed, structure  # noqa: E402
@@ -492,14 +493,15 @@ def checks(pool, shim, _names, step):
 # Stored runs.
 
 CRATES = os.environ.get("MPW_CRATES", os.path.join(TOP, "crates"))
-# How many lines of the input are served.
-STORED = {"runs_desk": 132, "runs_store": 14}
+# How many lines of a table are served, and the program that serves it.
+STORED = {"desk": (132, "gate_desk"), "store": (14, "gate_store")}
 
 
 def stored_run(name, shim=None, first=0, count=1, report=None):
-    with open(os.path.join(TOP, "crates", name, "stdin"), "rb") as file:
-        text = b"".join(file.readlines()[:STORED[name]])
-    return subprocess.run([os.path.join(CRATES, name, "out", name)], input=text, capture_output=True, timeout=LIMIT, cwd=os.path.join(TOP, "crates", name, "data"),
+    lines, crate = STORED[name]
+    table = golden.table(crate, "stdin", name).encode().splitlines(keepends=True)
+    text = b"".join([f"== {name}\n".encode(), *table[:lines]])
+    return subprocess.run([os.path.join(CRATES, crate, "out", crate)], input=text, capture_output=True, timeout=LIMIT, cwd=os.path.join(TOP, "crates", crate, "data"),
                           env=environment(shim, first, count, report) if shim else None)
 
 

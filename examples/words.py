@@ -1,11 +1,13 @@
-"""What the commands tell of themselves: a line of a desk is found by its whole, by its number and by its word, no word is listed twice,
-and the help is told on the standard output.
+"""What the commands say of themselves: mpw help finds a reply by the whole line, by its number and by its word, it lists no word twice,
+and help goes to the standard output. A command line that is wrong and an output that takes nothing have their exit statuses.
 """
 import os
 import subprocess
 
 MPW = os.path.join(os.path.dirname(os.path.dirname(os.path.abspath(__file__))), "mpw")
-COMMANDS = ["mpw script", "mpw serve", "mpw check", "mpw stitch", "mpw trail", "mpw store", "mpw help"]
+COMMANDS = ["mpw script", "mpw serve", "mpw check", "mpw stitch", "mpw trail", "mpw store", "mpw help", "mpw build"]
+# Of the officer's token abc.
+DIGEST = "ba7816bf8f01cfea414140de5dae2223b00361a396177a9cb410ff61f20015ad"
 
 
 def run(*words):
@@ -34,7 +36,25 @@ def is_helped(*words, wanted):
     return [f"status {status}, lacking {lacking}, told {told!r}"] if status or lacking or told else []
 
 
+def is_refused(*words):
+    """A fault of the command line: status 2, a sentence, and no reply."""
+    status, printed, fault = run(*words)
+    return [] if (status, printed) == (2, "") and fault else [f"status {status}, printed {printed!r}, {fault!r}"]
+
+
+def ends_on_a_full_device():
+    """An output that takes nothing: status 3, and a sentence."""
+    words = [MPW, "script", "--officer", "root", "--digest", DIGEST]
+    with open("/dev/full", "wb") as full:
+        ended = subprocess.run(words, input=b"open root abc\n", stdout=full, stderr=subprocess.PIPE)
+    return [] if ended.returncode == 3 and ended.stderr else [f"status {ended.returncode}, {ended.stderr!r}"]
+
+
 CASES = {
+    "a digest of eight digits": lambda: is_refused("script", "--officer", "root", "--digest", "ba7816bf"),
+    "an option that no script has": lambda: is_refused("script", "--officer", "root", "--digest", DIGEST, "--tile", "1"),
+    "a device that is full": ends_on_a_full_device,
+
     "help of a line of the desk": is_found,
     "the words of help": is_listed_once,
     "help of all commands": lambda: is_helped("--help", wanted=COMMANDS),

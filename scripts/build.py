@@ -1,23 +1,27 @@
 #!/usr/bin/env python3
-"""Proves a program and the crates that it stands on, and builds it.
+"""Proves programs and the crates that they stand on, and builds the programs.
 
-  scripts/build.py PROGRAM
+  scripts/build.py PROGRAM..
+  scripts/build.py --times      prints the processor seconds that each crate took on this machine, for scripts/build_times.txt
 
 The toolchain's `rattle` proves each crate from nothing over the libraries that it built of the crates below, and builds none that
-isn't proved; the program is compiled by its own compiler, which takes a few seconds where clang takes fifty, for code that is as
-fast. What the gate tries besides, as wrong bodies and the layout of the texts, is left to the gate. A crate begins as soon
-as those below are proved, where there is memory for it, that with the longest chain of crates above it first, one more at a time than
-there are processors. It takes one process, since each further one reads and checks again what the others did, and more where
-processors would else be idle; the longer the chains of those beside it, the lower is its priority.
+isn't proved. Its own compiler makes the program: that takes a few seconds, clang takes fifty, and the code is as fast. The gate
+alone tries the mutants and checks the layout of the texts. A crate begins as soon as those below it are proved and there is memory
+for it, the one with the longest chain of crates above it first. One crate more than there are processors is checked at a time. A
+check takes one process, since each further one reads and checks again what the others did. It takes more if processors would be
+idle. The longer the chains of the crates that run beside it, the lower is its priority.
 
-A library stays in the folder out/rlib of its crate, with a sum of all that it was made of: so a build that was broken off goes on
-where it stood, and another program's proves only what it has not in common. The way is told on the standard error.
+A library stays in the folder out/rlib of its crate, with a sum of all that it was made of. So a build that was interrupted goes on
+from there, and the next program's build proves only what the two don't share. The standard error shows a line for each crate, with
+an estimate of the time left: from what each crate took on this machine, else from scripts/build_times.txt, scaled by how fast this
+build has been so far.
 """
 import concurrent.futures
 import fcntl
 import functools
 import hashlib
 import json
+import math
 import os
 import re
 import secrets
@@ -25,28 +29,31 @@ import shutil
 import subprocess
 import sys
 import tempfile
-import time
 
 TOP = os.path.dirname(os.path.dirname(os.path.abspath(__file__)))
 # What a proof reads of a crate.
 PROOF = ("src", "specs", "proofs")
-# What a crate's proof may take, in kilobytes, and how much less its processes get for each crate that is waited for longer.
+# The memory that a crate's proof may take, in kilobytes, and how much its priority falls for each crate with a longer chain.
 MEMORY = 4_000_000
 NICER = 3
 # The bytes of sources that take a proof as long as the least that each takes, and as each crate below does.
 LEAST = 4800
 REACH = 300
-# The last line of a check that proved a crate, without a word that would leave something out of that, and what stands behind it
-# where the crate was compiled.
+# The last line of a check that proved a crate, without a word that would leave something out of that; and what comes after it if the
+# crate was compiled.
 VERDICT = re.compile(
     r"logic=proved( (functions|axioms|target|cpu|threads|main|may-wait|sum)=\S+)+"
     r" native=\S+ logic-built=trusted libraries-built=trusted statements=trusted"
 )
 COMPILED = re.compile(r"note: .* may call itself, .*|built: backend=rattle .*")
-# What a check says of what it passed, which doesn't tell why another crate or function failed.
+# What a check prints of what passed, which doesn't say why another crate or function failed.
 PASSED = re.compile(r"(statements|logic) .*|fn \S+: proved")
-# What tells of a library of an earlier build.
+# What describes a library of an earlier build.
 KEPT = "out/rlib/kept"
+# The processor seconds of each crate on the machine that the pages speak of.
+TIMES = f"{TOP}/scripts/build_times.txt"
+# The estimate of the time left is scaled once so many processor seconds were spent.
+ENOUGH = 60
 # Where a folder is kept in memory, and what has to be free there, in bytes.
 IN_MEMORY = "/dev/shm"
 ROOM = 4_000_000_000
@@ -92,7 +99,10 @@ class Crate:
         self.uses = [known[it] for it in names if it in known]
         self.of_toolchain = [it for it in names if it not in known]
         self.root = "src/main.rt" if os.path.isfile(f"{self.folder}/src/main.rt") else "src/lib.rt"
+        self.is_program = self.root == "src/main.rt"
         self.rlib = f"{self.folder}/out/rlib/{name}.rlib"
+        # What its proof builds.
+        self.built = f"{self.folder}/out/{name}" if self.is_program else self.rlib
 
     @functools.cached_property
     def below(self):
@@ -135,7 +145,7 @@ class Crate:
 
     @property
     def kept(self):
-        """What is told of the library that was built, or nothing."""
+        """The description of the library that was built, or nothing."""
         try:
             with open(f"{self.folder}/{KEPT}", encoding="utf-8") as file:
                 return json.load(file)
@@ -143,29 +153,49 @@ class Crate:
             return {}
 
     def wanted(self, toolchain):
-        """What a kept library has to tell: of what it was made, and over which libraries."""
+        """What a library's description must say: of what it was made, and over which libraries."""
         return {"toolchain": toolchain.version, "sum": self.sum, "over": [it.kept.get("build") for it in self.below]}
 
     def is_kept(self, toolchain):
-        return self.wanted(toolchain).items() <= self.kept.items() and os.path.isdir(self.rlib)
+        return self.wanted(toolchain).items() <= self.kept.items() and os.path.exists(self.built)
+
+    def keep(self, wanted):
+        """Describes what was built."""
+        os.makedirs(os.path.dirname(self.rlib), exist_ok=True)
+        with open(f"{self.folder}/{KEPT}", "w", encoding="utf-8") as file:
+            json.dump({**wanted, "build": secrets.token_hex(16)}, file)
+
+    @property
+    def spent(self):
+        """The processor seconds of its last proof on this machine, or 0."""
+        try:
+            with open(f"{self.folder}/out/seconds", encoding="utf-8") as file:
+                return float(file.read())
+        except (OSError, ValueError):
+            return 0.0
+
+    def note_spent(self, seconds):
+        os.makedirs(f"{self.folder}/out", exist_ok=True)
+        with open(f"{self.folder}/out/seconds", "w", encoding="utf-8") as file:
+            file.write(f"{seconds:.1f}\n")
 
 
-def crates_of(name):
-    """Returns a program and all that it stands on, lowest first."""
+def crates_of(*programs):
+    """Returns programs and all that they stand on, lowest first."""
     lines, known = {}, {}
     with open(f"{TOP}/crates.txt", encoding="utf-8") as file:
         for line in file:
             first, colon, names = line.partition("#")[0].partition(":")
             if colon:
                 lines[first.split()[0]] = names.split()
-    left = [name]
+    left = [*programs]
     for it in left:
         left += [other for other in lines[it] if other in lines and other not in left]
     while left:
         ready = [it for it in left if all(other in known for other in lines[it] if other in lines)]
         known.update({it: Crate(it, lines[it], known) for it in ready})
         left = [it for it in left if it not in ready]
-    return [*known[name].below, known[name]]
+    return [*known.values()]
 
 
 def chains(crates):
@@ -177,10 +207,17 @@ def chains(crates):
 
 
 def run(crate, words, nice):
-    """Runs a command in the crate's folder. Returns whether it ended well, and what it said, or how it ended without a word."""
-    how = {"cwd": crate.folder, "stdin": subprocess.DEVNULL, "stdout": subprocess.PIPE, "stderr": subprocess.STDOUT}
-    ran = subprocess.run(["nice", "-n", str(nice), *words], **how, text=True, errors="replace", check=False)
-    return ran.returncode == 0, ran.stdout or f"{words[0]} ended with {ran.returncode}, without a word"
+    """Runs a command in the crate's folder. Returns whether it succeeded, what it printed or else how it ended, and its processor
+    seconds."""
+    with tempfile.TemporaryFile() as printed:
+        how = {"cwd": crate.folder, "stdin": subprocess.DEVNULL, "stdout": printed, "stderr": subprocess.STDOUT}
+        with subprocess.Popen(["nice", "-n", str(nice), *words], **how) as process:
+            _, status, usage = os.wait4(process.pid, 0)
+            process.returncode = os.waitstatus_to_exitcode(status)
+        printed.seek(0)
+        text = printed.read().decode(errors="replace")
+    silent = f"{words[0]} ended with {process.returncode} and printed nothing"
+    return process.returncode == 0, text or silent, usage.ru_utime + usage.ru_stime
 
 
 def is_proved(text):
@@ -192,33 +229,34 @@ def is_proved(text):
 
 
 def prove(crate, toolchain, jobs, nice):
-    """Proves and builds a crate. Returns what failed, or nothing. What is kept tells the texts as they were before."""
+    """Proves and builds a crate. Returns what failed, or nothing. What is kept describes the texts as they were before."""
     wanted = crate.wanted(toolchain)
     words = [*toolchain.build(), *crate.words(toolchain), "--jobs", str(jobs)]
-    if crate.root == "src/main.rt":
+    if crate.is_program:
         with tempfile.TemporaryDirectory() as room:
             made, program = f"{room}/{crate.name}.o", f"{room}/{crate.name}"
-            well, text = run(crate, [*words, *toolchain.compiler(), "-o", made], nice)
+            well, text, seconds = run(crate, [*words, *toolchain.compiler(), "-o", made], nice)
             well = well and is_proved(text)
             if well:
-                well, text = run(crate, toolchain.link(made, program), nice)
+                well, text, _ = run(crate, toolchain.link(made, program), nice)
             if well:
-                os.makedirs(f"{crate.folder}/out", exist_ok=True)
-                shutil.move(program, f"{crate.folder}/out/{crate.name}")
+                crate.note_spent(seconds)
+                shutil.move(program, crate.built)
+                crate.keep(wanted)
         return None if well else text
     shutil.rmtree(os.path.dirname(crate.rlib), ignore_errors=True)
     os.makedirs(os.path.dirname(crate.rlib))
-    well, text = run(crate, [*words, "--statements", "-o", crate.rlib], nice)
+    well, text, seconds = run(crate, [*words, "--statements", "-o", crate.rlib], nice)
     if not well or not is_proved(text):
         return text
-    with open(f"{crate.folder}/{KEPT}", "w", encoding="utf-8") as file:
-        json.dump({**wanted, "build": secrets.token_hex(16)}, file)
+    crate.note_spent(seconds)
+    crate.keep(wanted)
     return None
 
 
 def place():
-    """Returns where the temporary files of all checks go: in memory where there is room, or nothing for the system's own place. A check
-    writes some ten thousand small files, reads and removes them; on a disk those at it wait for one another."""
+    """Returns where the temporary files of all checks go: into memory if there is room, or nothing for the system's own place. A check
+    writes some ten thousand small files, reads and removes them; on a disk the checks wait for one another."""
     if "TMPDIR" in os.environ or not os.access(IN_MEMORY, os.W_OK | os.X_OK):
         return None
     return IN_MEMORY if shutil.disk_usage(IN_MEMORY).free >= ROOM else None
@@ -231,24 +269,68 @@ def free():
 
 
 def shares(crate, ready, running, left, processors):
-    """Returns how many processes its proof takes, where those crates are running, it begins before the others that are ready, and these
-    are left. Each of the running and ready counts as one, and it takes what they leave. Where fewer are left beside it than there are
-    processors, it takes all: the others share them with it. No process is worth its reading for fewer bytes than a proof's least."""
+    """Returns how many processes the proof of a crate takes that begins before the others that are ready. Each crate that runs or is
+    ready counts as one, and this one takes what they leave. If fewer crates are left beside it than there are processors, it takes all:
+    the others share them with it. No process is worth its reading for fewer bytes than a proof's least."""
     beside = sum(crate not in it.below for it in (*running, *left))
     idle = processors - len(running) - (len(ready) - 1)
     wanted = processors if beside < processors else idle
     return max(1, min(wanted, processors, -(-crate.sources // LEAST)))
 
 
+def listed_times():
+    """The processor seconds of each crate in scripts/build_times.txt."""
+    with open(TIMES, encoding="utf-8") as file:
+        return {name: float(seconds) for name, seconds in (line.split() for line in file if not line.startswith("#"))}
+
+
+class Estimate:
+    """How long a build will still take, by the processor seconds that its crates are expected to take."""
+
+    def __init__(self, crates, processors):
+        listed = listed_times()
+        self.expected = {it: it.spent or listed.get(it.name) or it.size / 400 for it in crates}
+        self.processors, self.foreseen, self.spent = processors, 0.0, 0.0
+
+    def note(self, crate):
+        """Notes that a crate was proved."""
+        self.foreseen += self.expected[crate]
+        self.spent += crate.spent
+
+    def seconds_left(self, left, running):
+        """The seconds until all of these are proved; of those that run a half is expected to be done."""
+        longest = {}
+        for crate in reversed(left):
+            above = max((seconds for other, seconds in longest.items() if crate in other.uses), default=0)
+            longest[crate] = above + self.expected[crate]
+        work = sum(self.expected[it] for it in left) + sum(self.expected[it] for it in running) / 2
+        scale = self.spent / self.foreseen if self.spent > ENOUGH else 1
+        return scale * max(work / self.processors, max(longest.values(), default=0))
+
+
+def in_words(seconds):
+    """A time in minutes, rounded up, or in seconds if it is short."""
+    if seconds < 90:
+        return f"about {max(10, round(seconds, -1)):.0f} seconds"
+    return f"about {math.ceil(seconds / 60)} minutes"
+
+
 def prove_all(crates, toolchain):
-    """Proves the crates, telling the way. Returns what failed, or nothing."""
-    began, chain, processors = time.monotonic(), chains(crates), len(os.sched_getaffinity(0))
+    """Proves the crates and shows the progress. Returns what failed, or nothing."""
+    chain, processors = chains(crates), len(os.sched_getaffinity(0))
     done, left = set(), sorted(crates, key=lambda it: -chain[it])
     for crate in crates:
-        if crate.root == "src/lib.rt" and done.issuperset(crate.below) and crate.is_kept(toolchain):
+        if done.issuperset(crate.below) and crate.is_kept(toolchain):
             done.add(crate)
             left.remove(crate)
+            if crate.is_program:
+                # A source may be newer than the program although its text is the same.
+                os.utime(crate.built)
     lanes, running, total, failed = max(1, min(processors + 1, free() // MEMORY)), {}, len(left), None
+    estimate = Estimate(crates, processors)
+    if total:
+        kept = f" ({len(crates) - total} are proved already)" if len(crates) > total else ""
+        say(f"proving {total} crates{kept}: {in_words(estimate.seconds_left([it for it in crates if it in left], []))}")
     with concurrent.futures.ThreadPoolExecutor(lanes) as pool:
         while running or left and not failed:
             ready = [it for it in left if not failed and done.issuperset(it.uses)]
@@ -265,25 +347,40 @@ def prove_all(crates, toolchain):
                     failed = failed or f"{crate.name}:\n{why}"
                     continue
                 done.add(crate)
-                say(f"{total - len(left) - len(running)} of {total} crates proved: {crate.name}, {time.monotonic() - began:.0f} s")
+                estimate.note(crate)
+                to_do = estimate.seconds_left([it for it in crates if it in left], running.values())
+                rest = f", {in_words(to_do)} left" if left or running else ""
+                say(f"{total - len(left) - len(running)} of {total} crates proved ({crate.name}){rest}")
     return failed
 
 
+def print_times():
+    """Prints what each crate's last proof took on this machine."""
+    with open(f"{TOP}/crates.txt", encoding="utf-8") as file:
+        names = [line.partition(":")[0].split()[0] for line in file if ":" in line.partition("#")[0]]
+    for crate in sorted(crates_of(*names), key=lambda it: it.name):
+        if crate.spent:
+            print(f"{crate.name} {crate.spent:.0f}")
+
+
 def main(words):
-    if len(words) != 1:
+    if words == ["--times"]:
+        print_times()
+        return 0
+    if not words:
         print(__doc__, file=sys.stderr)
         return 2
-    if not os.path.isfile(f"{TOP}/crates/{words[0]}/src/main.rt"):
-        say(f"{words[0]} is no program of this repository")
-        return 2
-    say(f"proving and building {words[0]}; docs/PROVING.md tells how long that takes where nothing is proved yet")
+    for name in words:
+        if not os.path.isfile(f"{TOP}/crates/{name}/src/main.rt"):
+            say(f"{name} is no program of this repository")
+            return 2
     with open(f"{TOP}/crates.txt", encoding="utf-8") as lock, tempfile.TemporaryDirectory(prefix="mpw-build-", dir=place()) as room:
         fcntl.flock(lock, fcntl.LOCK_EX)
         os.environ["TMPDIR"] = room
-        failed = prove_all(crates_of(words[0]), Toolchain())
+        failed = prove_all(crates_of(*words), Toolchain())
     if failed:
-        told = "\n".join(it for it in failed.splitlines() if not PASSED.fullmatch(it))
-        say(f"{words[0]} could not be proved and built: {told[:4000]}")
+        shown = "\n".join(it for it in failed.splitlines() if not PASSED.fullmatch(it))
+        say(f"not proved, so nothing was built: {shown[:4000]}")
         return 1
     return 0
 

@@ -20,7 +20,7 @@ import sys
 TOP = os.path.dirname(os.path.dirname(os.path.abspath(__file__)))
 QUOTED = re.compile(r"`([^`]+)`")
 PATH = re.compile(r"(?:[\w.-]+/)+[\w.-]+\.(?:rt|antt|md|py|txt|edit|deck|gds)$")
-OF_CRATE = re.compile(r"`((?:specs|src|proofs)/[\w/.-]+)`(?:,| and)? (?:of|in) `(mpw_\w+|runs_\w+)`")
+OF_CRATE = re.compile(r"`((?:specs|src|proofs)/[\w/.-]+)`(?:,| and)? (?:of|in) `(mpw_\w+|gate_\w+)`")
 FOLDER = re.compile(r"\| `(crates/\w+/specs)` \|")
 FILE = re.compile(r"[\w/]+\.antt$")
 OWN = ("specs/", "src/", "proofs/", "out/", "data/")

@@ -1,11 +1,12 @@
 #!/usr/bin/env python3
-"""Runs a command, and then tells what each crate's proofs, tests, wrong bodies and programs took.
+"""Runs a command, and then prints what each crate's proofs, tests, mutants and programs took.
 
   scripts/gate_times.py rt ci [-- COMMAND..]
 
-The times are processor seconds of the checker's processes, read off /proc twice a second, so a little too small. The
-command behind -- is run where the first one passed. The last line is the first one's last, its verdict; where the second
-one failed, a line behind it says so.
+As each crate is proved, a line shows how many of all are and estimates the time left, by scripts/build_times.txt and the number of
+mutants. The times are processor seconds of the checker's processes, read off /proc twice a second, so a little too small. If the first
+command passes, the command after -- runs. The last line is the first command's last line, its verdict; if the second command failed, a
+line after it says so.
 """
 import collections
 import glob
@@ -15,8 +16,12 @@ import sys
 import threading
 import time
 
+import build
+
 TICK = os.sysconf("SC_CLK_TCK")
-COLUMNS = ("proof", "tests", "wrong bodies", "runs")
+COLUMNS = ("proof", "tests", "mutants", "runs")
+# The seconds that a mutant takes, and a crate that scripts/build_times.txt doesn't list.
+MUTANT, UNLISTED = 15, 60
 
 
 def work_of(pid):
@@ -30,7 +35,7 @@ def work_of(pid):
         return None
     crate = words[words.index("--crate-name") + 1]
     if "/rt-edit-" in os.readlink(f"/proc/{pid}/cwd"):
-        return crate, "wrong bodies"
+        return crate, "mutants"
     return crate, "tests" if "--test" in words else "proof"
 
 
@@ -51,6 +56,28 @@ def sample(spent):
             pass
 
 
+class Progress:
+    """How many crates a gate has proved, and how long it will still take."""
+
+    def __init__(self):
+        with open(f"{build.TOP}/crates.txt", encoding="utf-8") as file:
+            names = [line.partition(":")[0].strip() for line in file if ":" in line.partition("#")[0]]
+        listed = build.listed_times()
+        mutants = {it: len(glob.glob(f"{build.TOP}/crates/{it}/must-fail/*.edit")) for it in names}
+        self.left = {it: listed.get(it, UNLISTED) + MUTANT * mutants[it] for it in names}
+        self.count, self.whole, self.began = len(names), sum(self.left.values()), time.monotonic()
+
+    def note(self, line):
+        """Prints the progress if the line says that a crate was proved; one that an earlier run proved takes no time."""
+        words = line.split()
+        if words[:1] == ["rt:"] and words[2:4] == ["is", "kept:"]:
+            self.whole -= self.left.pop(words[1], 0)
+        if words[:1] == ["rt:"] and words[2:3] == ["proved"] and self.left.pop(words[1], None):
+            rest = sum(self.left.values())
+            seconds = (time.monotonic() - self.began) * rest / (self.whole - rest)
+            print(f"mpw: {self.count - len(self.left)} of {self.count} crates proved, {build.in_words(seconds)} left", flush=True)
+
+
 def tell(spent, wall):
     table = collections.defaultdict(lambda: dict.fromkeys(COLUMNS, 0.0))
     for (_, (crate, kind)), seconds in spent.items():
@@ -64,8 +91,10 @@ def tell(spent, wall):
 
 
 def hand_on(lines, kept):
+    progress = Progress()
     for line in lines:
         print(line, end="", flush=True)
+        progress.note(line)
         kept.append(line.rstrip("\n"))
         del kept[:-1]
 

@@ -1,5 +1,5 @@
 #!/usr/bin/env python3
-"""Makes docs/specification/help.md from the table of `mpw help` (crates/mpw_help/src), and what its stored run has to print.
+"""Makes docs/specification/help.md from the table of `mpw help` (crates/mpw_help/src), and what its golden test has to print.
 
   scripts/help_tables.py            writes both
   scripts/help_tables.py --check    tells what differs, and which request, denial or code of the sources the table lacks
@@ -8,9 +8,12 @@ import os
 import re
 import sys
 
+import golden
+
 TOP = os.path.dirname(os.path.dirname(os.path.abspath(__file__)))
 PAGE = "docs/specification/help.md"
-RUN = "crates/runs_help/stdout"
+# The golden test of the help is a table of this program's.
+RUN, TABLE = "gate_texts", "help"
 # how a kind of entry stands in a table: its columns, and the fields behind the meaning
 KINDS = {
     "Request": (("Request", "What it does", "Tests in order", "Reply"), ("tests", "reply")),
@@ -179,7 +182,7 @@ def main(words):
         print(__doc__, file=sys.stderr)
         return 2
     made = "".join(table_of(*table) for table in tables())
-    texts = {PAGE: HEAD + made, RUN: made}
+    texts = {PAGE: HEAD + made, f"crates/{RUN}/stdout": golden.with_table(RUN, "stdout", TABLE, made)}
     if not words:
         for path, text in texts.items():
             with open(f"{TOP}/{path}", "w", encoding="utf-8") as file:

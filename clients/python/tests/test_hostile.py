@@ -14,7 +14,7 @@ sys.path.append(os.path.join(TOP, "bench"))
 import hostile  # noqa: E402
 import memory  # noqa: E402
 
-SCRIPTS = os.path.join(TOP, "crates", "runs_scripts", "data")
+SCRIPTS = os.path.join(TOP, "crates", "gate_desk", "data")
 
 
 def ended(words, **more):

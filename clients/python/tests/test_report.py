@@ -3,6 +3,7 @@ import os
 import shutil
 import stat
 import subprocess
+import sys
 import tempfile
 import unittest
 import xml.etree.ElementTree as ElementTree
@@ -13,15 +14,17 @@ from mpw_desk import Axis, Key, Marker, Markers, Masked, Waiver
 from mpw_report import report_of, rules_of
 from stand_in import TOP
 
+sys.path.append(os.path.join(TOP, "scripts"))
+
+import golden  # noqa: E402
+
 HOSTILE = "a'b\\c<d>&\"e</value>--><!--,#"
 KEYS = [Key("w", Axis.V, 0, 0, 50, 0, 600), Key(HOSTILE, Axis.H, 1, -5, 1000, -1, 2)]
 
 
 class Report(unittest.TestCase):
     def test_as_the_program_writes_it(self):
-        run = os.path.join(TOP, "crates", "runs_report")
-        with open(os.path.join(run, "stdin"), encoding="ascii") as file:
-            deck, rest = file.read().split("--\n")
+        deck, rest = golden.table("gate_texts", "stdin", "report").split("--\n")
         top, *lines = rest.rstrip("\n").split("\n")
         rules, markers = [rule for rule, _ in rules_of(deck)], []
         # The program writes them by rule, as a listing has them.
@@ -29,9 +32,8 @@ class Report(unittest.TestCase):
         for rule, axis, *numbers in sorted(words, key=lambda it: int(it[0])):
             if int(rule) < len(rules):
                 markers.append(Marker(Key(rules[int(rule)], Axis(axis), *map(int, numbers)), (top,)))
-        with open(os.path.join(run, "stdout"), encoding="ascii") as file:
-            # A full report stands behind it.
-            expected = file.read().partition("</report-database>\n")
+        # A full report follows.
+        expected = golden.table("gate_texts", "stdout", "report").partition("</report-database>\n")
         expected = "".join(expected[:2]).replace("<generator>mpw check<", "<generator>mpw-ask<")
         self.assertEqual(report_of(Markers(markers, []), [], deck, top), expected)
 
