@@ -1,6 +1,6 @@
 use Rattle.std.proofs.Common.{arith}
 use Rattle.std.proofs.lemmas.List.Kept.{AllPairs-from_increasing}
-use Rattle.runs_markers.proofs.asked.is_ascending.Goals as goal
+use Rattle.gate_checks.proofs.markers.asked.is_ascending.Goals as goal
 
 pub returns : goal.returns
 returns c =

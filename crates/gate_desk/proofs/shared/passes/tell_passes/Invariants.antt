@@ -1,6 +1,6 @@
 use Rattle.std.specs.Prelude.{None}
 use Rattle.mpw_events.specs.History.{kept_desk}
-use Rattle.runs_shared.proofs.passes.tell_passes.Given as goal
+use Rattle.gate_desk.proofs.shared.passes.tell_passes.Given as goal
 
 abbrev pub ghosts-count_passes-N-Ledger : goal.ghosts-count_passes-N-Ledger
 ghosts-count_passes-N-Ledger g a = record { name = a.blank.name; parts = a.blank.parts }

@@ -1,6 +1,6 @@
 use Rattle.std.specs.Prelude.{None}
 use Rattle.mpw_events.specs.History.{kept_desk}
-use Rattle.runs_shared.proofs.session.serve_session.Given as goal
+use Rattle.gate_desk.proofs.shared.session.serve_session.Given as goal
 
 abbrev pub ghosts-serve_named-N-Ledger : goal.ghosts-serve_named-N-Ledger
 ghosts-serve_named-N-Ledger g a = record { name = a.blank.name; parts = a.blank.parts }

@@ -1,6 +1,6 @@
 use Rattle.std.specs.Prelude.{None}
 use Rattle.mpw_events.specs.History.{kept_desk}
-use Rattle.runs_shared.proofs.shared_day.tell_day.Given as goal
+use Rattle.gate_desk.proofs.shared.shared_day.tell_day.Given as goal
 
 abbrev pub ghosts-run_day-N-Ledger : goal.ghosts-run_day-N-Ledger
 ghosts-run_day-N-Ledger g a = record { name = a.blank.name; parts = a.blank.parts }

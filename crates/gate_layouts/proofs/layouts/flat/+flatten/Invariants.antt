@@ -1,4 +1,4 @@
-use Rattle.runs_layouts.proofs.flat.+flatten.Given as goal
+use Rattle.gate_layouts.proofs.layouts.flat.+flatten.Given as goal
 
 abbrev pub decreases-flatten : goal.decreases-flatten
 decreases-flatten l = l.depth
