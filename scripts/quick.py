@@ -105,7 +105,10 @@ def test_program(folder, name, progress):
     progress.note(f"{name} run", fault and "not run" or run_one(folder, name))
 
 
-def main():
+def main(words):
+    if words:
+        print(__doc__, file=sys.stderr)
+        return 2
     with tempfile.TemporaryDirectory(prefix="mpw-quick-") as folder:
         names = programs(copied(folder))
         steps = {f"{name} {step}": cost for name in names for step, cost in (("compiled", COMPILING), ("run", RUNNING))}
@@ -122,4 +125,4 @@ def main():
 
 
 if __name__ == "__main__":
-    sys.exit(main())
+    sys.exit(main(sys.argv[1:]))
