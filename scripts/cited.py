@@ -1,9 +1,12 @@
 #!/usr/bin/env python3
-"""Tells which files and definitions the documents name that aren't there; exits with 1 where there is one.
+"""Prints the faults of the pages: files, definitions and links that don't exist, and faults of language. Exits with 1 if there is one.
 
   scripts/cited.py
 
-It reads README.md, docs/, examples/README.md and bench/README.md, and looks at what stands between backquotes:
+In each page a link must lead to a file, and its anchor to a heading of that file. In the pages of NEWCOMERS, which are written in plain
+English, a page of more than 4096 bytes must begin with links to its sections, and no word of BANNED may be used.
+
+In README.md, docs/, examples/README.md and bench/README.md it looks at what is between backquotes:
 - a path from the top of the tree, as `docs/PROVED.md`, or from crates/, as `mpw_hier/specs/Values.antt`;
 - `specs/NAME.antt` of `mpw_crate`, and so `src/` and `proofs/`;
 - behind `crates/mpw_crate/specs` in a row's first column, `NAME.antt` in the others;
@@ -26,6 +29,41 @@ FILE = re.compile(r"[\w/]+\.antt$")
 OWN = ("specs/", "src/", "proofs/", "out/", "data/")
 SHORT = re.compile(r"[a-z_]+(?:/[A-Z]\w*)+$")
 NAME = re.compile(r"[A-Za-z]\w*$")
+
+# Pages in plain English. Add a page here when it is rewritten.
+NEWCOMERS = (
+    "README.md", "docs/limits.md", "docs/not-proved.md", "docs/proved-in-short.md", "docs/tutorial-firm.md", "docs/tutorial-shuttle.md",
+)
+# Pages whose links alone are checked.
+LINKED = ("clients/python/README.md", "model/README.md")
+LARGEST_WITHOUT_CONTENTS = 4096
+LINK = re.compile(r"\[[^\]]*\]\(([^)\s]+)\)")
+HEADING = re.compile(r"(#+) (.+)")
+CODE = re.compile(r"`[^`]*`")
+# What a page must not say, and what it says instead.
+BANNED = {
+    r"tells?|told|telling": "print, report, return, show",
+    r"want of (?:memory|room)|(?:memory|room) (?:is|was) wanting": "out of memory",
+    r"where there (?:is|are|was|were)": "if, when",
+    r"stands? (?:in|beside|behind|below)": "is in, is next to",
+    r"behind": "after",
+    r"brings? (?:the|a) deck": "uploads the deck",
+    r"keeps?|kept|keepers?|keeping": "store, stored, store writer",
+    r"made ready|makes? ready|work(?:s|ed)? (?:\w+ ){0,3}off": "prepare, execute",
+    r"rows? of tests": "decision table",
+    r"(?:history|calls?) (?:so far )?(?:has|have) led": "the current state",
+    r"wrong bod(?:y|ies)": "mutant",
+    r"stored runs?": "golden test",
+    r"asked of (?:its|the) caller": "precondition",
+    r"by name": "in alphabetical (byte) order",
+    r"(?:is|are|was|were) met by": "touches",
+    r"alike": "identical up to translation, the same",
+    r"things?": "elements, instances, flat shapes",
+    r"reckon(?:s|ed|ing)?": "estimated",
+    r"the system ends": "the kernel kills it (out of memory)",
+    r"a firm's page|an auditor's page": "Checking a cell; Auditing a desk",
+}
+FORBIDDEN = [(re.compile(rf"\b(?:{words})\b", re.I), instead) for words, instead in BANNED.items()]
 
 
 def pages():
@@ -114,16 +152,89 @@ def missing_in_page(text):
         yield from ((number, fault) for fault in missing_in_line(line))
 
 
+def prose_of(text):
+    """The numbered lines of a page outside of fenced blocks."""
+    is_inside = False
+    for number, line in enumerate(text.splitlines(), 1):
+        if line.startswith("```"):
+            is_inside = not is_inside
+        elif not is_inside:
+            yield number, line
+
+
+def anchor_of(heading):
+    """The anchor of a heading, as GitHub makes it."""
+    return re.sub(r"[^\w\- ]", "", CODE.sub(lambda code: code[0][1:-1], heading).strip().lower()).replace(" ", "-")
+
+
+def headings_of(text):
+    """The headings of a page, each with its line, its level and its anchor; one that was there before gets a number."""
+    seen = {}
+    for number, line in prose_of(text):
+        heading = HEADING.fullmatch(line)
+        if heading:
+            anchor = anchor_of(heading[2])
+            seen[anchor] = seen.get(anchor, -1) + 1
+            yield number, len(heading[1]), f"{anchor}-{seen[anchor]}" if seen[anchor] else anchor
+
+
+@functools.cache
+def anchors_of(path):
+    with open(path, encoding="utf-8") as file:
+        return {anchor for _, _, anchor in headings_of(file.read())}
+
+
+def broken_links(page, text):
+    """The links of a page that lead nowhere."""
+    for number, line in prose_of(text):
+        for target in LINK.findall(CODE.sub("", line)):
+            path, _, anchor = target.partition("#")
+            if "://" in path or path.startswith("mailto:"):
+                continue
+            path = os.path.normpath(os.path.join(TOP, os.path.dirname(page), path)) if path else f"{TOP}/{page}"
+            if not os.path.exists(path):
+                yield number, f"the link {target} leads to no file"
+            elif anchor and (not path.endswith(".md") or anchor not in anchors_of(path)):
+                yield number, f"the link {target} leads to no heading"
+
+
+def missing_contents(text):
+    """The sections of a large page that no link before the first section leads to."""
+    sections = [(number, anchor) for number, level, anchor in headings_of(text) if level == 2]
+    if len(text.encode()) <= LARGEST_WITHOUT_CONTENTS:
+        return
+    if not sections:
+        yield 1, f"more than {LARGEST_WITHOUT_CONTENTS} bytes without a section"
+        return
+    linked = {target for number, line in prose_of(text) if number < sections[0][0] for target in LINK.findall(line)}
+    yield from ((number, f"no link to #{anchor} before the first section") for number, anchor in sections if f"#{anchor}" not in linked)
+
+
+def banned_words(text):
+    """The words of a page that BANNED has, outside of code and of the targets of links."""
+    for number, line in prose_of(text):
+        line = re.sub(r"\]\([^)]*\)", "]", CODE.sub("", line))
+        for pattern, instead in FORBIDDEN:
+            yield from ((number, f"'{found[0]}': write {instead}") for found in pattern.finditer(line))
+
+
+def faults_of(page):
+    """The faults of a page, each with its line."""
+    with open(f"{TOP}/{page}", encoding="utf-8") as file:
+        text = file.read()
+    yield from broken_links(page, text)
+    if page not in LINKED:
+        yield from missing_in_page(text)
+    if page in NEWCOMERS:
+        yield from missing_contents(text)
+        yield from banned_words(text)
+
+
 def main():
-    """Prints what is missing, a line each."""
-    faults = 0
-    for page in pages():
-        with open(f"{TOP}/{page}", encoding="utf-8") as file:
-            for number, fault in missing_in_page(file.read()):
-                faults += 1
-                print(f"{page}:{number}: {fault}")
-    if faults:
-        sys.exit(1)
+    """Prints the faults, a line each."""
+    faults = [f"{page}:{number}: {fault}" for page in sorted([*pages(), *LINKED]) for number, fault in faults_of(page)]
+    print("".join(f"{fault}\n" for fault in faults), end="")
+    sys.exit(1 if faults else 0)
 
 
 if __name__ == "__main__":
