@@ -1,0 +1,74 @@
+#!/usr/bin/env python3
+"""Makes the pictures of the pages, in docs/images.
+
+  scripts/pictures.py [NAME ..]
+
+It runs the commands of the tutorials (examples/pages.py), opens the marker pages that they write in a headless Chromium, and writes what it
+shows as PNG. A picture that a tutorial writes as SVG is copied. It needs the built programs and a Chromium
+(apt-get install -y --no-install-recommends chromium). A picture must have less than 150 KB.
+"""
+import os
+import shutil
+import sys
+import tempfile
+
+HERE = os.path.dirname(os.path.abspath(__file__))
+TOP = os.path.dirname(HERE)
+IMAGES = f"{TOP}/docs/images"
+sys.dont_write_bytecode = True
+sys.path[:0] = [f"{TOP}/examples", f"{TOP}/clients/python/tests"]
+
+import browser  # noqa: E402
+import pages  # noqa: E402
+
+SIZE = (1200, 640)
+LARGEST = 150_000
+FIRM, SHUTTLE = "docs/tutorial-firm.md", "docs/tutorial-shuttle.md"
+# For each picture the tutorial, the file that it writes, and the key of the marker that is selected there.
+PICTURES = {
+    "amp.png": (FIRM, "amp.html", ""),
+    "one-marker.svg": (FIRM, "one.svg", ""),
+    "wafer.png": (SHUTTLE, "wafer.html", ""),
+    "gamma.png": (SHUTTLE, "gamma.html", ""),
+    "signed.png": (SHUTTLE, "signed.html", "m1.space:V:0:24800:24910:1300:2200"),
+}
+
+
+def draw(source, target, key):
+    """Writes what a browser shows of a page."""
+    with browser.Browser(SIZE) as tab:
+        tab.show(source + (f"#{key}" if key else ""))
+        tab.picture(target)
+
+
+def make(folder, name):
+    """Makes a picture of the files in this folder. Returns a fault, or nothing."""
+    _, source, key = PICTURES[name]
+    source, target = f"{folder}/shuttle/{source}", f"{IMAGES}/{name}"
+    if name.endswith(".svg"):
+        shutil.copy(source, target)
+    else:
+        draw(source, target, key)
+    size = os.path.getsize(target)
+    print(f"{name}: {size} bytes", flush=True)
+    return f"{name} has {size} bytes, and may have {LARGEST}" if size >= LARGEST else None
+
+
+def main(names):
+    names = names or list(PICTURES)
+    if any(name not in PICTURES for name in names) or browser.installed() is None:
+        print(__doc__, file=sys.stderr)
+        return 2
+    os.makedirs(IMAGES, exist_ok=True)
+    faults = []
+    for page in dict.fromkeys(PICTURES[name][0] for name in names):
+        with tempfile.TemporaryDirectory(prefix="mpw-pictures-") as folder:
+            pages.run_page(page, folder)
+            faults += [make(folder, name) for name in names if PICTURES[name][0] == page]
+    for fault in filter(None, faults):
+        print(fault, file=sys.stderr)
+    return 1 if any(faults) else 0
+
+
+if __name__ == "__main__":
+    sys.exit(main(sys.argv[1:]))
