@@ -29,6 +29,8 @@ PAGES = ("README.md", "docs/tutorial-firm.md", "docs/tutorial-shuttle.md")
 LINKS = ("mpw", "clients", "examples")
 ADDRESS = "127.0.0.1:7001"
 MEASURED = re.compile(r"\d+(?:\.\d+)?(?= (?:ms|s|MB)\b)")
+# What bash says of a service that was ended; an interactive one says it in other words.
+ENDED = re.compile(r"bash: line \d+: +\d+ Terminated")
 # A command may have to compile an unproved program first.
 MOST_SECONDS = 1800
 # Stands on both sides of a command's exit status, after its output.
@@ -119,8 +121,8 @@ class Shell:
         self.rest = before + rest
         if command.is_service:
             self.read(lambda data: data.count(b"\n") >= len(command.shown), 60)
-        found, self.rest = self.rest, b""
-        return found.decode(errors="replace").replace(self.address, ADDRESS).splitlines()
+        found, self.rest = self.rest.decode(errors="replace").replace(self.address, ADDRESS).splitlines(), b""
+        return [line for line in found if not ENDED.match(line)]
 
 
 def is_same(shown, found):
