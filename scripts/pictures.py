@@ -30,7 +30,8 @@ PICTURES = {
     "one-marker.svg": (FIRM, "one.svg", ""),
     "wafer.png": (SHUTTLE, "wafer.html", ""),
     "gamma.png": (SHUTTLE, "gamma.html", ""),
-    "signed.png": (SHUTTLE, "signed.html", "m1.space:V:0:24800:24910:1300:2200"),
+    "signed.png": (SHUTTLE, "signed.html", ""),
+    "waiver.png": (SHUTTLE, "signed.html", "m1.space:V:0:24800:24910:1300:2200"),
 }
 
 
