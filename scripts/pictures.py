@@ -4,11 +4,10 @@
   scripts/pictures.py [NAME ..]
 
 It runs the commands of the tutorials (examples/pages.py), opens the marker pages that they write in a headless Chromium, and writes what it
-shows as PNG. A picture that a tutorial writes as SVG is copied. It needs the built programs and a Chromium
-(apt-get install -y --no-install-recommends chromium). A picture must have less than 150 KB.
+shows as PNG. It needs the built programs and a Chromium (apt-get install -y --no-install-recommends chromium). A picture must have less than
+150 KB.
 """
 import os
-import shutil
 import sys
 import tempfile
 
@@ -27,7 +26,7 @@ FIRM, SHUTTLE = "docs/tutorial-firm.md", "docs/tutorial-shuttle.md"
 # For each picture the tutorial, the file that it writes, and the key of the marker that is selected there.
 PICTURES = {
     "amp.png": (FIRM, "amp.html", ""),
-    "one-marker.svg": (FIRM, "one.svg", ""),
+    "amp-via.png": (FIRM, "amp.html", "m1.via:H:0:1200:1210:6000:6100"),
     "wafer.png": (SHUTTLE, "wafer.html", ""),
     "gamma.png": (SHUTTLE, "gamma.html", ""),
     "signed.png": (SHUTTLE, "signed.html", ""),
@@ -45,11 +44,8 @@ def draw(source, target, key):
 def make(folder, name):
     """Makes a picture of the files in this folder. Returns a fault, or nothing."""
     _, source, key = PICTURES[name]
-    source, target = f"{folder}/shuttle/{source}", f"{IMAGES}/{name}"
-    if name.endswith(".svg"):
-        shutil.copy(source, target)
-    else:
-        draw(source, target, key)
+    target = f"{IMAGES}/{name}"
+    draw(f"{folder}/shuttle/{source}", target, key)
     size = os.path.getsize(target)
     print(f"{name}: {size} bytes", flush=True)
     return f"{name} has {size} bytes, and may have {LARGEST}" if size >= LARGEST else None
