@@ -2,6 +2,7 @@
 import os
 import stat
 import tempfile
+from contextlib import contextmanager
 
 
 class FileFault(Exception):
@@ -21,28 +22,30 @@ def text_of(path):
         return file.read()
 
 
-def mode_of(path):
-    """The permissions of a file that is to be written anew: those of the old one, or those of a new one."""
+def mode_of(path, most=0o666):
+    """The permissions of a file that is to be written anew: those of the old one, or at most these if it is new."""
     try:
         found = os.stat(path).st_mode
     except FileNotFoundError:
         mask = os.umask(0)
         os.umask(mask)
-        return 0o666 & ~mask
+        return most & ~mask
     if not stat.S_ISREG(found):
         raise OSError(0, "it is no regular file")
     return stat.S_IMODE(found)
 
 
-def write_whole(path, text):
-    """Writes a file beside the path and renames it into place: the path has the old one or the new one, each whole."""
+@contextmanager
+def whole_file(path, most=0o666):
+    """A new binary file next to the path. If the block ends without a fault, the file takes its place: the path has the
+    old file or the new one, each whole. A file that wasn't there gets at most these permissions."""
     beside = None
     try:
         path = os.path.realpath(path)
-        mode = mode_of(path)
-        handle, beside = tempfile.mkstemp(prefix=".mpw-", dir=os.path.dirname(path))
-        with open(handle, "w", encoding="ascii", newline="\n") as file:
-            file.write(text)
+        mode = mode_of(path, most)
+        with tempfile.NamedTemporaryFile("wb", prefix=".mpw-", dir=os.path.dirname(path), delete=False) as file:
+            beside = file.name
+            yield file
             file.flush()
             os.fsync(file.fileno())
         os.chmod(beside, mode)
@@ -52,3 +55,16 @@ def write_whole(path, text):
     finally:
         if beside is not None and os.path.exists(beside):
             os.unlink(beside)
+
+
+def write_whole(path, text):
+    """Writes a text as a whole file."""
+    with whole_file(path) as file:
+        file.write(text.encode("ascii"))
+
+
+def is_one_file(path, other):
+    """Whether two paths lead to one file, which may not be there yet."""
+    if os.path.exists(path) and os.path.exists(other):
+        return os.path.samefile(path, other)
+    return os.path.realpath(path) == os.path.realpath(other)
