@@ -238,6 +238,20 @@ class Waiver(NamedTuple):
     signer: Optional[str]
 
 
+class Carried(NamedTuple):
+    """What became of earlier markers after a new run. `again` has the waivers of those that were found again, `asked` the
+    keys among these whose waiver was asked for just now, and `left` the markers for which the connection has no line
+    left. `gone` has the keys that the session doesn't see any more: the marker isn't there, or isn't shown in full.
+    `new` has the markers that weren't there before, and `masked` what the session sees in part."""
+
+    again: List[Waiver]
+    asked: List[Key]
+    left: List[Marker]
+    gone: List[Key]
+    new: List[Marker]
+    masked: List[Masked]
+
+
 class Status(NamedTuple):
     """How far the run is: its number, None where it is idle, and of one that is checked how many of its tiles are."""
 
@@ -303,9 +317,14 @@ def token_word(word):
     return word
 
 
+def key_of(key):
+    """A key, which is given as such, or by its marker or its waiver, or as a word."""
+    return key.key if isinstance(key, (Marker, Waiver)) else Key.of(str(key))
+
+
 def key_word(key):
-    """The word of a key, which is given as such, or by its marker or its waiver, or as a word."""
-    return str(key.key if isinstance(key, (Marker, Waiver)) else Key.of(str(key)))
+    """The word of a key."""
+    return str(key_of(key))
 
 
 def granted(operation, about):
@@ -871,6 +890,30 @@ class Desk:
     def waivers(self) -> List[Waiver]:
         """The waivers of the markers that the session sees in full."""
         return self.listed(waiver_of, "waivers")
+
+    def carry(self, earlier: Iterable[Union[Key, Marker, Waiver, str]]) -> Carried:
+        """Asks again for the waivers of earlier markers, since a new run drops them all. It asks for those whose key the
+        run found again. A key says where a marker is and nothing of what is drawn near it, so nothing is signed here."""
+        keys, markers = dict.fromkeys(map(key_of, earlier)), self.markers()
+        found = {marker.key: marker for marker in markers.full}
+        known = {waiver.key for waiver in self.waivers()}
+        wanted = [key for key in found if key in keys and key not in known]
+        room = max(0, MOST_LINES - self.answered - 2)  # the listing below, and a line more
+        asked = [key for key in wanted[:room] if self.is_asked(key)]
+        again = [waiver for waiver in self.waivers() if waiver.key in keys]
+        return Carried(
+            again, asked, [found[key] for key in wanted[room:]], [key for key in keys if key not in found],
+            [marker for key, marker in found.items() if key not in keys], markers.masked)
+
+    def is_asked(self, key):
+        """Asks for a waiver; whether nobody else has asked for it meanwhile."""
+        try:
+            self.waive(key)
+            return True
+        except Refused as refused:
+            if refused.word != "known":
+                raise
+            return False
 
     def verdict(self) -> Verdict:
         """Whether each marker has a signed waiver."""
