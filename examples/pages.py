@@ -31,7 +31,7 @@ ADDRESS = "127.0.0.1:7001"
 MEASURED = re.compile(r"\d+(?:\.\d+)?(?= (?:ms|s|MB)\b)")
 # What bash says of a service that was ended; an interactive one says it in other words.
 ENDED = re.compile(r"bash: line \d+: +\d+ Terminated")
-# A command may have to compile an unproved program first.
+# For one command. If a program isn't built, the first command that needs it compiles an unproved one.
 MOST_SECONDS = 1800
 # Stands on both sides of a command's exit status, after its output.
 MARK = "\x1e"
@@ -181,6 +181,8 @@ def main(words):
     if any(word.startswith("-") for word in words):
         print(__doc__, file=sys.stderr)
         return 2
+    # So that a signal ends what the pages started.
+    signal.signal(signal.SIGTERM, lambda *_: sys.exit(1))
     status = 0
     for page in words or PAGES:
         if not is_check:
