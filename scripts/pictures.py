@@ -4,10 +4,12 @@
   scripts/pictures.py [NAME ..]
 
 It runs the commands of the tutorials (examples/pages.py), opens the marker pages that they write in a headless Chromium, and writes what it
-shows as PNG. It needs the built programs and a Chromium (apt-get install -y --no-install-recommends chromium). A picture must have less than
-150 KB.
+shows as PNG. Two pictures show the report of a tutorial in KLayout. It needs the built programs, a Chromium and for these two KLayout
+(apt-get install -y --no-install-recommends chromium klayout). A picture must have less than 150 KB.
 """
 import os
+import shutil
+import subprocess
 import sys
 import tempfile
 
@@ -23,10 +25,12 @@ import pages  # noqa: E402
 SIZE = (1200, 640)
 LARGEST = 150_000
 FIRM, SHUTTLE = "docs/tutorial-firm.md", "docs/tutorial-shuttle.md"
-# For each picture the tutorial, the file that it writes, and the key of the marker that is selected there.
+# For each picture the tutorial, the file that it writes, and the key of the marker that is selected there. Of a report in KLayout, which window.
 PICTURES = {
     "amp.png": (FIRM, "amp.html", ""),
     "amp-via.png": (FIRM, "amp.html", "m1.via:H:0:1200:1210:6000:6100"),
+    "amp-klayout.png": (FIRM, "amp.lyrdb", "window"),
+    "amp-browser.png": (FIRM, "amp.lyrdb", "browser"),
     "wafer.png": (SHUTTLE, "wafer.html", ""),
     "gamma.png": (SHUTTLE, "gamma.html", ""),
     "signed.png": (SHUTTLE, "signed.html", ""),
@@ -41,11 +45,22 @@ def draw(source, target, key):
         tab.picture(target)
 
 
+def draw_in_klayout(source, target, which):
+    """Writes what a window of KLayout shows of a report; the layout has the report's name."""
+    with tempfile.TemporaryDirectory(prefix="mpw-klayout-") as room:
+        words = {"layout": source.replace(".lyrdb", ".gds"), "report": source}
+        words.update({word: f"{room}/{word}.png" for word in ("window", "browser")})
+        given = [part for word, path in words.items() for part in ("-rd", f"{word}={path}")]
+        environment = {**os.environ, "QT_QPA_PLATFORM": "offscreen"}
+        subprocess.run(["klayout", "-rx", *given, "-rm", f"{HERE}/klayout_window.py"], env=environment, timeout=300, check=False)
+        shutil.copy(words[which], target)
+
+
 def make(folder, name):
     """Makes a picture of the files in this folder. Returns a fault, or nothing."""
     _, source, key = PICTURES[name]
     target = f"{IMAGES}/{name}"
-    draw(f"{folder}/shuttle/{source}", target, key)
+    (draw_in_klayout if source.endswith(".lyrdb") else draw)(f"{folder}/shuttle/{source}", target, key)
     size = os.path.getsize(target)
     print(f"{name}: {size} bytes", flush=True)
     return f"{name} has {size} bytes, and may have {LARGEST}" if size >= LARGEST else None
