@@ -65,12 +65,12 @@ class Names:
 
     def __init__(self, own):
         counts = Counter(own)
-        self.kept = {name for name, count in counts.items() if count == 1 and name != TOP}
-        self.used, self.numbers = self.kept | {TOP}, {}
+        self.single = {name for name, count in counts.items() if count == 1 and name != TOP}
+        self.used, self.numbers = self.single | {TOP}, {}
 
     def name(self, submission, own):
         """The name of a submission's structure."""
-        if own in self.kept:
+        if own in self.single:
             return own
         name = f"{submission.cell}.{submission.version}.{own}"
         if len(name) > LONGEST_NAME or name in self.used:
@@ -94,7 +94,7 @@ def give_names(parts):
 
 
 def top_name(parts, number):
-    """The name of the structure that a submission shows."""
+    """The name of a submission's top."""
     part = parts[number]
     return part.names[part.submission.top]
 

@@ -43,30 +43,30 @@ def tally(keys, waivers):
     return markers, still_open
 
 
-def error_in(told):
+def error_in(printed):
     """What a program says is wrong."""
-    lines = told.decode("ascii", "replace").splitlines()
-    errors = [line for line in lines if line.startswith("error: ")] or lines[-1:] or ["it gives no reason"]
-    return shortened(errors[0], 400)
+    lines = printed.decode("ascii", "replace").splitlines()
+    found = [line for line in lines if line.startswith("error: ")] or lines[-1:] or ["it gives no reason"]
+    return shortened(found[0], 400)
 
 
 def check(program, deck, top, library, waivers):
     """Checks a structure of a library under a deck: how many markers it has, and how many of them have no signed
     waiver. Its cost is that of the check; of the markers none is held."""
-    with tempfile.TemporaryDirectory(prefix="mpw-deck-") as folder, tempfile.TemporaryFile() as told:
+    with tempfile.TemporaryDirectory(prefix="mpw-deck-") as folder, tempfile.TemporaryFile() as errors:
         rules = os.path.join(folder, "deck")
         with open(rules, "wb") as file:
             file.write(deck)
         words = [program, "check", "--deck", rules, "--top", top, library]
         try:
-            process = subprocess.Popen(words, stdin=subprocess.DEVNULL, stdout=subprocess.PIPE, stderr=told)
+            process = subprocess.Popen(words, stdin=subprocess.DEVNULL, stdout=subprocess.PIPE, stderr=errors)
         except OSError as error:
             raise Unchecked(f"{program}: {error.strerror}") from None
         with process:
             counted = counts_of(process, waivers)
         if process.returncode not in (0, 1):
-            told.seek(0)
-            raise Unchecked(f"mpw check ended with status {process.returncode}: {error_in(told.read())}")
+            errors.seek(0)
+            raise Unchecked(f"mpw check ended with status {process.returncode}: {error_in(errors.read())}")
         if isinstance(counted, Unchecked):
             raise counted
         return counted

@@ -1,6 +1,6 @@
 """Reads the structures of GDSII libraries that a desk accepted, and writes them into one library under other names.
 
-The new library has just what the desk looks at, in nm: boundaries, boxes, paths and references. Texts, nodes,
+The new library has the elements that the desk reads, in nm: boundaries, boxes, paths and references. Texts, nodes,
 properties, element flags and the dates of structures are left out. `docs/specification/gdsii.md` has the format.
 """
 import struct
@@ -63,7 +63,7 @@ def records(text, at):
 
 
 def element_records(text, at):
-    """The records of a structure's elements that the desk looks at, and at last its ENDSTR."""
+    """The records of the elements that the desk reads of a structure, and at last its ENDSTR."""
     reading = records(text, at)
     for begin, kind, end in reading:
         if kind in BETWEEN_ELEMENTS:

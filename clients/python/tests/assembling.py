@@ -31,7 +31,7 @@ def keys(run):
 
 
 class WithFolder(unittest.TestCase):
-    """A folder with a program that stands for mpw."""
+    """A folder with a program in the place of mpw."""
 
     def setUp(self):
         self.folder = tempfile.mkdtemp(prefix="mpw-assemble-")

@@ -58,7 +58,7 @@ def turned(reference, orientation):
 
 
 def text_element():
-    """A text in which a record of a name stands, that no desk reads."""
+    """A text that contains a name, which no desk reads."""
     return [Written(0x0C, 0), Written(0x06, 6, b"NOBODY"), Written(0x10, 3, bytes(8)), Written(0x19, 6, b"label!"), Written(0x11, 0)]
 
 
@@ -95,7 +95,7 @@ PLACES = "place seal a M270 -5000 7000", "place pad b R180 0 0", "place chip c R
 
 
 def three_firms(*places):
-    """The shuttle up to its run. The chip shows the first version of the pad, and the seal the second one."""
+    """The shuttle up to its run. The chip refers to the first version of the pad, and the seal to the second one."""
     return b"".join([
         POLICY,
         session("ann", "alpha", with_payload("submit pad TOP", pad(20))),

@@ -109,7 +109,7 @@ class Shuttles(WithShuttle):
         self.assertEqual([it["structure"] for it in manifest["placements"]], ["seal.1.WAFER", "pad.3.TOP", "chip.1.TOP", "pad.3.TOP"])
 
     def test_what_is_written(self):
-        """Only what the desk looks at, of what the tops reach; always the same bytes; for the owner alone."""
+        """Only the elements that the desk reads, of structures that a top reaches; always the same bytes; for the owner alone."""
         self.record_signed()
         self.assemble()
         text = self.library()
@@ -151,7 +151,7 @@ class Shuttles(WithShuttle):
         self.assertEqual(manifest["run"]["waivers"], [{"key": "w:V:0:500:510:0:100", "asker": "carl", "signer": None}])
 
     def test_stale(self):
-        """The draft of a stale run has the placements that the run looked at."""
+        """The draft of a stale run has the placements that the run checked."""
         self.record(shuttles.three_firms(), shuttles.session("carl", "shuttle", "unplace pad b"))
         status, _, told = self.assemble()
         self.assertEqual(status, 1)

@@ -12,7 +12,7 @@ from assembling import WithShuttle, keys
 
 import shuttles
 import stored
-from scripts.written import library, rectangle, single
+from scripts.written import Written, four_bytes, library, rectangle, single, xy
 
 
 class Files(WithShuttle):
@@ -26,7 +26,7 @@ class Files(WithShuttle):
         return found
 
     def test_log(self):
-        """Rows that stand in the log alone count, and neither file changes."""
+        """Rows that only the log has count, and neither file changes."""
         recorder = stored.Recorder()
         recorder.serve(shuttles.three_firms())
         recorder.serve(shuttles.signed(keys(recorder.desk.wafer.run)), 2)
@@ -95,6 +95,7 @@ class Files(WithShuttle):
             "is no change": "UPDATE changes SET line = 'sign w:V:0:0:1:0:1' WHERE line LIKE 'sign %'",
             "row 5 ": "UPDATE changes SET line = 'open' WHERE k = 5",
             "row 9 ": "UPDATE changes SET kind = 4 WHERE k = 9",
+            "row 11 ": "UPDATE changes SET line = 'whoami' WHERE k = 11",
             "has no payload": "UPDATE changes SET payload = NULL WHERE line LIKE 'submit seal%'",
             "isn't whole": "UPDATE changes SET payload = substr(payload, 1, 200) WHERE line LIKE 'submit seal%'",
             "no submission of it": "UPDATE changes SET line = 'submit pod TOP 1' WHERE k = (SELECT min(k) FROM changes WHERE line LIKE 'submit pad%')",
@@ -108,6 +109,20 @@ class Files(WithShuttle):
                 self.assertIn(word, told)
                 self.assertFalse(os.path.exists(self.out))
                 os.unlink(self.store)
+
+
+    def test_too_long(self):
+        """A length that four bytes can't hold in nm; no desk reads this one, since the path has no type."""
+        path = [Written(0x09, 0), Written(0x0D, 2, b"\0\1"), Written(0x0E, 2, b"\0\0"), Written(0x0F, 3, four_bytes(2))]
+        for extension, status in (2**30, 4), (2**28, 0):
+            begin = Written(0x30, 3, four_bytes(extension))
+            text = library({"TOP": [[*path, begin, xy((0, 0), (5, 0)), Written(0x11, 0)]]}, 2)
+            grants = "".join(f"grant {operation} pad officer\n" for operation in ("submit", "place"))
+            lines = f"open root abc\nactivate officer\n{grants}".encode()
+            self.record(lines + shuttles.with_payload("submit pad TOP", text) + b"place pad a R0 0 0\n")
+            found, _, told = self.assemble("--draft")
+            self.assertEqual((found, "TOP: a length doesn't fit into four bytes in nm" in told), (status, status == 4))
+            os.unlink(self.store)
 
 
 class Checks(WithShuttle):

@@ -62,7 +62,7 @@ class Carried(WithFiles):
             file.write(text)
 
     def test_lines(self):
-        """The first run's waivers, of which one is signed, are asked for again where the second run finds their markers."""
+        """The first run has two waivers, one of them signed. They are asked for again if the second run finds their markers."""
         with self.desk() as desk, self.desk("dora", "sign", "read") as signer:
             for key in LOW, HIGH:
                 desk.waive(key)
@@ -80,7 +80,7 @@ class Carried(WithFiles):
         self.assertEqual((status, printed.splitlines()[-1], told), (0, f"# signed: {LOW} by dora", ""))
 
     def test_with_lines(self):
-        """Behind a run on the same command line, and with a listing of markers."""
+        """After a run on the same command line, and with a listing of markers."""
         self.write(f"OK 2\n{LOW} pad\n{HIGH} pad\nmasked w 3\n\n# a comment\nsign {NEW}\n")
         status, printed, _ = self.carry("--wait", "run")
         lines = ["OK 1", "run 2", "# 2 found again, 1 gone, 0 new", f"# gone: {NEW}"]

@@ -1,4 +1,4 @@
-"""The commands of README.md on waivers after a run, listings and the wafer: each is run, and prints what stands there."""
+"""The commands of README.md on waivers after a run, listings and the wafer: the test runs each, and compares what it prints."""
 import os
 import shutil
 import subprocess
