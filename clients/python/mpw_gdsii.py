@@ -184,9 +184,12 @@ class Orientation:
     def note(self, kind, data):
         """Notes what a record says. A magnification is always 1."""
         if kind == STRANS:
-            self.is_mirrored = data[0] & 0x80 != 0
+            self.is_mirrored = data[:1] >= b"\x80"
         elif kind == ANGLE:
-            self.degrees = (sixteenths(data) >> 312) % 360
+            degrees, rest = divmod(sixteenths(data), 1 << 312)
+            self.degrees = degrees % 360
+            if rest or self.degrees % 90:
+                raise GdsiiFault("no library: an angle isn't a multiple of 90 degrees")
 
     def records(self):
         """The records of the orientation; the next element has none at first."""
