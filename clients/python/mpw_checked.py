@@ -7,6 +7,7 @@ waiver of the run has to be of one of them: this would show a library that isn't
 import os
 import re
 import subprocess
+import sys
 import tempfile
 
 from mpw_desk import BadWord, Key, shortened
@@ -43,11 +44,23 @@ def tally(keys, waivers):
     return markers, still_open
 
 
-def error_in(printed):
+def lines_of(file):
+    """The lines that a program wrote into a file."""
+    file.seek(0)
+    return file.read().decode("ascii", "replace").splitlines()
+
+
+def error_in(lines):
     """What a program says is wrong."""
-    lines = printed.decode("ascii", "replace").splitlines()
     found = [line for line in lines if line.startswith("error: ")] or lines[-1:] or ["it gives no reason"]
     return shortened(found[0], 400)
+
+
+def show_notes(lines):
+    """Shows which program ran: `./mpw` says so if it isn't the proved one."""
+    for line in lines:
+        if line.startswith("mpw: "):
+            print(shortened(line, 400), file=sys.stderr)
 
 
 def check(program, deck, top, library, waivers):
@@ -64,9 +77,10 @@ def check(program, deck, top, library, waivers):
             raise Unchecked(f"{program}: {error.strerror}") from None
         with process:
             counted = counts_of(process, waivers)
+        lines = lines_of(errors)
+        show_notes(lines)
         if process.returncode not in (0, 1):
-            errors.seek(0)
-            raise Unchecked(f"mpw check ended with status {process.returncode}: {error_in(errors.read())}")
+            raise Unchecked(f"mpw check ended with status {process.returncode}: {error_in(lines)}")
         if isinstance(counted, Unchecked):
             raise counted
         return counted

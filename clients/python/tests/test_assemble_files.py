@@ -139,6 +139,14 @@ class Checks(WithShuttle):
         self.assertEqual(self.assemble("--draft")[0], 0)
         self.assertEqual((self.manifest()["verdict"], self.manifest()["draft"]), ("unknown", True))
 
+    def test_unproved(self):
+        """What ./mpw says of the program that runs is shown."""
+        found = self.record_signed()
+        listing = "".join(f"echo {key} WAFER; " for key in found)
+        self.replace_program(f"echo 'mpw: not built yet' >&2; echo 3 shapes >&2; echo OK 3; {listing}exit 1")
+        status, _, told = self.assemble()
+        self.assertEqual((status, told), (0, "mpw: not built yet\n"))
+
     def test_other_listings(self):
         found = self.record_signed()
         listings = {
