@@ -137,7 +137,8 @@ class Wafers(WithShuttle):
 
     def test_example(self):
         replies = replies_in(serve(self.store, shuttles.large_shuttle()))
-        found = [line.split(" ")[0] for line in max(replies[-30:-20], key=len)]
+        in_full = [reply for reply in replies if reply and all(":" in line.split(" ")[0] for line in reply)]
+        found = [line.split(" ")[0] for line in in_full[-1]]
         status, _, told = self.assemble()
         self.assertEqual((status, told), (0, ""))
         self.assertEqual((self.checked(self.manifest()), len(found)), (found, 5))
