@@ -2,7 +2,7 @@
 //! serves connections that share a desk.
 #![tactic(auto)]
 
-use mpw_core::Core;
+use mpw_core::{Core, MAX_EVENTS};
 use mpw_serve::{Executor, TerminalLine, command_line, print_help, run_script, tell};
 use mpw_server::run as run_service;
 use mpw_settings::{Script, Settings};
@@ -36,7 +36,13 @@ fn script(rt: &HostRuntime, threads: &(impl Threads + Sync), script: Script) -> 
 fn main(rt: HostRuntime) -> ExitCode {
     match command_line(&rt) {
         Ok(Settings::Script(asked)) => script(&rt, &rt, asked),
-        Ok(Settings::Serve(service)) => run_service(&rt, &rt, &service, TerminalLine::new(&rt)),
+        Ok(Settings::Serve(service)) => run_service::<Core, _, _>(
+            &rt,
+            &rt,
+            &service,
+            MAX_EVENTS,
+            TerminalLine::new(&rt),
+        ),
         Ok(Settings::Help(text)) => print_help(&rt, text.as_str()),
         Err(fault) => tell(&rt, &fault),
     }

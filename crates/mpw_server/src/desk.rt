@@ -1,19 +1,19 @@
-//! The desk of a service with what keeps its changes: how it begins, and how it comes back.
+//! The desk of a service with the keeper of its changes: how it begins, and how it comes back.
 ghost use Rattle.std.specs.Prelude.{◌≡◌, ◌↔◌, ◌+◌, None, IfErr, IfOk, IsSome, length};
 ghost use Rattle.mpw_events.specs.History.{kept_desk, new_desk};
 ghost use Rattle.mpw_keeper.specs.Kept.{failures_of, kept_by};
 ghost use Rattle.mpw_reopen.specs.Reopening.{IsIdle};
 ghost use Rattle.mpw_restoring.specs.Sessions.{greatest_connection};
-ghost use Rattle.mpw_server.specs.Stored.{BeginsOver, ComesBack, Leaves};
+ghost use Rattle.mpw_server.specs.Stored.{BeginsOver, ComesBack};
 ghost use Rattle.mpw_stored_script.specs.Serving.{IsUnopened};
 ghost use Rattle.sqlite.specs.Held.{state};
 ghost use Rattle.sqlite.specs.State.{HasCleanDisk};
 
-use mpw_desk::{Mismatch, Pass, Room, Shared};
 use mpw_events::Handler;
 use mpw_keeper::{OptionalKeeper, StoreKeeper};
 use mpw_reopen::{Reopened, reopen};
 use mpw_serve::{Executor, Progress};
+use mpw_service::Begun;
 use mpw_settings::Officer;
 use mpw_store::StoreFault;
 use mpw_store_file::FileFault;
@@ -22,36 +22,25 @@ use sqlite::{Alter, Connection};
 use std::alloc::{AllocError, Global};
 use std::thread::Threads;
 
-/// A desk that is about to be shared.
-#[derive(Drop)]
-pub(crate) struct Begun<S: Alter + Drop, H: Handler + Drop> {
-    /// The desk.
-    pub(crate) core: Box<H>,
-    /// What keeps its changes.
-    pub(crate) keeper: OptionalKeeper<S>,
-    /// The number of its first connection or worker.
-    pub(crate) first: u32,
-}
-
 /// What is left of a desk that was shared.
 #[derive(Drop)]
 pub(crate) struct Left<S: Alter + Drop> {
     /// How many calls it has.
     pub(crate) calls: usize,
-    /// Its store, where it has one.
+    /// Its store, if it has one.
     pub(crate) store: Option<Connection<S>>,
-    /// Why the first change that could not be kept could not.
+    /// Why the first change that could not be stored could not.
     pub(crate) fault: Option<StoreFault>,
 }
 
-/// A new desk of the officer, of which nothing is kept.
+/// A new desk of the officer, whose changes are not stored.
 ///
 /// # Errors
-/// Where there is no room for it.
+/// If there is no room for it.
 pub(crate) fn begin_new<S: Alter + Drop, H: Handler + Drop>(
     alloc: Global,
     officer: Officer,
-) -> Result<Begun<S, H>, AllocError>
+) -> Result<Begun<H, OptionalKeeper<S>>, AllocError>
     ensures desk { IfOk result (λ begun. H.desk begun.core.value ≡ new_desk officer.name officer.digest) }
     ensures keeper { IfOk result (λ begun. begun.keeper ≡ None) }
     ensures first { IfOk result (λ begun. begun.first ≡ 1) }
@@ -66,15 +55,15 @@ pub(crate) fn begin_new<S: Alter + Drop, H: Handler + Drop>(
     })
 }
 
-/// The desk that the rows of a store lead to, whose changes are kept there. Runs that became finished are worked off again, by the executor.
+/// The desk that the rows of a store lead to, whose changes are stored there. The executor executes again the runs that were finished.
 ///
 /// # Errors
-/// Where the rows lead to no desk, or no number is left for a connection; the store is given back.
+/// If the rows lead to no desk, or no number is left for a connection. The store is returned.
 pub(crate) fn begin_over<S, H, T, P>(
     executor: Executor<'_, T, P>,
     conn: Connection<S>,
     officer: Officer,
-) -> Result<Begun<S, H>, (StoredFault, Connection<S>)>
+) -> Result<Begun<H, OptionalKeeper<S>>, (StoredFault, Connection<S>)>
 where
     S: Alter + Drop,
     H: Handler + Drop,
@@ -114,7 +103,7 @@ where
     }
 }
 
-/// The store of a keeper, where there is one, and why the first change that could not be kept could not.
+/// The store of a keeper, if there is one, and why the first change that could not be stored could not.
 pub(crate) fn parts_of<S: Alter + Drop>(
     keeper: OptionalKeeper<S>,
 ) -> (Option<Connection<S>>, Option<StoreFault>)
@@ -131,7 +120,9 @@ pub(crate) fn parts_of<S: Alter + Drop>(
 }
 
 /// What is left of a desk with its keeper.
-fn left_of<S: Alter + Drop, H: Handler + Drop>(desk: (Box<H>, OptionalKeeper<S>)) -> Left<S>
+pub(crate) fn left_of<S: Alter + Drop, H: Handler + Drop>(
+    desk: (Box<H>, OptionalKeeper<S>),
+) -> Left<S>
     ensures calls { result.calls ≡ length (H.desk desk.0.value).history }
     ensures told { (result.fault ≡ None) ↔ (failures_of desk.1 ≡ 0) }
     ensures comes { ComesBack result.store (λ conn. state S.Store conn) (kept_by desk.1) result.fault }
@@ -144,25 +135,5 @@ fn left_of<S: Alter + Drop, H: Handler + Drop>(desk: (Box<H>, OptionalKeeper<S>)
         calls,
         store,
         fault,
-    }
-}
-
-/// What is left of a desk that was shared, where these passes made all its calls since then.
-///
-/// # Errors
-/// Where they made another number of calls.
-pub(crate) fn finish<S, H, N>(
-    shared: Shared<H, OptionalKeeper<S>, N>,
-    passes: Vec<Pass<N>>,
-) -> Result<Left<S>, Mismatch>
-where
-    S: Alter + Drop,
-    H: Handler + Drop,
-    N: Room,
-    ensures { IfOk result (λ left. Leaves N.begun left.calls left.fault (ComesBack left.store (λ conn. state S.Store conn))) }
-{
-    match shared.finish(passes) {
-        Ok(back) => Ok(left_of(back)),
-        Err(mismatch) => Err(mismatch),
     }
 }

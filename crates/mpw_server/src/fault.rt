@@ -1,55 +1,18 @@
-//! Why a service ends early.
+//! Why a service doesn't end well, and the exit status.
 ghost use Rattle.std.specs.Prelude.{◌≡◌};
-ghost use Rattle.mpw_server.specs.Status.{exit_of, status_of, status_of_serving};
-ghost use Rattle.mpw_server.specs.declared.fault.ServeFault.TheVariants.{Memory};
+ghost use Rattle.mpw_server.specs.Status.{exit_of, status_of};
 ghost use Rattle.mpw_server.specs.declared.fault.ServiceFault.TheVariants as service;
 
 use mpw_desk::Mismatch;
+use mpw_service::ServeFault;
 use mpw_stored_script::StoredFault;
 use std::alloc::AllocError;
 use thiserror::Error;
 
-/// Why connections are served no further. All threads were joined.
-#[derive(Clone, Copy, PartialEq, Eq, Debug, Error)]
-pub enum ServeFault {
-    /// A connection can't be accepted.
-    #[error("a connection can't be accepted")]
-    Accept,
-    /// No pass is left for a connection or a worker.
-    #[error("no pass is left")]
-    Full,
-    /// A thread can't be started.
-    #[error("a thread can't be started")]
-    Thread,
-    /// There is no room for the lists of threads, connections or passes.
-    #[error("out of memory")]
-    Memory,
-}
-
-impl From<AllocError> for ServeFault {
-    ghost from_gives = { λ _ fault. fault ≡ Memory };
-
-    fn from(_error: AllocError) -> ServeFault {
-        ServeFault::Memory
-    }
-}
-
-impl ServeFault {
-    /// The exit status: 3 where a connection can't be accepted or no pass is left, 5 where a thread or memory is wanting.
-    fn status(self) -> u8
-        ensures { result ≡ status_of_serving self }
-    {
-        match self {
-            ServeFault::Accept | ServeFault::Full => 3,
-            ServeFault::Thread | ServeFault::Memory => 5,
-        }
-    }
-}
-
-/// Why a service doesn't end well. That a change could not be kept is told before each other fault; the others stand in the order in which they are found.
+/// Why a service doesn't end well. That a change could not be stored comes before each other fault. The others are in the order in which they are found.
 #[derive(Clone, Copy, Debug, Error)]
 pub enum ServiceFault {
-    /// The store isn't opened, its rows lead to no desk, or a change could not be kept, which closed the desk.
+    /// The store can't be opened, its rows lead to no desk, or a change could not be stored, which closed the desk.
     #[error("{0}")]
     Store(StoredFault),
     /// There is no room for the new desk.
@@ -105,8 +68,8 @@ impl From<Mismatch> for ServiceFault {
 }
 
 impl ServiceFault {
-    /// The exit status: 3 where a store or a device failed, the address can't be bound, a connection can't be accepted or no pass is left; 4 where the passes
-    /// don't account for every call; 5 where memory or a thread is wanting.
+    /// The exit status: 3 if a store or a device failed, the address can't be bound, a connection can't be accepted or no pass is left; 4 if the passes
+    /// don't account for every call; 5 if a thread can't be started or memory runs out.
     pub fn status(self) -> u8
         ensures { result ≡ status_of self }
     {
@@ -120,7 +83,7 @@ impl ServiceFault {
     }
 }
 
-/// The exit status of a service by how it ended: 0 where it told its calls, and else the fault's.
+/// The exit status of a service by how it ended: 0 if it printed its calls, and else the fault's.
 pub(crate) fn exit_status(ended: &Result<(), ServiceFault>) -> u8
     ensures { result ≡ exit_of ended.now }
 {

@@ -4,8 +4,8 @@ ghost use Rattle.sqlite.specs.Held.{state};
 
 use sqlite::{Alter, Connection};
 
-/// Of a store before a service and after it, where the service gave it back, whatever the store is: its rows tell, in order, the changes that it had, with the ends of
-/// the sessions that were open, and then those that the service's calls had kept; while the disk is clean and the database is open.
+/// Any store, before a service and after it, if the service returned it: while the disk is clean and the database is open, its rows list, in order, the changes
+/// that it had, the ends of the sessions that were open, and the changes that the service's calls had stored.
 pub fn services_store_their_changes<S: Alter>(_before: &Connection<S>, _after: &Connection<S>)
     ensures { StoresItsChanges (state S.Store _before.now) (state S.Store _after.now) }
 {}

@@ -1,24 +1,20 @@
-//! The desk on a socket: connections and workers in threads over one shared desk.
+//! The program `mpw serve`: a desk on a socket, which may be the desk of a store.
 //!
-//! One thread accepts connections, and as many threads as there may be connections at once serve them, one after the other; workers
-//! work runs off meanwhile. Each connection and each worker has a pass of the desk, and all passes come back at the end, so that
-//! [`mpw_desk::Shared::finish`] can compare what they counted with the desk's history. Where a store is named, its rows lead to the desk that is shared, and
-//! each accepted change is stored under the desk's lock, before its reply is written.
+//! The threads of a service are in `mpw_service`, over any core and any keeper. Here a desk is made for them: a new one, or the one that the rows of a store
+//! lead to. Each accepted change is then stored under the desk's lock, before its reply is written. At the end the store comes back, with the reason if
+//! a change could not be stored.
+//!
+//! The core is a type parameter in this crate, and the store is one in all but `program.rt`, which opens and closes its file. So a check of this crate
+//! needs no core.
 #![tactic(auto)]
 
-mod arrival;
 mod desk;
 mod fault;
 mod laws;
-mod log;
 mod opening;
 mod program;
-mod reception;
-mod scribe;
-mod service;
+mod serving;
 
-pub use fault::{ServeFault, ServiceFault};
+pub use fault::ServiceFault;
 pub use laws::services_store_their_changes;
-pub use log::Log;
 pub use program::run;
-pub use service::{Gathered, Opening, ServedFile, ServedKeeper, Staff, serve};

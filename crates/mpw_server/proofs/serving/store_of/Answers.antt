@@ -1,9 +1,9 @@
 use Rattle.mpw_keeper.specs.Kept.{failures_of, kept_by}
 use Rattle.mpw_server.proofs.StoredLemmas.{ends_unshared}
-use Rattle.mpw_server.proofs.program.store_of.Goals as goal
+use Rattle.mpw_server.proofs.serving.store_of.Goals as goal
 
 pub returns : goal.returns
-returns c = λ fault.
-    ends_unshared c.args.begun.core.value (kept_by c.args.begun.keeper)
+returns g c = λ fault.
+    ends_unshared (g.H.Handler.desk c.args.begun.core.value) (kept_by c.args.begun.keeper)
     (failures_of c.args.begun.keeper) c.parts_of.result.1 _ fault c.requires c.parts_of.ensures.told
     c.parts_of.ensures.comes

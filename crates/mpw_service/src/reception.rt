@@ -1,39 +1,52 @@
-//! Where connections that were accepted wait for a thread that serves them.
+//! Hands connections that were accepted to threads that serve them.
+//!
+//! What an accepted connection is, is a type parameter: so the types of a desk's calls, which its pass leads to, don't count in the proofs of this file.
 
-use crate::arrival::Arrival;
 use crate::fault::ServeFault;
 use crate::service::Staff;
-use mpw_desk::{Pass, Room};
 use std::alloc::{AllocError, Global};
+use std::io;
 use std::net::{Net, Shutdown, SocketAddr, TcpStream};
 use std::sync::{Condvar, Mutex, Wait};
 
-/// A connection that is being served, by a second handle of its socket.
+/// A connection that was accepted.
+pub(crate) trait Guest {
+    /// The number of the connection.
+    fn connection(&self) -> u32;
+
+    /// Another handle of its socket.
+    ///
+    /// # Errors
+    /// If the system has none.
+    fn second_handle(&self) -> io::Result<TcpStream>;
+}
+
+/// A connection that is being served, with a second handle of its socket.
 #[derive(Drop)]
 struct Open {
     connection: u32,
     stream: TcpStream,
 }
 
-/// What the thread that accepts and those that serve tell each other.
-struct Waiting<N: Room> {
-    /// A connection that no thread has taken.
-    arrival: Option<Arrival<N>>,
+/// What the thread that accepts and those that serve share.
+struct Waiting<A: Guest + Drop> {
+    /// A connection that no thread has taken yet.
+    arrival: Option<A>,
     /// How many threads wait for one.
     free: u32,
     /// How many threads have begun.
     begun: u32,
     /// How many of those that serve have ended.
     left: usize,
-    /// Nothing arrives any more.
+    /// Whether nothing arrives any more.
     is_closed: bool,
-    /// What a thread lacked.
+    /// What a thread lacked, if one lacked something.
     fault: Option<ServeFault>,
     /// The connections that are served.
     open: Vec<Open>,
 }
 
-impl<N: Room> Drop for Waiting<N> {
+impl<A: Guest + Drop> Drop for Waiting<A> {
     fn drop(self) {
         let Waiting {
             arrival,
@@ -50,18 +63,18 @@ impl<N: Room> Drop for Waiting<N> {
 }
 
 /// Hands each connection that was accepted to a thread that is free.
-pub(crate) struct Reception<N: Room> {
-    waiting: Mutex<Waiting<N>>,
+pub(crate) struct Reception<A: Guest + Drop> {
+    waiting: Mutex<Waiting<A>>,
     changed: Condvar,
-    /// Where connections are accepted.
+    /// The address at which connections are accepted.
     address: SocketAddr,
-    /// How many workers work runs off.
+    /// How many workers execute runs.
     workers: u32,
     /// How many calls the desk answers in its life.
     calls: usize,
 }
 
-impl<N: Room> Drop for Reception<N> {
+impl<A: Guest + Drop> Drop for Reception<A> {
     fn drop(self) {
         let Reception {
             waiting,
@@ -75,9 +88,9 @@ impl<N: Room> Drop for Reception<N> {
     }
 }
 
-impl<N: Room> Waiting<N> {
-    /// Notes that the connection is served, so that it can be shut; it can't be where its socket gives no second handle.
-    fn note_open(&mut self, arrival: &Arrival<N>) {
+impl<A: Guest + Drop> Waiting<A> {
+    /// Notes that the connection is served, so that it can be shut. It can't be shut if its socket has no second handle.
+    fn note_open(&mut self, arrival: &A) {
         if let Ok(stream) = arrival.second_handle() {
             let connection = arrival.connection();
             let _ = self.open.push(Open { connection, stream });
@@ -89,7 +102,7 @@ impl<N: Room> Waiting<N> {
         self.open.retain(|open| open.connection != connection);
     }
 
-    /// Ends all connections that are served: their clients are answered no more.
+    /// Ends all connections that are served: their clients get no more answers.
     fn shut_all(&self) {
         for open in &self.open {
             let _ = open.stream.shutdown(Shutdown::Both);
@@ -97,16 +110,16 @@ impl<N: Room> Waiting<N> {
     }
 }
 
-impl<N: Room> Reception<N> {
-    /// Of a socket that is bound there, for as many connections at once as are served.
+impl<A: Guest + Drop> Reception<A> {
+    /// The reception of a socket that is bound to the address, for as many connections at once as are served.
     ///
     /// # Errors
-    /// Where there is no room for them.
+    /// If there is no room for them.
     pub(crate) fn new(
         alloc: Global,
         address: SocketAddr,
         staff: Staff,
-    ) -> Result<Reception<N>, AllocError> {
+    ) -> Result<Reception<A>, AllocError> {
         let open = Vec::with_capacity(alloc, staff.connections as usize)?;
         Ok(Reception {
             waiting: Mutex::new(Waiting {
@@ -130,14 +143,14 @@ impl<N: Room> Reception<N> {
         self.calls
     }
 
-    /// Notes that a thread has begun, and tells whether it works runs off: the first that come do.
+    /// Notes that a thread has begun, and returns whether it is a worker: the first that come are.
     pub(crate) fn is_worker<R: Wait>(&self, rt: &R) -> bool {
         let mut waiting = self.waiting.lock(rt);
         waiting.begun = waiting.begun.saturating_add(1);
         waiting.begun <= self.workers
     }
 
-    /// Notes that a thread serves no more.
+    /// Notes that a thread serves no more connections.
     pub(crate) fn leave<R: Wait>(&self, rt: &R) {
         let mut waiting = self.waiting.lock(rt);
         waiting.left = waiting.left.saturating_add(1);
@@ -145,7 +158,7 @@ impl<N: Room> Reception<N> {
         self.changed.notify_all();
     }
 
-    /// Waits until of so many threads all but the workers have ended.
+    /// Waits until all of so many threads but the workers have ended.
     pub(crate) fn wait_for_all<R: Wait>(&self, rt: &R, threads: usize) {
         let serving = threads.saturating_sub(self.workers as usize);
         let mut waiting = self.waiting.lock(rt);
@@ -157,7 +170,7 @@ impl<N: Room> Reception<N> {
         }
     }
 
-    /// Waits until a thread is free; it tells whether a connection may still arrive.
+    /// Waits until a thread is free, and returns whether a connection may still arrive.
     pub(crate) fn is_awaited<R: Wait>(&self, rt: &R) -> bool {
         let mut waiting = self.waiting.lock(rt);
         for _ in rt.forever() {
@@ -173,7 +186,7 @@ impl<N: Room> Reception<N> {
     }
 
     /// Hands over a connection that was accepted.
-    pub(crate) fn hand_over<R: Wait>(&self, rt: &R, arrival: Arrival<N>) {
+    pub(crate) fn hand_over<R: Wait>(&self, rt: &R, arrival: A) {
         let mut waiting = self.waiting.lock(rt);
         waiting.note_open(&arrival);
         waiting.arrival = Some(arrival);
@@ -181,8 +194,8 @@ impl<N: Room> Reception<N> {
         self.changed.notify_all();
     }
 
-    /// Takes the next connection; none where none arrives any more. It waits for one.
-    pub(crate) fn next<R: Wait>(&self, rt: &R) -> Option<Arrival<N>> {
+    /// Waits for the next connection, and takes it. There is none if none arrives any more.
+    pub(crate) fn next<R: Wait>(&self, rt: &R) -> Option<A> {
         let mut waiting = self.waiting.lock(rt);
         waiting.free = waiting.free.saturating_add(1);
         self.changed.notify_all();
@@ -204,13 +217,13 @@ impl<N: Room> Reception<N> {
         self.waiting.lock(rt).forget(connection);
     }
 
-    /// Nothing arrives any more. The connections that are served go on.
+    /// Lets nothing arrive any more. The connections that are served go on.
     pub(crate) fn close<R: Wait>(&self, rt: &R) {
         self.waiting.lock(rt).is_closed = true;
         self.changed.notify_all();
     }
 
-    /// Nothing arrives any more, and the connections that are served are ended.
+    /// Lets nothing arrive any more, and ends the connections that are served.
     pub(crate) fn shut<R: Wait>(&self, rt: &R) {
         let mut waiting = self.waiting.lock(rt);
         waiting.is_closed = true;
@@ -219,7 +232,7 @@ impl<N: Room> Reception<N> {
         self.changed.notify_all();
     }
 
-    /// The same, told by a thread that serves: the one that accepts is woken by a connection of the thread's own, which is not served.
+    /// Does the same for a thread that serves. It wakes the thread that accepts by a connection of its own, which is not served.
     pub(crate) fn end<R: Wait + Net>(&self, rt: &R, fault: Option<ServeFault>) {
         let mut waiting = self.waiting.lock(rt);
         waiting.is_closed = true;
@@ -237,7 +250,7 @@ impl<N: Room> Reception<N> {
         self.waiting.lock(rt).is_closed
     }
 
-    /// How the service ended, as its threads tell it: what one of them lacked, or memory, where there was no room for all passes.
+    /// How the service ended: with what one of its threads lacked, or out of memory if there was no room for all passes.
     pub(crate) fn outcome<R: Wait>(&self, rt: &R, has_all_passes: bool) -> Result<(), ServeFault> {
         match self.waiting.lock(rt).fault {
             Some(fault) => Err(fault),

@@ -1,6 +1,7 @@
-//! A connection from the time when it was accepted until it ends.
+//! A connection from when it was accepted until it ends.
 
 use crate::log::{Log, Peer};
+use crate::reception::Guest;
 use crate::scribe::{Asks, Scribe, Tally};
 use mpw_desk::{Caller, Pass, Room, Shared, serve_caller};
 use mpw_events::{Handler, Keeper};
@@ -11,7 +12,7 @@ use std::net::TcpStream;
 use std::sync::Wait;
 use std::time::{Clock, Duration};
 
-/// How long a client may take nothing of what is written to it, in seconds.
+/// How long a client may read nothing of what is written to it, in seconds.
 const STALLED: u64 = 60;
 
 /// A connection that was accepted, with its pass.
@@ -28,34 +29,31 @@ impl<N: Room> Drop for Arrival<N> {
     }
 }
 
-/// Has a reply sent at once, and a client that sends or takes nothing for so long end its connection.
+/// Lets each reply be sent at once, and ends the connection of a client that sends nothing for `idle`, or reads nothing for [`STALLED`] seconds.
 fn set_limits(stream: &TcpStream, idle: Duration) -> io::Result<()> {
     stream.set_nodelay(true)?;
     stream.set_read_timeout(Some(idle))?;
     stream.set_write_timeout(Some(Duration::from_secs(STALLED)))
 }
 
-impl<N: Room> Arrival<N> {
-    /// A connection with its pass. It ends where its client sends nothing for so long.
-    ///
-    /// # Errors
-    /// Where the system refuses a time limit.
-    pub(crate) fn new(stream: TcpStream, pass: Pass<N>, idle: Duration) -> io::Result<Arrival<N>> {
-        set_limits(&stream, idle)?;
-        Ok(Arrival { stream, pass })
-    }
-
-    /// The number of the connection.
-    pub(crate) fn connection(&self) -> u32 {
+impl<N: Room> Guest for Arrival<N> {
+    fn connection(&self) -> u32 {
         self.pass.connection()
     }
 
-    /// Another handle of its socket.
+    fn second_handle(&self) -> io::Result<TcpStream> {
+        self.stream.try_clone()
+    }
+}
+
+impl<N: Room> Arrival<N> {
+    /// A connection with its pass. It ends if its client sends nothing for so long.
     ///
     /// # Errors
-    /// Where the system has none.
-    pub(crate) fn second_handle(&self) -> io::Result<TcpStream> {
-        self.stream.try_clone()
+    /// If the system refuses a time limit.
+    pub(crate) fn new(stream: TcpStream, pass: Pass<N>, idle: Duration) -> io::Result<Arrival<N>> {
+        set_limits(&stream, idle)?;
+        Ok(Arrival { stream, pass })
     }
 
     /// The connection, as the log names it.
@@ -66,8 +64,8 @@ impl<N: Room> Arrival<N> {
         }
     }
 
-    /// Serves the connection until it ends, closes it, and gives its pass back with whether it was told that the desk is closed. Where there is no room
-    /// for its buffers it is closed at once.
+    /// Serves the connection until it ends, and closes it. It returns its pass, and whether it was answered that the desk is closed. If there is no room
+    /// for its buffers, the connection is closed at once.
     pub(crate) fn serve<H: Handler + Drop, K: Keeper + Drop, R: Wait + Clock>(
         self,
         rt: &R,
@@ -92,7 +90,7 @@ impl<N: Room> Arrival<N> {
     }
 }
 
-/// Serves a connection, which is taken down meanwhile.
+/// Serves a connection, while the scribe logs it.
 fn serve_taken_down<H, K, N, R>(
     rt: &R,
     alloc: Global,

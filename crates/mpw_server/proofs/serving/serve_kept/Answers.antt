@@ -1,12 +1,12 @@
 use Rattle.mpw_events.specs.History.{kept_desk}
 use Rattle.mpw_keeper.specs.Kept.{failures_of, kept_by}
-use Rattle.mpw_server.proofs.desk.finish.Goals as goal
+use Rattle.mpw_server.proofs.serving.serve_kept.Goals as goal
 
 pub returns-in-Ok : goal.returns-in-Ok
 returns-in-Ok g c = record {
-  left = kept_desk (g.H.Handler.desk c.in-Ok.back.0.value) (kept_by c.in-Ok.back.1)
-      (failures_of c.in-Ok.back.1);
-  goes = c.in-Ok.ensures.goes;
+  left = kept_desk (g.H.Handler.desk c.in-Ok.desk.0.value) (kept_by c.in-Ok.desk.1)
+      (failures_of c.in-Ok.desk.1);
+  goes = c.in-Ok.ensures;
   counted = c.left_of.ensures.calls;
   told = c.left_of.ensures.told;
   comes = c.left_of.ensures.comes;

@@ -1,0 +1,19 @@
+//! The threads of a service: connections of a socket and workers over one shared desk.
+//!
+//! One thread accepts connections. As many threads as there may be connections at once serve them, one after the other, and workers execute runs
+//! meanwhile. Each connection and each worker has a pass of the desk. All passes come back at the end, so that [`mpw_desk::Shared::finish`] can
+//! compare what they counted with the desk's history. The log gets a line for each connection and for each request.
+//!
+//! The desk's core and its keeper are type parameters here, so this crate needs no core, no store and no file.
+#![tactic(auto)]
+
+mod arrival;
+mod fault;
+mod log;
+mod reception;
+mod scribe;
+mod service;
+
+pub use fault::ServeFault;
+pub use log::Log;
+pub use service::{Begun, Gathered, Opening, Staff, serve, serve_desk};
