@@ -8,7 +8,6 @@
                                beside its files (choices.py)
   examples/check.py --desk     then also NAME.txt by mpw script, for each NAME.replies, and what
                                the commands tell of themselves (words.py) and keep in a store (stores.py),
-                               and what the commands of the README and the tutorials print (pages.py)
 
 The exit status is 0 where all are the same, else 1. A program that isn't built is proved and built
 first.
@@ -21,7 +20,6 @@ import sys
 
 import choices
 import outputs
-import pages
 import stores
 import words as told_words
 
@@ -92,7 +90,7 @@ def main(words):
     for kind, run in kinds:
         for path in sorted(glob.glob(os.path.join(HERE, f"*.{kind}"))):
             told.append(is_same(path, run))
-    cases = {**outputs.CASES, **choices.CASES, **({**told_words.CASES, **stores.CASES, **pages.CASES} if words else {})}
+    cases = {**outputs.CASES, **choices.CASES, **({**told_words.CASES, **stores.CASES} if words else {})}
     told += [is_as_expected(name, case) for name, case in cases.items()]
     return 0 if told and all(told) else 1
 

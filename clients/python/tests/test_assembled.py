@@ -106,6 +106,7 @@ class Stores(WithShuttle):
         return keys(recorder.desk.wafer.run)
 
 
+@unittest.skipUnless(os.environ.get("MPW_TRY_ALL"), "it takes minutes: MPW_TRY_ALL=1 runs it")
 @unittest.skipUnless(os.access(MPW, os.X_OK) and os.access(CHECK, os.X_OK), f"{MPW} or {CHECK} isn't built")
 class Wafers(WithShuttle):
     """The desk and `mpw check` are the programs: a check of what is written lists just the desk's markers."""

@@ -102,6 +102,7 @@ class Commands(unittest.TestCase):
         (line,), expected, _ = blocks_of("The wafer as GDSII")
         self.assertEqual(self.run_line(line).splitlines(), expected)
 
+    @unittest.skipUnless(os.environ.get("MPW_TRY_ALL"), "MPW_TRY_ALL=1 runs it")
     @unittest.skipUnless(all(os.access(path, os.X_OK) for path in NEEDED), f"{' or '.join(NEEDED)} isn't built")
     def test_checking_again(self):
         (line,), _, (trail, check) = blocks_of("The wafer as GDSII")
