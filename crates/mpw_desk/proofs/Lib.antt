@@ -1,6 +1,12 @@
 pub mod Adding
+pub mod Answering
+pub mod Coming
+pub mod Endings
 pub mod Growing
+pub mod Hinting
 pub mod Locking
+pub mod Numbering
+pub mod Parting
 pub mod Receiving
 pub mod Sums
 pub mod Working

@@ -1,17 +1,14 @@
 -- The receipts of a connection that is served over a pass.
-use Rattle.std.proofs.Common.{◌≡◌, ◌∙◌, ◌+◌, ℕ, Bool, true, false, List, [], ◌∷◌, ◌++◌, length, length-append, Option, refl, sym, ap, subst, inl, inr, ⊎_elim, append_assoc, append-nil, arith}
-use Rattle.std.specs.Prelude.{◌⊎◌}
+use Rattle.std.proofs.Common.{◌≡◌, ◌∙◌, ℕ, Bool, List, [], ◌∷◌, ◌++◌, length-append, Option, refl, sym, ap, subst, ⊎_elim, append_assoc, append-nil, arith}
 use Rattle.mpw_requests.specs.declared.request.Request.{Request}
 use Rattle.mpw_events.specs.declared.event.Call.{Call}
-use Rattle.mpw_events.specs.declared.event.Event.{Event}
 use Rattle.mpw_events.specs.declared.event.Event.TheVariants as event
 use Rattle.mpw_events.specs.declared.event.Response.{Response}
 use Rattle.mpw_events.specs.GoingOn.{IsEnded}
 use Rattle.mpw_serve.specs.Serving.{Answer, AnsweredLine, IsTrace, IsAnsweredLine}
 use Rattle.mpw_serve.specs.Serving as serving
-use Rattle.mpw_desk.specs.Passes.{Grows}
-use Rattle.mpw_desk.specs.Serving.{AreCallsOf, IsAsked, IsParted, Receives, ReceivesEnd, ReceivesLines}
-use Rattle.mpw_desk.specs.Steps.{Records, call_of}
+use Rattle.mpw_desk.specs.Serving.{AreCallsOf, IsAsked, Receives, ReceivesEnd, ReceivesLines}
+use Rattle.mpw_desk.specs.Steps.{IsAnswer, Records, call_of}
 use Rattle.mpw_desk.specs.Values.{PassView}
 
 -- nothing more
@@ -77,7 +74,8 @@ next-line p p' p'' input left turns (serving.asked line request (serving.replied
     (λ (one : (kept : Bool) × Records (event.Ask p'.connection request) response kept p' p''). let h :
     HasLines p p'' (turns ++ serving.asked line request (serving.replied response) ∷ []) = record {
       calls = has.calls ++ call_of (event.Ask p.connection request) response one.0 ∷ [];
-      of = AreCallsOf.recorded turns has.calls line request response one.0 has.of;
+      of = AreCallsOf.recorded turns has.calls line request response one.0 has.of
+          (subst (λ n. IsAnswer (event.Ask n request) response) has.more.connection one.1.answer);
       more = receives-call p p' p'' has.calls request response one.0 has.more one.1;
     } in h)
     is.1
@@ -97,20 +95,17 @@ pub receives-lines : ReceivesLines
 receives-lines p p' input left turns trace =
     let has = lines input p turns left p' trace in (has.calls, has.of, has.more)
 
+gone-received : (p p' : PassView) (response : Response) (kept : Bool)
+    → Records (event.Gone p.connection) response kept p p'
+    → Receives p p' (call_of (event.Gone p.connection) response kept ∷ [])
+gone-received p p' response kept one = record {
+  receipts = one.receipts;
+  count = omega (arith, one.count);
+  connection = one.connection;
+}
+
 pub receives-end : ReceivesEnd
-receives-end p p' false is = inl is
-receives-end p p' true is =
-    ⊎_elim (λ (stays : (p' ≡ p) × IsEnded (event.Gone p.connection) is.0). inl stays.0)
-    (λ (one : (kept : Bool) × Records (event.Gone p.connection) is.0 kept p p').
-    inr (
-      is.0,
-      (
-        one.0,
-        record {
-          receipts = one.1.receipts;
-          count = omega (arith, one.1.count);
-          connection = one.1.connection;
-        },
-      ),
-    ))
-    is.1
+receives-end p p' = (
+  λ parted. (parted.0, (parted.1.0, gone-received p p' parted.0 parted.1.0 parted.1.1)),
+  λ left. left,
+)

@@ -13,11 +13,11 @@ abbrev pub AreReceipts : List Call → List PassView → Type 0
 AreReceipts calls passes =
     All (λ p. p.receipts ≡ calls_of owner_of p.connection calls) passes
 
--- the calls since the desk was shared are as many as the passes made, and each pass has those of its connection; the desk went on by
--- them, and its keeper has their changes
+-- the calls since the desk was shared are as many as the passes made; the desk went on by them, and its keeper has their changes. Each pass
+-- has just the calls of its connection that the whole history has
 pub record IsFinished (begun left : KeptDesk) (passes : List PassView) : Type 0 where
   pub calls : List Call
   pub history : left.desk.history ≡ begun.desk.history ++ calls
   pub goes : GoesOnTo begun left
   pub counted : sum_by (λ p. p.count) passes ≡ length calls
-  pub receipts : AreReceipts calls passes
+  pub receipts : AreReceipts left.desk.history passes

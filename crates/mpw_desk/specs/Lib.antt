@@ -1,6 +1,8 @@
 pub mod Finished
+pub mod Hints
 pub mod Internal
 pub mod Locked
+pub mod Numbers
 pub mod Passes
 pub mod Serving
 pub mod Steps

@@ -3,6 +3,7 @@ use Rattle.std.specs.Prelude.{◌≡◌, ◌≤◌, ◌+◌, ℕ, List, ◌++◌
 use Rattle.mpw_events.specs.declared.event.Call.{Call}
 use Rattle.mpw_events.specs.GoingOn.{GoesOnTo}
 use Rattle.mpw_events.specs.History.{KeptDesk}
+use Rattle.mpw_desk.specs.Numbers.{AreBelow}
 
 -- the desk went on from where it was shared by just the registered calls, and its keeper has their changes; as many calls are counted; and
 -- each pass has a part of the ledger and a number of its own
@@ -15,3 +16,9 @@ pub record IsLocked (begun kept : KeptDesk) (since : List Call) (begins total al
   pub parts : left + made ≡ all
   pub idle : amount ≡ 0
   pub enough : 1048577 ≤ all
+
+-- the next number is the register's; it isn't less than the first one, and that is greater than each number before the desk was shared
+pub record IsNumbered (begun : KeptDesk) (first registered next : ℕ) : Type 0 where
+  pub registered_is : registered ≡ next
+  pub from : first ≤ next
+  pub above : AreBelow first begun.desk.history

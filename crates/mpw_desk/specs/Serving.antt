@@ -1,15 +1,14 @@
 -- What a connection is told over a shared desk, and what its pass then has of it.
-use Rattle.std.specs.Prelude.{◌≡◌, ◌⊎◌, ◌+◌, ⊤, ℕ, Bool, true, false, List, [], ◌∷◌, ◌++◌, length, Option}
+use Rattle.std.specs.Prelude.{◌≡◌, ◌+◌, ℕ, Bool, true, false, List, [], ◌∷◌, ◌++◌, length, Option}
 use Rattle.mpw_requests.specs.declared.request.Request.{Request}
 use Rattle.mpw_events.specs.declared.event.Call.{Call}
 use Rattle.mpw_events.specs.declared.event.Event.TheVariants as event
 use Rattle.mpw_events.specs.declared.event.Response.{Response}
 use Rattle.mpw_events.specs.GoingOn.{IsEnded}
-use Rattle.mpw_serve.specs.declared.serve.Served.{Served}
 use Rattle.mpw_serve.specs.Serving.{Answer, AnsweredLine, IsTrace, Stop}
 use Rattle.mpw_serve.specs.Serving as serving
 use Rattle.mpw_desk.specs.Passes.{Grows}
-use Rattle.mpw_desk.specs.Steps.{call_of}
+use Rattle.mpw_desk.specs.Steps.{IsAnswer, Records, call_of}
 use Rattle.mpw_desk.specs.Values.{PassView}
 
 -- a request is answered through the lock, or there is no memory and the pass is left
@@ -18,9 +17,10 @@ IsAsked p request (serving.replied response) p' =
     Grows p (event.Ask p.connection request) response p'
 IsAsked p request serving.starved p' = p' ≡ p
 
--- the connection's end is handed in, or there is no memory and the pass is left
+-- the connection's end stands in the receipts, or the pass is left: there was no memory, or the desk was closed or its history full
 abbrev pub IsParted : PassView → Bool → PassView → Type 0
-IsParted p true p' = (response : Response) × Grows p (event.Gone p.connection) response p'
+IsParted p true p' =
+    (response : Response) × ((kept : Bool) × Records (event.Gone p.connection) response kept p p')
 IsParted p false p' = p' ≡ p
 
 -- the calls of answered lines: each request that was recorded, with what it was told, in the order of the lines. A line that is no request,
@@ -40,6 +40,7 @@ pub data AreCallsOf (connection : ℕ) : List AnsweredLine → List Call → Typ
       calls
   recorded : (turns : List AnsweredLine) (calls : List Call) (line : List ℕ) (request : Request)
       (response : Response) (kept : Bool) → AreCallsOf connection turns calls
+      → IsAnswer (event.Ask connection request) response
       → AreCallsOf connection (turns ++ serving.asked line request (serving.replied response) ∷ [])
       (calls ++ call_of (event.Ask connection request) response kept ∷ [])
 
@@ -55,8 +56,8 @@ ReceivesLines = (p p' : PassView) (input left : Option (List ℕ)) (turns : List
     → IsTrace IsAsked input p turns left p'
     → (calls : List Call) × AreCallsOf p.connection turns calls × Receives p p' calls
 
--- what it has of the connection's end: that call, unless the desk was closed or its history full, or there was no memory
+-- what it has of the connection's end: that call, just where it is told so
 abbrev pub ReceivesEnd : Type 0
-ReceivesEnd = (p p' : PassView) (is_gone : Bool) → IsParted p is_gone p'
-    → (p' ≡ p) ⊎ ((response : Response) × ((kept : Bool)
+ReceivesEnd = (p p' : PassView) → (IsParted p true p' → (response : Response) × ((kept : Bool)
     × Receives p p' (call_of (event.Gone p.connection) response kept ∷ [])))
+    × (IsParted p false p' → p' ≡ p)

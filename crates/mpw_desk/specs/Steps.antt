@@ -1,11 +1,11 @@
 -- What one critical section does: to the desk, and to the pass that handed an event in.
-use Rattle.std.specs.Prelude.{◌≡◌, ◌⊎◌, ◌+◌, ⊤, ℕ, Bool, List, [], ◌∷◌, ◌++◌, Option, None, Some}
+use Rattle.std.specs.Prelude.{◌≡◌, ◌≢◌, ◌⊎◌, ◌+◌, ⊤, ℕ, Bool, List, [], ◌∷◌, ◌++◌}
 use Rattle.mpw_events.specs.declared.event.Call.{Call}
 use Rattle.mpw_events.specs.declared.event.Event.{Event}
 use Rattle.mpw_events.specs.declared.event.Event.TheVariants as event
 use Rattle.mpw_events.specs.declared.event.Response.{Response}
 use Rattle.mpw_events.specs.GoingOn.{IsEnded}
-use Rattle.mpw_events.specs.History.{IsHandled, with_call}
+use Rattle.mpw_events.specs.History.{IsHandled, closed_response, limit_response, with_call}
 use Rattle.mpw_desk.specs.Values.{LockedDesk, PassView}
 
 -- what a pass may hand in: a request and an end of its own connection, and what is nobody's; never a restart
@@ -38,8 +38,21 @@ with_own receipts call (event.Cut answer) = receipts
 with_own receipts call (event.Tile answer) = receipts
 with_own receipts call event.Restart = receipts
 
+-- an answer that the history has: a request that is told that the desk is closed or its history full is no call of it. Each other event may be
+-- told `Ended` there, where its change could not be kept
+abbrev pub IsAnswer : Event → Response → Type 0
+IsAnswer (event.Ask connection request) response =
+    (response ≢ closed_response (event.Ask connection request))
+    × (response ≢ limit_response (event.Ask connection request))
+IsAnswer (event.Gone connection) response = ⊤
+IsAnswer (event.Take worker) response = ⊤
+IsAnswer (event.Cut answer) response = ⊤
+IsAnswer (event.Tile answer) response = ⊤
+IsAnswer event.Restart response = ⊤
+
 -- the call is recorded: the pass counts one more, and its receipts have it where it is a connection's
 pub record Records (event : Event) (response : Response) (kept : Bool) (p p' : PassView) : Type 0 where
+  pub answer : IsAnswer event response
   pub receipts : p'.receipts ≡ with_own p.receipts (call_of event response kept) event
   pub count : p'.count ≡ p.count + 1
   pub connection : p'.connection ≡ p.connection
@@ -50,6 +63,8 @@ pub record Steps (event : Event) (response : Response) (l l' : LockedDesk) (p p'
     Type 0 where
   pub handled : IsHandled l.kept event response l'.kept
   pub next : l'.next ≡ l.next
+  pub made : l'.made ≡ l.made
+  pub stopped : l'.is_stopped ≡ l.is_stopped
   pub recorded : ((l'.kept.desk ≡ l.kept.desk) × (l'.calls ≡ l.calls) × (p' ≡ p) × IsEnded event response)
       ⊎ ((kept : Bool) × (l'.kept.desk ≡ with_call l.kept.desk event kept response)
       × (l'.calls ≡ l.calls ++ call_of event response kept ∷ []) × Records event response kept p p')

@@ -1,14 +1,17 @@
 -- What contracts see of the desk under the lock, of a pass, and of a ledger with a register that have no name yet.
-use Rattle.std.specs.Prelude.{ℕ, List, [], None}
+use Rattle.std.specs.Prelude.{ℕ, Bool, List, [], None}
 use Rattle.atomic_table.specs.Seated.{TableId}
 use Rattle.mpw_events.specs.declared.event.Call.{Call}
 use Rattle.mpw_events.specs.History.{KeptDesk, kept_desk, new_desk}
 
--- the desk with its keeper, the calls since it was shared, and the number of the next pass's connection
+-- the desk with its keeper, the calls since it was shared, the number of the next pass's connection, how many passes were made, and whether
+-- its workers are to end
 pub record LockedDesk : Type 0 where
   pub kept : KeptDesk
   pub calls : List Call
   pub next : ℕ
+  pub made : ℕ
+  pub is_stopped : Bool
 
 -- a pass: the number of its connection, the calls of that connection, and how many calls the pass made, a worker's among them
 pub record PassView : Type 0 where

@@ -1,7 +1,9 @@
-//! What workers are told of the desk beside the model: whether there may be something to take. A wrong hint costs a call or a wait,
-//! and changes no answer.
+//! What workers know of the desk beside the model: whether there may be something to take. The lock's invariant says that they don't rest while there
+//! is: the hints follow each event in the section that handles it. To wake somebody for nothing costs a call.
+ghost use Rattle.std.specs.Prelude.{◌≡◌, true, false, Some};
+ghost use Rattle.mpw_desk.specs.Hints.{asked_by, asked_of, is_accepted, is_no_job, may_take, noted, with_work, without, woken_by, woken_by_job};
 
-use mpw_events::Response;
+use mpw_events::{Event, Response};
 use mpw_replies::Reply;
 use mpw_requests::{Request, RunRequest};
 use mpw_run::RunReply;
@@ -24,33 +26,62 @@ pub(crate) struct Hints {
     cutting: Option<u32>,
 }
 
-/// What a request asks of the run.
+/// What an event asks of the run.
 #[derive(Clone, Copy, PartialEq, Eq)]
 pub(crate) enum Asked {
     Run,
     Cancel,
+    Take,
     Else,
 }
 
 impl Asked {
     /// What the request asks of the run.
-    pub(crate) fn of(request: &Request) -> Asked {
+    pub(crate) fn of(request: &Request) -> Asked
+        ensures { result ≡ asked_of request.now }
+    {
         match request {
             Request::Run(RunRequest::Run) => Asked::Run,
             Request::Run(RunRequest::Cancel) => Asked::Cancel,
             _ => Asked::Else,
         }
     }
+
+    /// What the event asks of the run.
+    pub(crate) fn by(event: &Event) -> Asked
+        ensures { result ≡ asked_by event.now }
+    {
+        match event {
+            Event::Ask { request, .. } => Asked::of(request.get()),
+            Event::Take { .. } => Asked::Take,
+            _ => Asked::Else,
+        }
+    }
 }
 
 /// Whether a request was accepted.
-fn is_accepted(response: &Response) -> bool {
+fn is_accepted(response: &Response) -> bool
+    ensures { result ≡ is_accepted response.now }
+{
     matches!(response, Response::Told(Reply::Ok(_)))
+}
+
+/// Whether a call for a job was answered that there is none.
+fn is_no_job(response: &Response) -> bool
+    ensures { result ≡ is_no_job response.now }
+{
+    match response {
+        Response::Run(reply) => matches!(reply.get(), RunReply::NoJob),
+        _ => false,
+    }
 }
 
 impl Hints {
     /// Of a desk of which nothing is known: there may be a run.
-    pub(crate) fn new() -> Hints {
+    pub(crate) fn new() -> Hints
+        ensures stopped { result.is_stopped ≡ false }
+        ensures work { result.has_work ≡ true }
+    {
         Hints {
             is_stopped: false,
             has_work: true,
@@ -59,39 +90,81 @@ impl Hints {
     }
 
     /// Whether a worker may find something to take.
-    pub(crate) fn may_take(&self) -> bool {
+    pub(crate) fn may_take(self) -> bool
+        ensures { result ≡ may_take self }
+    {
         self.has_work && self.cutting.is_none()
     }
 
-    /// Notes what a request was answered: an accepted run has something to take, and one that was left has not.
-    pub(crate) fn note_request(&mut self, asked: Asked, response: &Response) {
-        if asked != Asked::Else && is_accepted(response) {
-            self.has_work = asked == Asked::Run;
-            self.cutting = None;
+    /// With or without work, and with no worker that cuts.
+    fn with_work(self, has_work: bool) -> Hints
+        ensures { result ≡ with_work has_work self }
+    {
+        Hints {
+            is_stopped: self.is_stopped,
+            has_work,
+            cutting: None,
         }
     }
 
-    /// Notes that there is nothing to take.
-    pub(crate) fn note_no_job(&mut self) {
-        self.has_work = false;
-    }
-
-    /// Notes that a worker cuts the run of that number.
-    pub(crate) fn note_cutting(&mut self, run: u32) {
-        self.cutting = Some(run);
-    }
-
-    /// Notes that a worker has handed in the windows of the run of that number, or gave up.
-    pub(crate) fn note_cut(&mut self, run: u32) {
-        if self.cutting == Some(run) {
-            self.cutting = None;
+    /// The hints after an event that asked that and was answered so: an accepted run has something to take, and one that was left has not.
+    pub(crate) fn noted(self, asked: Asked, response: &Response) -> Hints
+        ensures { result ≡ noted asked response.now self }
+    {
+        match asked {
+            Asked::Run if is_accepted(response) => self.with_work(true),
+            Asked::Cancel if is_accepted(response) => self.with_work(false),
+            Asked::Take if is_no_job(response) => Hints {
+                is_stopped: self.is_stopped,
+                has_work: false,
+                cutting: self.cutting,
+            },
+            _ => self,
         }
+    }
+
+    /// The hints while a worker cuts the run of that number.
+    pub(crate) fn while_cut(self, run: u32) -> Hints
+        ensures stopped { result.is_stopped ≡ self.is_stopped }
+        ensures work { result.has_work ≡ self.has_work }
+        ensures cutting { result.cutting ≡ Some run }
+    {
+        Hints {
+            is_stopped: self.is_stopped,
+            has_work: self.has_work,
+            cutting: Some(run),
+        }
+    }
+
+    /// The hints after a worker handed in the windows of the run of that number, or gave up.
+    pub(crate) fn after_cut(self, run: u32) -> Hints
+        ensures stopped { result.is_stopped ≡ self.is_stopped }
+        ensures work { result.has_work ≡ self.has_work }
+        ensures cutting { result.cutting ≡ without run self.cutting }
+    {
+        Hints {
+            is_stopped: self.is_stopped,
+            has_work: self.has_work,
+            cutting: without(run, self.cutting),
+        }
+    }
+}
+
+/// The run that is cut, unless it is that one.
+fn without(run: u32, cutting: Option<u32>) -> Option<u32>
+    ensures { result ≡ without run cutting }
+{
+    match cutting {
+        Some(other) if other != run => cutting,
+        _ => None,
     }
 }
 
 impl Waking {
     /// Whom a request concerns: one worker cuts an accepted run, and all leave one that was cancelled.
-    pub(crate) fn after_request(asked: Asked, response: &Response) -> Waking {
+    pub(crate) fn after_request(asked: Asked, response: &Response) -> Waking
+        ensures { result ≡ woken_by asked (is_accepted response.now) }
+    {
         match asked {
             Asked::Run if is_accepted(response) => Waking::OneWorker,
             Asked::Cancel if is_accepted(response) => Waking::AllWorkers,
@@ -100,7 +173,9 @@ impl Waking {
     }
 
     /// Whom what came of a job concerns: windows give tiles to all workers, and a finished run leaves them none.
-    pub(crate) fn after_job(is_cut: bool, response: &Response) -> Waking {
+    pub(crate) fn after_job(is_cut: bool, response: &Response) -> Waking
+        ensures { result ≡ woken_by_job is_cut response.now }
+    {
         match response {
             Response::Run(reply) if is_cut || matches!(reply.get(), RunReply::Finished) => {
                 Waking::AllWorkers

@@ -114,7 +114,7 @@ where
     }
 
     fn part(&mut self) -> bool {
-        self.shared.gone(self.rt, &mut self.pass).is_ok()
+        self.shared.part(self.rt, &mut self.pass)
     }
 }
 
@@ -143,7 +143,7 @@ where
 
 /// Serves a connection over a shared desk with its pass, as [`serve_connection`] does, and gives the pass back. The lock is held in the
 /// desk's steps alone: lines and payloads are read and replies are written outside it. A `run` that is accepted is answered at once, and
-/// left to the workers.
+/// left to the workers. The connection's end is told as handed in where it stands in the receipts.
 pub fn serve_pass<H, K, N, R, I, O>(
     rt: &R,
     alloc: Global,

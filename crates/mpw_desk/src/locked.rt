@@ -1,7 +1,10 @@
 //! What lies under the lock, and the critical section itself, as functions that wait for nobody.
-ghost use Rattle.std.specs.Prelude.{◌≡◌, ◌+◌, ◌≤◌, ◌<◌, ◌^◌, ℕ, [], length, IfOk, IfSome, IfNone, OnErr};
+ghost use Rattle.std.specs.Prelude.{◌≡◌, ◌+◌, ◌≤◌, ◌<◌, ℕ, [], true, false, length, IfOk, OnErr};
 ghost use Rattle.mpw_desk.specs.Finished.{IsFinished};
+ghost use Rattle.mpw_desk.specs.Numbers.{AreBelow};
+ghost use Rattle.mpw_desk.specs.Passes.{Admits};
 ghost use Rattle.mpw_desk.specs.Steps.{MayHandIn, MayHandInBesides, Steps};
+ghost use Rattle.mpw_events.specs.GoingOn.{GoesOnTo};
 ghost use Rattle.mpw_events.specs.History.{kept_desk};
 ghost use Rattle.mpw_events.specs.declared.event.Event.TheVariants as event;
 ghost use Rattle.mpw_receipts.specs.Calls.{calls_of};
@@ -23,7 +26,8 @@ use std::sync::ledger::{Book, Share};
 pub const MOST_PASSES: u32 = 1 << 20;
 
 /// The core with its keeper, the register of the calls since the desk was shared, the ledger's book, and the parts for passes to
-/// come. Contracts see the desk with its keeper, and the number of the next connection.
+/// come. Contracts see the desk with its keeper, the calls since it was shared, the number of the next connection, how many passes were made,
+/// and whether the workers are to end.
 pub struct Locked<H: Handler + Drop, K: Keeper + Drop, N: Room> {
     core: Box<H>,
     keeper: K,
@@ -34,7 +38,7 @@ pub struct Locked<H: Handler + Drop, K: Keeper + Drop, N: Room> {
     base: usize,
     made: u32,
     next: u32,
-    pub(crate) hints: Hints,
+    hints: Hints,
 }
 
 impl<H: Handler + Drop, K: Keeper + Drop, N: Room> Drop for Locked<H, K, N> {
@@ -60,29 +64,33 @@ impl<H: Handler + Drop, K: Keeper + Drop, N: Room> Drop for Locked<H, K, N> {
 
 impl<H: Handler + Drop, K: Keeper + Drop, N: Room> Model for Locked<H, K, N> {
     ghost use Rattle.std.specs.Prelude.{◌≡◌};
-    ghost use Rattle.mpw_desk.specs.Locked.{IsLocked};
+    ghost use Rattle.mpw_desk.specs.Hints.{Fit};
+    ghost use Rattle.mpw_desk.specs.Locked.{IsLocked, IsNumbered};
     ghost use Rattle.mpw_desk.specs.Values.{LockedDesk};
-    ghost use Rattle.mpw_events.specs.History.{kept_desk};
+    ghost use Rattle.mpw_events.specs.History.{kept_desk, state_of};
 
     ghost Value = { LockedDesk };
 
-    ghost view = { λ l. record { kept = kept_desk (H.desk l.core.value) (K.kept l.keeper) (K.failures l.keeper); calls = l.register.calls; next = l.register.next } };
+    ghost view = { λ l. record { kept = kept_desk (H.desk l.core.value) (K.kept l.keeper) (K.failures l.keeper); calls = l.register.calls; next = l.register.next; made = l.made; is_stopped = l.hints.is_stopped } };
 
-    ghost invariant = { λ l. (l.register.next ≡ l.next) × IsLocked N.begun (kept_desk (H.desk l.core.value) (K.kept l.keeper) (K.failures l.keeper)) l.register.calls l.base l.book.total N.all l.rest.parts l.rest.amount l.made };
+    ghost invariant = { λ l. IsNumbered N.begun N.first l.register.next l.next × IsLocked N.begun (kept_desk (H.desk l.core.value) (K.kept l.keeper) (K.failures l.keeper)) l.register.calls l.base l.book.total N.all l.rest.parts l.rest.amount l.made × Fit l.hints (state_of (H.desk l.core.value)).run };
 }
 
 impl<H: Handler + Drop, K: Keeper + Drop, N: Room> Locked<H, K, N> {
-    /// A desk that is shared from now on, under its name. The next connection has that number. It takes no memory, and costs as many
-    /// steps as numbers are skipped.
+    /// A desk that is shared from now on, under its name. The next connection has that number, which is greater than that of each connection
+    /// before. It takes no memory, and costs as many steps as numbers are skipped.
     pub fn new(core: Box<H>, keeper: K, blank: Blank, first: u32) -> Locked<H, K, N>
         requires begun { N.begun ≡ kept_desk (H.desk core.value) (K.kept keeper) (K.failures keeper) }
         requires name { blank.name ≡ N.name }
         requires parts { (blank.parts ≡ N.parts) × (N.all ≡ N.parts) × (1048577 ≤ N.all) }
         requires table { blank.table ≡ N.table }
-        requires first { 0 < first }
+        requires first { (0 < first) × (N.first ≡ first) }
+        requires above { AreBelow first (H.desk core.value).history }
         ensures kept { result.kept ≡ kept_desk (H.desk core.value) (K.kept keeper) (K.failures keeper) }
         ensures calls { result.calls ≡ [] }
         ensures next { result.next ≡ first }
+        ensures made { result.made ≡ 0 }
+        ensures stopped { result.is_stopped ≡ false }
     {
         keepers_have_the_changes_in_order();
         let (parts, register) = blank.into_parts();
@@ -105,11 +113,11 @@ impl<H: Handler + Drop, K: Keeper + Drop, N: Room> Locked<H, K, N> {
         }
     }
 
-    /// A pass for the next connection, or for a worker; none after 2^20 passes, or where no number is left.
+    /// A pass for the next connection, or for a worker; none just after 2^20 passes, and where no number is left.
     pub fn admit(&mut self) -> Option<Pass<N>>
-        ensures some { IfSome result (λ p. (p.connection ≡ self.old.next) × (p.receipts ≡ []) × (p.count ≡ 0) × (self.new.next ≡ self.old.next + 1)) }
-        ensures kept { (self.new.kept ≡ self.old.kept) × (self.new.calls ≡ self.old.calls) }
-        ensures none { IfNone result (self.new ≡ self.old) }
+        ensures admits { Admits self.old result self.new }
+        ensures goes { GoesOnTo N.begun self.old.kept }
+        ensures from { N.first ≤ self.old.next }
     {
         if self.made >= MOST_PASSES || self.next == u32::MAX {
             return None;
@@ -136,9 +144,43 @@ impl<H: Handler + Drop, K: Keeper + Drop, N: Room> Locked<H, K, N> {
 
     /// The number of calls of the desk's history. Constant time.
     pub fn calls(&self) -> usize
-        ensures { result ≡ length self.now.kept.desk.history }
+        ensures counted { result ≡ length self.now.kept.desk.history }
+        ensures goes { GoesOnTo N.begun self.now.kept }
     {
         self.core.calls().len()
+    }
+
+    /// No worker waits any more. Nothing else changes.
+    pub fn stop(&mut self)
+        ensures { self.new ≡ record self.old { is_stopped = true } }
+    {
+        self.hints.is_stopped = true;
+    }
+
+    /// Whether workers are to end.
+    pub fn is_stopped(&self) -> bool
+        ensures { result ≡ self.now.is_stopped }
+    {
+        self.hints.is_stopped
+    }
+
+    /// Whether a worker may find something to take.
+    pub(crate) fn may_take(&self) -> bool {
+        self.hints.may_take()
+    }
+
+    /// Notes that a worker cuts the run of that number. The model doesn't change.
+    pub(crate) fn note_cutting(&mut self, run: u32)
+        ensures { self.new ≡ self.old }
+    {
+        self.hints = self.hints.while_cut(run);
+    }
+
+    /// Notes that a worker has handed in the windows of the run of that number, or gave up. The model doesn't change.
+    pub(crate) fn note_cut(&mut self, run: u32)
+        ensures { self.new ≡ self.old }
+    {
+        self.hints = self.hints.after_cut(run);
     }
 
     /// The number of calls since the desk was shared.
@@ -176,7 +218,7 @@ impl<H: Handler + Drop, K: Keeper + Drop, N: Room> Locked<H, K, N> {
         ensures same { self.new ≡ self.old }
         ensures count { result ≡ count + pass.count }
         ensures all { all.new.amount ≡ result }
-        ensures receipts { pass.receipts ≡ calls_of owner_of pass.connection self.old.calls }
+        ensures receipts { pass.receipts ≡ calls_of owner_of pass.connection self.old.kept.desk.history }
     {
         let Locked { register, book, .. } = self;
         let (calls, share) = pass.compared(register);
@@ -220,11 +262,13 @@ fn hand_in<H: Handler + Drop, K: Keeper + Drop, N: Room>(
     ensures err { OnErr result ((locked.new ≡ locked.old) × (pass.new ≡ pass.old)) }
 {
     keepers_have_the_changes_in_order();
+    let asked = Asked::by(&event);
     let Locked {
         core,
         keeper,
         register,
         book,
+        hints,
         ..
     } = locked;
     let core = &mut **core;
@@ -235,6 +279,7 @@ fn hand_in<H: Handler + Drop, K: Keeper + Drop, N: Room>(
     let made = core.calls().len();
     let call = last_call(core);
     pass.record(register, book, call, made);
+    *hints = hints.noted(asked, &response);
     Ok(response)
 }
 
@@ -267,16 +312,13 @@ pub fn ask_in<H: Handler + Drop, K: Keeper + Drop, N: Room>(
     ensures ok { IfOk result (λ response. Steps (event.Ask pass.old.connection request) response locked.old locked.new pass.old pass.new) }
     ensures err { OnErr result ((locked.new ≡ locked.old) × (pass.new ≡ pass.old)) }
 {
-    let asked = Asked::of(request.get());
     let connection = pass.connection;
-    let response = hand_in(
+    hand_in(
         locked,
         pass,
         Event::Ask {
             connection,
             request,
         },
-    )?;
-    locked.hints.note_request(asked, &response);
-    Ok(response)
+    )
 }

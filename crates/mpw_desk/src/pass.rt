@@ -1,6 +1,6 @@
 //! A pass: what whoever asks has of the desk.
 ghost use Rattle.std.specs.Prelude.{◌≡◌, ◌+◌, ◌≤◌, [], ◌∷◌, ◌++◌};
-ghost use Rattle.mpw_desk.specs.Steps.{MayHandIn, Records, with_own};
+ghost use Rattle.mpw_desk.specs.Steps.{IsAnswer, MayHandIn, Records, with_own};
 ghost use Rattle.mpw_receipts.specs.Calls.{calls_of};
 ghost use Rattle.mpw_receipts.specs.Owner.{owner_of};
 
@@ -33,14 +33,14 @@ impl<N: Room> Drop for Pass<N> {
 }
 
 impl<N: Room> Model for Pass<N> {
-    ghost use Rattle.std.specs.Prelude.{◌≡◌};
+    ghost use Rattle.std.specs.Prelude.{◌≡◌, ◌≤◌};
     ghost use Rattle.mpw_desk.specs.Values.{PassView};
 
     ghost Value = { PassView };
 
     ghost view = { λ p. record { connection = p.receipts.number; receipts = p.receipts.calls; count = p.calls } };
 
-    ghost invariant = { λ p. (p.connection ≡ p.receipts.number) × (p.share.parts ≡ 1) × (p.share.amount ≡ p.calls) };
+    ghost invariant = { λ p. (p.connection ≡ p.receipts.number) × (p.share.parts ≡ 1) × (p.share.amount ≡ p.calls) × (N.first ≤ p.receipts.number) };
 }
 
 /// Adds a call to the register, and to the receipts where it is their connection's.
@@ -75,9 +75,10 @@ fn count<N: Room>(book: &mut Book<N>, share: &mut Share<N>, calls: &mut u64, mad
 }
 
 impl<N: Room> Pass<N> {
-    /// The number of its connection, 1 to 2^32 - 2.
+    /// The number of its connection, 1 to 2^32 - 2. It is none of a connection before the desk was shared.
     pub fn connection(&self) -> u32
-        ensures { result ≡ self.now.connection }
+        ensures number { result ≡ self.now.connection }
+        ensures from { N.first ≤ result }
     {
         self.connection
     }
@@ -99,6 +100,7 @@ impl<N: Room> Pass<N> {
     )
         requires own { MayHandIn self.old.connection call.now.event }
         requires made { book.old.total + 1 ≤ made }
+        requires answer { IsAnswer call.now.event call.now.response }
         ensures calls { register.new.calls ≡ register.old.calls ++ call.now ∷ [] }
         ensures next { register.new.next ≡ register.old.next }
         ensures total { book.new.total ≡ book.old.total + 1 }
@@ -113,6 +115,7 @@ impl<N: Room> Pass<N> {
         ensures same { register.new ≡ register.old }
         ensures calls { result.0 ≡ self.count }
         ensures share { result.1.amount ≡ self.count }
+        ensures from { N.first ≤ self.connection }
         ensures receipts { self.receipts ≡ calls_of owner_of self.connection register.old.calls }
     {
         let Pass {

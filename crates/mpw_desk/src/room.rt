@@ -18,6 +18,9 @@ pub trait Room: Ledger + Naming {
 
     /// The desk with its keeper, as it stood when it was shared.
     ghost begun: { KeptDesk };
+
+    /// The number of the first connection since then.
+    ghost first: { ℕ };
 }
 
 impl Room for Brand {
@@ -26,6 +29,8 @@ impl Room for Brand {
     ghost all = { 0 };
 
     ghost begun = { no_desk };
+
+    ghost first = { 0 };
 }
 
 /// The parts of the ledger: one for each pass, and more.

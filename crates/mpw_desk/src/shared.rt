@@ -1,7 +1,9 @@
 //! The desk that threads share, and its end.
 ghost use Rattle.std.specs.Prelude.{◌≡◌, ◌≤◌, ◌<◌, [], IfOk, IfSome, OnErr};
 ghost use Rattle.mpw_desk.specs.Finished.{IsFinished};
-ghost use Rattle.mpw_desk.specs.Passes.{Grows};
+ghost use Rattle.mpw_desk.specs.Numbers.{AreBelow};
+ghost use Rattle.mpw_desk.specs.Passes.{Grows, HasAdmitted, HasCalls};
+ghost use Rattle.mpw_desk.specs.Serving.{IsParted};
 ghost use Rattle.mpw_events.specs.History.{kept_desk};
 ghost use Rattle.mpw_events.specs.declared.event.Event.TheVariants as event;
 
@@ -40,13 +42,14 @@ impl<H: Handler + Drop, K: Keeper + Drop, N: Room> Drop for Shared<H, K, N> {
 }
 
 impl<H: Handler + Drop, K: Keeper + Drop, N: Room> Shared<H, K, N> {
-    /// Shares a desk, whose next connection has that number. It takes no memory.
+    /// Shares a desk, whose next connection has that number, which is greater than that of each connection before. It takes no memory.
     pub fn new(core: Box<H>, keeper: K, blank: Blank, first: u32) -> Shared<H, K, N>
         requires begun { N.begun ≡ kept_desk (H.desk core.value) (K.kept keeper) (K.failures keeper) }
         requires name { blank.name ≡ N.name }
         requires parts { (blank.parts ≡ N.parts) × (N.all ≡ N.parts) × (1048577 ≤ N.all) }
         requires table { blank.table ≡ N.table }
-        requires first { 0 < first }
+        requires first { (0 < first) × (N.first ≡ first) }
+        requires above { AreBelow first (H.desk core.value).history }
     {
         Shared {
             locked: Mutex::new(Locked::new(core, keeper, blank, first)),
@@ -55,15 +58,18 @@ impl<H: Handler + Drop, K: Keeper + Drop, N: Room> Shared<H, K, N> {
         }
     }
 
-    /// A pass for a connection or a worker; none after 2^20 passes, or where no number is left.
+    /// A pass for a connection or a worker, with the next number; none just after 2^20 passes, and where no number is left.
     pub fn pass<R: Wait>(&self, rt: &R) -> Option<Pass<N>>
-        ensures { IfSome result (λ p. (p.receipts ≡ []) × (p.count ≡ 0)) }
+        ensures admits { HasAdmitted N.begun N.first result }
+        ensures new { IfSome result (λ p. (p.receipts ≡ []) × (p.count ≡ 0)) }
     {
         self.lock(rt).admit()
     }
 
     /// The number of calls of the desk's history, as it stood while the lock was held.
-    pub fn calls<R: Wait>(&self, rt: &R) -> usize {
+    pub fn calls<R: Wait>(&self, rt: &R) -> usize
+        ensures { HasCalls N.begun result }
+    {
         self.lock(rt).calls()
     }
 
@@ -98,9 +104,19 @@ impl<H: Handler + Drop, K: Keeper + Drop, N: Room> Shared<H, K, N> {
         event_in(&mut *self.lock(rt), pass, Event::Gone { connection })
     }
 
+    /// Hands in the end of the pass's connection, and tells whether it stands in the receipts. It doesn't where there is no memory, and where the
+    /// desk is closed or its history full.
+    pub fn part<R: Wait>(&self, rt: &R, pass: &mut Pass<N>) -> bool
+        ensures { IsParted pass.old result pass.new }
+    {
+        let before = pass.calls();
+        drop(self.gone(rt, pass));
+        pass.calls() != before
+    }
+
     /// No worker waits any more: each takes once more, and returns where there is no job.
     pub fn stop<R: Wait>(&self, rt: &R) {
-        self.lock(rt).hints.is_stopped = true;
+        self.lock(rt).stop();
         self.moved.notify_all();
     }
 

@@ -2,12 +2,12 @@
 //!
 //! An idle worker makes no call, since each call counts against the history's limit: hints beside the model say whether there may be a
 //! job. A job for which there is no memory is tried again after a pause, for the same reason.
-ghost use Rattle.std.specs.Prelude.{◌≡◌, ◌<◌, ◌≤◌, ℕ, IfOk, OnErr};
-ghost use Rattle.mpw_desk.specs.Internal.Working.{AnyMayHandIn, EndsAs, EndsRightly, instruction_by, instruction_of};
+ghost use Rattle.std.specs.Prelude.{◌≡◌, ◌<◌, ◌≤◌, ℕ, false, IfOk, OnErr};
+ghost use Rattle.mpw_desk.specs.Internal.Working.{AnyMayHandIn, EndsAs, EndsRightly, after, instruction_by, instruction_of, next_of, run_cut};
 ghost use Rattle.mpw_desk.specs.Passes.{IsLast, Works, no_job};
 ghost use Rattle.mpw_events.specs.declared.event.Response.TheVariants as response;
 
-use crate::hints::{Hints, Waking};
+use crate::hints::Waking;
 use crate::locked::{Locked, event_in};
 use crate::pass::Pass;
 use crate::room::Room;
@@ -70,23 +70,37 @@ fn instruction_of(response: &Response) -> Instruction
     }
 }
 
-/// What a worker does that was told that, and what the others are told of it.
-fn next_of(hints: &mut Hints, response: Response) -> Next
-    ensures { EndsAs result response }
+/// What a worker does that was told that, where workers are to end or not.
+fn next_of(is_stopped: bool, response: Response) -> Next
+    ensures next { result ≡ next_of is_stopped response (instruction_of response) }
+    ensures ends { EndsAs result response }
 {
     match instruction_of(&response) {
-        Instruction::Cut(run) => {
-            hints.note_cutting(run);
-            Next::Do(response)
-        }
-        Instruction::Tile => Next::Do(response),
-        Instruction::NoJob if hints.is_stopped => Next::End(response),
-        Instruction::NoJob => {
-            hints.note_no_job();
-            Next::Rest
-        }
+        Instruction::Cut(_) | Instruction::Tile => Next::Do(response),
+        Instruction::NoJob if is_stopped => Next::End(response),
+        Instruction::NoJob => Next::Rest,
         Instruction::Ended => Next::End(response),
         Instruction::Else => Next::Rest,
+    }
+}
+
+/// What a worker does after a turn.
+#[derive(Clone, Copy, PartialEq, Eq)]
+pub(crate) enum Pace {
+    /// It goes on at once.
+    GoesOn,
+    /// It pauses, and then calls for a job whatever the hints say.
+    Pauses,
+}
+
+/// A worker pauses just where there was no memory: each try is a call, and a desk answers only so many.
+fn after(had_memory: bool) -> Pace
+    ensures { result ≡ after had_memory }
+{
+    if had_memory {
+        Pace::GoesOn
+    } else {
+        Pace::Pauses
     }
 }
 
@@ -111,7 +125,12 @@ fn take<H: Handler + Drop, K: Keeper + Drop, N: Room>(
 {
     let worker = pass.connection;
     match event_in(locked, pass, Event::Take { worker }) {
-        Ok(response) => next_of(&mut locked.hints, response),
+        Ok(response) => {
+            if let Instruction::Cut(run) = instruction_of(&response) {
+                locked.note_cutting(run);
+            }
+            next_of(locked.is_stopped(), response)
+        }
         Err(_) => Next::Pause,
     }
 }
@@ -130,7 +149,9 @@ fn outcome_of(alloc: Global, job: &Job) -> Result<Event, AllocError>
 }
 
 /// The run that the job cuts, where it is a cut.
-fn run_cut(job: &Job) -> Option<u32> {
+fn run_cut(job: &Job) -> Option<u32>
+    ensures { result ≡ run_cut job.now }
+{
     match job {
         Job::Cut(job) => Some(job.run),
         Job::Tile(_) => None,
@@ -148,8 +169,7 @@ impl<H: Handler + Drop, K: Keeper + Drop, N: Room> Shared<H, K, N> {
         let mut place = Some(self.turns.first_in_line(rt));
         let mut guard = self.lock(rt);
         for _ in rt.forever() {
-            let hints = guard.hints;
-            if is_eager || hints.is_stopped || hints.may_take() {
+            if is_eager || guard.is_stopped() || guard.may_take() {
                 is_eager = false;
                 match take(&mut *guard, pass) {
                     Next::Rest => {}
@@ -165,13 +185,14 @@ impl<H: Handler + Drop, K: Keeper + Drop, N: Room> Shared<H, K, N> {
     /// Hands in what came of a job, and tells whether there was memory for it.
     fn hand_in<R: Wait>(&self, rt: &R, pass: &mut Pass<N>, cut: Option<u32>, event: Event) -> bool
         requires { AnyMayHandIn event }
-        ensures { Works pass.old pass.new }
+        ensures works { Works pass.old pass.new }
+        ensures starved { result ≡ false → pass.new ≡ pass.old }
     {
         let place = self.turns.first_in_line(rt);
         let mut guard = self.lock(rt);
         let answered = event_in(&mut *guard, pass, event);
         if let Some(run) = cut {
-            guard.hints.note_cut(run);
+            guard.note_cut(run);
         }
         drop(guard);
         drop(place);
@@ -193,7 +214,8 @@ impl<H: Handler + Drop, K: Keeper + Drop, N: Room> Shared<H, K, N> {
         gate: &G,
         response: &Response,
     ) -> bool
-        ensures { Works pass.old pass.new }
+        ensures works { Works pass.old pass.new }
+        ensures starved { result ≡ false → pass.new ≡ pass.old }
     {
         let Some(job) = job_in(response) else {
             return true;
@@ -206,7 +228,7 @@ impl<H: Handler + Drop, K: Keeper + Drop, N: Room> Shared<H, K, N> {
             Ok(event) => self.hand_in(rt, pass, cut, event),
             Err(_) => {
                 if let Some(run) = cut {
-                    self.lock(rt).hints.note_cut(run);
+                    self.lock(rt).note_cut(run);
                 }
                 false
             }
@@ -230,14 +252,15 @@ impl<H: Handler + Drop, K: Keeper + Drop, N: Room> Shared<H, K, N> {
     {
         let mut is_eager = true;
         for _ in rt.forever() {
-            let was_done = match self.next_job(rt, pass, is_eager) {
+            let had_memory = match self.next_job(rt, pass, is_eager) {
                 Next::Do(response) => self.work_off(rt, alloc, pass, gate, &response),
                 Next::End(response) => return response,
                 Next::Pause => false,
                 Next::Rest => true,
             };
-            is_eager = !was_done;
-            if is_eager {
+            let turn = after(had_memory);
+            is_eager = turn == Pace::Pauses;
+            if turn == Pace::Pauses {
                 thread::sleep(rt, Duration::from_secs(PAUSE));
             }
         }

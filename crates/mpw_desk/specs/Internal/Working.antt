@@ -1,18 +1,31 @@
 -- What a worker does next, and when it ends.
-use Rattle.std.specs.Prelude.{◌≡◌, ◌<◌, ⊤, ℕ}
+use Rattle.std.specs.Prelude.{◌≡◌, ◌<◌, ⊤, ℕ, Bool, true, false, Option, None, Some, if◌then◌else◌}
 use Rattle.mpw_events.specs.declared.event.Event.{Event}
 use Rattle.mpw_events.specs.declared.event.Response.{Response}
+use Rattle.mpw_desk.specs.declared.worker.Pace.{Pace}
+use Rattle.mpw_desk.specs.declared.worker.Pace.TheVariants as pace
 use Rattle.mpw_desk.specs.declared.worker.Next.{Next}
 use Rattle.mpw_desk.specs.declared.worker.Next.TheVariants.{Do, End, Pause, Rest}
 use Rattle.mpw_desk.specs.declared.worker.Instruction.{Instruction}
 use Rattle.mpw_desk.specs.declared.worker.Instruction.TheVariants as instruction
 use Rattle.mpw_events.specs.declared.event.Response.TheVariants as response
+use Rattle.mpw_job.specs.declared.job.Job.{Job}
 use Rattle.mpw_job.specs.declared.job.Job.TheVariants as job
 use Rattle.mpw_run.specs.declared.phase.RunReply.{RunReply}
 use Rattle.mpw_run.specs.declared.phase.RunReply.TheVariants as reply
 use Rattle.mpw_desk.specs.Passes.{IsLast, no_job}
 use Rattle.mpw_desk.specs.Steps.{MayHandInBesides}
 use Rattle.mpw_desk.specs.Values.{PassView}
+
+-- a worker pauses just where there was no memory
+abbrev pub after : Bool → Pace
+after true = pace.GoesOn
+after false = pace.Pauses
+
+-- the run that a job cuts
+abbrev pub run_cut : Job → Option ℕ
+run_cut (job.Cut j) = Some j.run
+run_cut (job.Tile j) = None
 
 -- any pass may hand the event in
 abbrev pub AnyMayHandIn : Event → Type 0
@@ -49,3 +62,12 @@ instruction_of (response.Run r) = instruction_by r
 instruction_of response.Gone = instruction.Else
 instruction_of response.Restarted = instruction.Else
 instruction_of response.Ended = instruction.Ended
+
+-- what a worker does that was told that: it does the job; without one it rests, and where workers are to end it ends; and it ends where nothing is
+-- answered any more
+abbrev pub next_of : Bool → Response → Instruction → Next
+next_of stopped told (instruction.Cut run) = Do told
+next_of stopped told instruction.Tile = Do told
+next_of stopped told instruction.NoJob = if stopped then End told else Rest
+next_of stopped told instruction.Ended = End told
+next_of stopped told instruction.Else = Rest
