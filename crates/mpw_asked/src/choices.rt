@@ -55,17 +55,17 @@ fn with_flags<'a>(alloc: Global, command: Command<'a>) -> Result<Command<'a>, Al
     let unreached = flag(
         alloc,
         "skip-unreached",
-        "With --top, leaves out the structures that it doesn't reach, and tells their faults",
+        "With --top, leaves out the structures that it doesn't reach, and prints their faults",
     );
     let faults = flag(
         alloc,
         "faults",
-        "Tells the fault of each element, where the library has one, and not only the first",
+        "Prints the fault of each element, and not only the first",
     );
     let summary = flag(
         alloc,
         "summary",
-        "Prints the number of markers of each rule and of all, in the place of their listing",
+        "Prints the number of markers of each rule and of all, instead of their listing",
     );
     command.arg(unreached)?.arg(faults)?.arg(summary)
 }
@@ -83,8 +83,7 @@ pub fn with_choices<'a>(alloc: Global, command: Command<'a>) -> Result<Command<'
         alloc,
         "tile",
         "SIDE",
-        "The side of the tiles in nm, 256 to 2^30, in the place of the deck's: the markers are the \
-        same",
+        "The side of the tiles in nm, 256 to 2^30, instead of the deck's: the markers are the same",
     );
     let skip = free_option(
         alloc,

@@ -73,7 +73,7 @@ fn command<'a>(alloc: Global) -> Result<Command<'a>, AllocError> {
         alloc,
         "top",
         "STRUCTURE",
-        "The structure that is checked; without it the one that nothing places, where there is one",
+        "The structure that is checked; without it the only one that no other places",
     );
     let file = Arg::new(alloc, "file")
         .value_name("FILE")

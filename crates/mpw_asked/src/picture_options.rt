@@ -31,7 +31,7 @@ pub fn with_picture<'a>(alloc: Global, command: Command<'a>) -> Result<Command<'
         alloc,
         "marker",
         "KEY",
-        "Draws only what lies round the marker of that key: a line of the listing up to the blank",
+        "Draws only what is around the marker of that key: the first word of its line",
     );
     command.arg(picture)?.arg(marker)
 }

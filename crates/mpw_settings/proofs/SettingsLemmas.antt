@@ -4,6 +4,8 @@ use Rattle.std.specs.Prelude.{◌≢◌, IfErr}
 use Rattle.std.specs.Result.{IsErrAnd}
 use Rattle.std.specs.Str.{bytes_eq}
 use Rattle.std.specs.Borrow.{Bor}
+use Rattle.std.specs.Net.Grammar.{IsSocketText, Parses}
+use Rattle.std.specs.declared.net.socket_addr.SocketAddr.{SocketAddr}
 use Rattle.clap.specs.declared.error.Error.{Error}
 use Rattle.clap.specs.declared.error.kind.ErrorKind.TheVariants.{DisplayHelp, OutOfMemory}
 use Rattle.clap.specs.declared.parser.matches.Found.{Found}
@@ -12,7 +14,7 @@ use Rattle.clap.specs.Walk.{row_of}
 use Rattle.clap.specs.Words.{HasKind, IsAmong, Kinds, Row, Text, fault_of, first_of, first_value, kind_of, rows_of, subcommand_of}
 use Rattle.mpw_requests.specs.Digest.{Spells}
 use Rattle.mpw_settings.specs.Forms.{program_app}
-use Rattle.mpw_settings.specs.Settings.{AreGiven, AreOf, GiveNone, GivesNone, GivesOfficer, IsFaultOf}
+use Rattle.mpw_settings.specs.Settings.{AreGiven, AreOf, GiveNone, GivesAddress, GivesNone, GivesOfficer, IsFaultOf}
 use Rattle.mpw_settings.specs.declared.fault.SettingsFault.{SettingsFault}
 use Rattle.mpw_settings.specs.declared.settings.Settings.{Settings}
 use Rattle.mpw_settings.specs.declared.settings.Settings.TheVariants.{Script, Serve, Help}
@@ -54,6 +56,18 @@ pub bad-digits : (rows : List Row) (text : Text) → first_of (codes "digest") r
 bad-digits rows text found bad officer given =
     bad officer.digest (subst (λ t. Spells t officer.digest)
     (same-text given.2.0 text (sym given.2.1 ∙ found)) given.2.2) given.3
+
+-- a text that is read as no address writes none
+pub none-read : {E : Type 0} (text : Text) (result : Result SocketAddr E) (error : E)
+    → result ≡ Err error → Parses IsSocketText text result
+    → (address : SocketAddr) → IsSocketText text address → ⊥
+none-read text result error is parsed = subst (Parses IsSocketText text) is parsed
+
+-- and so it gives none
+pub no-address : (rows : List Row) (text : Text) → first_of (codes "listen") rows ≡ Some text
+    → ((address : SocketAddr) → IsSocketText text address → ⊥) → GivesNone (GivesAddress rows)
+no-address rows text found none given of =
+    none of.1.0 (subst (λ t. IsSocketText t of.1.0) (same-text given text (sym of.0 ∙ found)) of.1.1)
 
 pub told-more : (first second : Type 0) (fault : SettingsFault) → (first → second)
     → IsFaultOf first fault → IsFaultOf second fault

@@ -2,6 +2,8 @@
 use Rattle.std.specs.Prelude.{◌≡◌, ◌≢◌, ◌⊎◌, ◌↔◌, ℕ, Bool, IsTrue, List, [], ◌∷◌, codes, length, Option, None, Some, String, option_map}
 use Rattle.std.specs.String.{string_bytes}
 use Rattle.std.specs.declared.alloc.Global.{Global}
+use Rattle.std.specs.declared.net.socket_addr.SocketAddr.{SocketAddr}
+use Rattle.std.specs.Net.Grammar.{IsSocketText}
 use Rattle.clap.specs.declared.error.kind.ErrorKind.TheVariants.{DisplayHelp}
 use Rattle.clap.specs.Words.{IsAmong, Row, Text, fault_of, first_of, subcommand_of}
 use Rattle.mpw_geom.specs.Name.{IsName}
@@ -28,6 +30,11 @@ Gives name rows text = first_of name rows ≡ Some text
 abbrev pub GivesNumber : Text → ℕ → ℕ → List Row → ℕ → Type 0
 GivesNumber name least most rows number =
     (text : Text) × Gives name rows text × (number_of least most text ≡ Some number)
+
+-- its value writes a socket address: `IPV4:PORT` or `[IPV6]:PORT`, no host's name
+abbrev pub GivesAddress : List Row → Text → Type 0
+GivesAddress rows text =
+    Gives (codes "listen") rows text × ((address : SocketAddr) × IsSocketText text address)
 
 -- the flag is set
 abbrev pub GivesFlag : Text → List Row → Bool → Type 0
@@ -56,7 +63,7 @@ pub record GivesScript (rows : List Row) (script : ScriptGiven) : Type 0 where
   pub store : GivesStore rows script.store
 
 pub record GivesService (rows : List Row) (service : Service) : Type 0 where
-  pub listen : Gives (codes "listen") rows (string_bytes service.listen)
+  pub listen : GivesAddress rows (string_bytes service.listen)
   pub connections : GivesNumber (codes "connections") 1 64 rows service.connections
   pub workers : GivesNumber (codes "workers") 1 16 rows service.workers
   pub ongoing : GivesFlag (codes "ongoing") rows service.is_ongoing

@@ -26,7 +26,7 @@ pub enum Log {
 /// What a service is to do.
 #[derive(Drop)]
 pub struct Service {
-    /// The socket's address, as it was written: that it is one is found where it is bound.
+    /// The socket's address, as it was written, `IPV4:PORT` or `[IPV6]:PORT`.
     pub listen: String,
     /// How many connections it has, from 1 to [`MAX_CONNECTIONS`]: at a time where it is ongoing, and else in all.
     pub connections: u32,

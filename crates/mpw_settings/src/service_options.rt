@@ -1,19 +1,21 @@
 //! The options of `serve`, and the service that they give.
-ghost use Rattle.std.specs.Prelude.{◌≡◌, IfOk, IfErr, None, codes};
+ghost use Rattle.std.specs.Prelude.{IfOk, IfErr};
 ghost use Rattle.std.specs.String.{string_bytes};
-ghost use Rattle.clap.specs.Words.{App, first_of, found_of, rows_of};
+ghost use Rattle.clap.specs.Words.{App, found_of, rows_of};
 ghost use Rattle.mpw_settings.specs.Forms.{HasForm, IsOption, idle_option, ongoing_option, serve_app, with_required};
-ghost use Rattle.mpw_settings.specs.Settings.{Gives, GivesLog, GivesNone, GivesService, IsFaultOf};
+ghost use Rattle.mpw_settings.specs.Settings.{GivesAddress, GivesLog, GivesNone, GivesService, IsFaultOf};
 
 use crate::fault::SettingsFault;
 use crate::officer::{read_officer, with_officer};
 use crate::options::{
-    free_option, given, is_given, new_command, number_of, required_option, value_of, with_option,
+    free_option, given, is_given, new_command, number_of, required_option, usage, value_of,
+    with_option,
 };
 use crate::service::{Log, MAX_CONNECTIONS, MAX_IDLE, MAX_WORKERS, Service};
 use crate::store::{read_store, with_store};
 use clap::{Arg, ArgAction, ArgMatches, Command};
 use std::alloc::{AllocError, Global};
+use std::net::SocketAddr;
 
 /// The flag of a service that goes on.
 fn ongoing_option<'a>(alloc: Global) -> Arg<'a>
@@ -22,7 +24,7 @@ fn ongoing_option<'a>(alloc: Global) -> Arg<'a>
     Arg::new(alloc, "ongoing")
         .long("ongoing")
         .action(ArgAction::SetTrue)
-        .help("Goes on where connections end; N is then how many there are at a time")
+        .help("Goes on when connections end; N is then how many there are at a time")
 }
 
 /// The option of the time in which a connection may send nothing.
@@ -46,7 +48,7 @@ fn with_required<'a>(alloc: Global, command: Command<'a>) -> Result<Command<'a>,
         alloc,
         "listen",
         "ADDR",
-        "The address of its socket, as 127.0.0.1:7000; at port 0 any free one is taken",
+        "The address of its socket, as 127.0.0.1:7000 or [::1]:7000; at port 0 any free one is taken",
     );
     let connections = required_option(
         alloc,
@@ -83,13 +85,24 @@ pub fn serve_command<'a>(alloc: Global) -> Result<Command<'a>, AllocError>
     with_store(alloc, command)
 }
 
-/// The text that is given for the address.
+/// What is said of a text that writes no socket address.
+fn no_address(alloc: Global) -> SettingsFault {
+    usage(String::from_str(
+        alloc,
+        "error: --listen takes ADDRESS:PORT, as 127.0.0.1:7000 or [::1]:7000",
+    ))
+}
+
+/// The text that is given for the address, which writes one. No host's name is looked up.
 fn read_listen(alloc: Global, options: &ArgMatches<'_>) -> Result<String, SettingsFault>
-    ensures ok { IfOk result (λ listen. Gives (codes "listen") (rows_of (found_of options.now)) (string_bytes listen)) }
-    ensures refused { IfErr result (IsFaultOf (first_of (codes "listen") (rows_of (found_of options.now)) ≡ None)) }
+    ensures ok { IfOk result (λ listen. GivesAddress (rows_of (found_of options.now)) (string_bytes listen)) }
+    ensures refused { IfErr result (IsFaultOf (GivesNone (GivesAddress (rows_of (found_of options.now))))) }
 {
     let text = value_of(alloc, options, "listen")?;
-    Ok(String::from_str(alloc, text)?)
+    match text.parse::<SocketAddr>() {
+        Ok(_) => Ok(String::from_str(alloc, text)?),
+        Err(_) => Err(no_address(alloc)),
+    }
 }
 
 /// Where the log goes.

@@ -19,7 +19,7 @@ pub fn with_store<'a>(alloc: Global, command: Command<'a>) -> Result<Command<'a>
         alloc,
         "store",
         "FILE",
-        "Keeps each change in a database, and goes on from those that it has",
+        "Stores each change in a database, and goes on from those that it has",
     );
     with_option(command, store)
 }

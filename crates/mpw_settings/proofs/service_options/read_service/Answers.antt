@@ -1,5 +1,11 @@
+use Rattle.std.specs.String.{string_bytes}
 use Rattle.mpw_settings.proofs.SettingsLemmas.{passed-on}
 use Rattle.mpw_settings.proofs.service_options.read_service.Goals as goal
+
+pub returns-in_err-listen-clause-refused : goal.returns-in_err-listen-clause-refused
+returns-in_err-listen-clause-refused c = passed-on c.from_residual.result _ _ _
+    c.from_residual.ensures.1
+    (λ none service given. none (string_bytes service.listen) given.listen) c.in_err-listen.ensures.refused
 
 pub returns-in_err-connections-clause-refused : goal.returns-in_err-connections-clause-refused
 returns-in_err-connections-clause-refused c = passed-on c.from_residual-in_err-connections.result _ _ _
