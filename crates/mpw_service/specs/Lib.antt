@@ -1,1 +1,4 @@
+pub mod Served
+pub mod Staff
 pub mod Status
+pub mod Turns

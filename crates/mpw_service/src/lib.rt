@@ -7,13 +7,20 @@
 //! The desk's core and its keeper are type parameters here, so this crate needs no core, no store and no file.
 #![tactic(auto)]
 
+mod accepting;
 mod arrival;
 mod fault;
 mod log;
+mod opening;
+mod parts;
 mod reception;
 mod scribe;
 mod service;
+mod staff;
 
 pub use fault::ServeFault;
 pub use log::Log;
-pub use service::{Begun, Gathered, Opening, Staff, serve, serve_desk};
+pub use opening::{Begun, Opening};
+pub use parts::Gathered;
+pub use service::{serve, serve_desk};
+pub use staff::Staff;

@@ -1,9 +1,10 @@
 //! Hands connections that were accepted to threads that serve them.
 //!
 //! What an accepted connection is, is a type parameter: so the types of a desk's calls, which its pass leads to, don't count in the proofs of this file.
+ghost use Rattle.std.specs.Prelude.{◌≡◌, ◌==◌, not, filter};
 
 use crate::fault::ServeFault;
-use crate::service::Staff;
+use crate::staff::Staff;
 use std::alloc::{AllocError, Global};
 use std::io;
 use std::net::{Net, Shutdown, SocketAddr, TcpStream};
@@ -43,7 +44,7 @@ struct Waiting<A: Guest + Drop> {
     /// What a thread lacked, if one lacked something.
     fault: Option<ServeFault>,
     /// The connections that are served.
-    open: Vec<Open>,
+    served: Vec<Open>,
 }
 
 impl<A: Guest + Drop> Drop for Waiting<A> {
@@ -55,10 +56,10 @@ impl<A: Guest + Drop> Drop for Waiting<A> {
             left: _,
             is_closed: _,
             fault: _,
-            open,
+            served,
         } = self;
         drop(arrival);
-        drop(open);
+        drop(served);
     }
 }
 
@@ -93,19 +94,25 @@ impl<A: Guest + Drop> Waiting<A> {
     fn note_open(&mut self, arrival: &A) {
         if let Ok(stream) = arrival.second_handle() {
             let connection = arrival.connection();
-            let _ = self.open.push(Open { connection, stream });
+            let _ = self.served.push(Open { connection, stream });
         }
     }
 
     /// Forgets a connection that ended.
-    fn forget(&mut self, connection: u32) {
-        self.open.retain(|open| open.connection != connection);
+    fn forget(&mut self, connection: u32)
+        ensures { self.new.served.items ≡ filter (λ other. not (connection == other.connection)) self.old.served.items }
+    {
+        self.served.retain(
+            |other: &Open| -> bool
+                ensures { result ≡ not (connection == other.now.connection) }
+            { connection != other.connection },
+        );
     }
 
     /// Ends all connections that are served: their clients get no more answers.
     fn shut_all(&self) {
-        for open in &self.open {
-            let _ = open.stream.shutdown(Shutdown::Both);
+        for other in &self.served {
+            let _ = other.stream.shutdown(Shutdown::Both);
         }
     }
 }
@@ -120,7 +127,7 @@ impl<A: Guest + Drop> Reception<A> {
         address: SocketAddr,
         staff: Staff,
     ) -> Result<Reception<A>, AllocError> {
-        let open = Vec::with_capacity(alloc, staff.connections as usize)?;
+        let served = Vec::with_capacity(alloc, staff.connections as usize)?;
         Ok(Reception {
             waiting: Mutex::new(Waiting {
                 arrival: None,
@@ -129,7 +136,7 @@ impl<A: Guest + Drop> Reception<A> {
                 left: 0,
                 is_closed: false,
                 fault: None,
-                open,
+                served,
             }),
             changed: Condvar::new(),
             address,

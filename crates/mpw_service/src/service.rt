@@ -1,238 +1,26 @@
 //! The threads of a service: one accepts connections, some serve them, and workers execute runs.
-ghost use Rattle.std.specs.Prelude.{◌≡◌, ◌≤◌, ◌<◌, IfOk};
-ghost use Rattle.mpw_events.specs.GoingOn.{GoesOnTo};
+ghost use Rattle.std.specs.Prelude.{◌≡◌, ◌+◌, ◌≤◌, ◌<◌, IfNone, IfOk, IfSome, Ok, vec_len};
+ghost use Rattle.mpw_desk.specs.Numbers.{AreBelow};
 ghost use Rattle.mpw_events.specs.History.{kept_desk};
+ghost use Rattle.mpw_service.specs.Served.{IsServed};
 
+use crate::accepting::accept_all;
 use crate::arrival::Arrival;
 use crate::fault::ServeFault;
 use crate::log::Log;
+use crate::opening::{Begun, Opening};
+use crate::parts::{Gathered, Part, Parts, add};
 use crate::reception::{Guest, Reception};
+use crate::staff::{Staff, is_over};
 use mpw_desk::{Blank, Mismatch, Pass, Room, Shared};
 use mpw_events::{Handler, Keeper};
 use mpw_job::Gate;
 use std::alloc::Global;
-use std::io::{self, ErrorKind};
 use std::marker::Brand;
 use std::net::{Net, TcpListener, TcpStream};
 use std::sync::Wait;
 use std::thread::{self, JoinHandle, Threads};
-use std::time::{Clock, Duration};
-
-/// How often a system call is made in all if it is interrupted.
-const TRIES: u32 = 16;
-
-/// How many threads serve and work, and for how long.
-#[derive(Clone, Copy)]
-pub struct Staff {
-    /// How many connections are served at once, 1 to 64.
-    pub connections: u32,
-    /// How many workers execute runs, 1 to 16.
-    pub workers: u32,
-    /// Whether a connection that ended makes room for another. If not, as many are served in all as at once.
-    pub is_ongoing: bool,
-    /// How long a client may send nothing.
-    pub idle: Duration,
-    /// How many calls the desk answers in its life.
-    pub calls: usize,
-}
-
-/// The socket of a service, its threads and its log.
-pub struct Opening<'a> {
-    /// Accepts the connections.
-    pub listener: TcpListener,
-    /// How many threads serve and work.
-    pub staff: Staff,
-    /// Gets a line for each connection and for each request.
-    pub log: &'a Log,
-}
-
-impl<'a> Drop for Opening<'a> {
-    fn drop(self) {
-        let Opening {
-            listener,
-            staff: _,
-            log: _,
-        } = self;
-        drop(listener);
-    }
-}
-
-impl<'a> Opening<'a> {
-    /// The listener, who serves, and the log.
-    fn into_parts(self) -> (TcpListener, Staff, &'a Log) {
-        let Opening {
-            listener,
-            staff,
-            log,
-        } = self;
-        (listener, staff, log)
-    }
-}
-
-/// A desk that is about to be shared.
-#[derive(Drop)]
-pub struct Begun<H: Handler + Drop, K: Keeper + Drop> {
-    /// The desk.
-    pub core: Box<H>,
-    /// The keeper of its changes.
-    pub keeper: K,
-    /// The number of its first connection or worker.
-    pub first: u32,
-}
-
-/// The passes that came back from a service, and whether it ended well.
-#[derive(Drop)]
-pub struct Gathered<N: Room> {
-    /// Those of its connections and its workers. If there was no memory for them, some are missing.
-    pub passes: Vec<Pass<N>>,
-    /// Why it ended early, if it did.
-    pub ended: Result<(), ServeFault>,
-}
-
-/// Accepts a connection. It tries again if the call was interrupted.
-fn accept(listener: &TcpListener) -> Result<TcpStream, ServeFault> {
-    for _ in 0..TRIES {
-        match listener.accept() {
-            Ok((stream, _)) => return Ok(stream),
-            Err(error)
-                if matches!(
-                    error.kind(),
-                    ErrorKind::Interrupted | ErrorKind::ConnectionAborted
-                ) => {}
-            Err(_) => return Err(ServeFault::Accept),
-        }
-    }
-    Err(ServeFault::Accept)
-}
-
-/// Accepts one connection and hands it to a thread that is free. It returns whether more may come. If the system sets no time limits for a
-/// connection, that is closed at once.
-fn accept_one<H, K, N, R>(
-    rt: &R,
-    shared: &Shared<H, K, N>,
-    listener: &TcpListener,
-    reception: &Reception<Arrival<N>>,
-    idle: Duration,
-) -> Result<bool, ServeFault>
-where
-    H: Handler + Drop,
-    K: Keeper + Drop,
-    N: Room,
-    R: Wait,
-{
-    if !reception.is_awaited(rt) {
-        return Ok(false);
-    }
-    let stream = accept(listener)?;
-    if reception.is_closed(rt) {
-        return Ok(false);
-    }
-    let Some(pass) = shared.pass(rt) else {
-        return Err(ServeFault::Full);
-    };
-    if let Ok(arrival) = Arrival::new(stream, pass, idle) {
-        reception.hand_over(rt, arrival);
-    }
-    Ok(true)
-}
-
-/// Accepts connections until as many came as are served in all, or no more are awaited. Then the listener is closed.
-fn accept_all<H, K, N, R>(
-    rt: &R,
-    shared: &Shared<H, K, N>,
-    listener: TcpListener,
-    reception: &Reception<Arrival<N>>,
-    staff: Staff,
-) -> Result<(), ServeFault>
-where
-    H: Handler + Drop,
-    K: Keeper + Drop,
-    N: Room,
-    R: Wait,
-{
-    let most = if staff.is_ongoing {
-        u64::MAX
-    } else {
-        u64::from(staff.connections)
-    };
-    for _ in 0..most {
-        if !accept_one(rt, shared, &listener, reception, staff.idle)? {
-            break;
-        }
-    }
-    Ok(())
-}
-
-/// Serves connections, one after the other, until none arrives any more, and returns their passes. It ends the service if the desk has answered all its
-/// calls, if a connection was answered that the desk is closed, or if there is no room for another pass.
-fn serve_arrivals<H, K, N, R>(
-    rt: &R,
-    alloc: Global,
-    shared: &Shared<H, K, N>,
-    reception: &Reception<Arrival<N>>,
-    log: &Log,
-) -> Vec<Pass<N>>
-where
-    H: Handler + Drop,
-    K: Keeper + Drop,
-    N: Room,
-    R: Wait + Clock + Net,
-{
-    let mut passes = Vec::new(alloc);
-    for _ in rt.forever() {
-        if passes.reserve(1).is_err() {
-            reception.end(rt, Some(ServeFault::Memory));
-        }
-        let Some(arrival) = reception.next(rt) else {
-            return passes;
-        };
-        let connection = arrival.connection();
-        let (pass, was_closed) = arrival.serve(rt, alloc, shared, log);
-        reception.note_end(rt, connection);
-        if passes.push(pass).is_err() {
-            reception.end(rt, Some(ServeFault::Memory));
-        }
-        if was_closed || shared.calls(rt) >= reception.calls() {
-            reception.end(rt, None);
-        }
-    }
-    unreachable!()
-}
-
-/// Lets every tile pass at once.
-struct Unheld;
-
-impl Gate for Unheld {
-    fn pass(&self, _run: u32, _tile: u32) {}
-}
-
-/// Executes runs with a pass of its own until the desk is stopped, and returns the pass. It ends the service if no pass is left, or if there is no room
-/// for it.
-fn work<H, K, N, R>(
-    rt: &R,
-    alloc: Global,
-    shared: &Shared<H, K, N>,
-    reception: &Reception<Arrival<N>>,
-) -> Vec<Pass<N>>
-where
-    H: Handler + Drop,
-    K: Keeper + Drop,
-    N: Room,
-    R: Wait + Clock + Net,
-{
-    let mut passes = Vec::new(alloc);
-    if passes.reserve(1).is_err() {
-        reception.end(rt, Some(ServeFault::Memory));
-        return passes;
-    }
-    let Some(mut pass) = shared.pass(rt) else {
-        reception.end(rt, Some(ServeFault::Full));
-        return passes;
-    };
-    let _ = shared.worker(rt, alloc, &mut pass, &Unheld);
-    let _ = passes.push(pass);
-    passes
-}
+use std::time::Clock;
 
 /// What the threads of a service share. It is one struct, since a closure that holds one reference is easy to prove to be `Send`.
 struct Hall<'a, H: Handler + Drop, K: Keeper + Drop, N: Room, R: Wait> {
@@ -255,31 +43,108 @@ impl<'a, H: Handler + Drop, K: Keeper + Drop, N: Room, R: Wait> Drop for Hall<'a
     }
 }
 
-/// Takes part in a service: the first threads that come are its workers, and the others serve its connections. It returns their passes.
-fn take_part<H, K, N, R>(hall: &Hall<'_, H, K, N, R>) -> Vec<Pass<N>>
+/// Takes the next connection, and counts it. There is none if none arrives any more.
+fn next_arrival<N, R>(
+    rt: &R,
+    reception: &Reception<Arrival<N>>,
+    taken: &mut u64,
+) -> Option<Arrival<N>>
+where
+    N: Room,
+    R: Wait,
+    ensures some { IfSome result (λ _. taken.new ≡ taken.old + 1) }
+    ensures none { IfNone result (taken.new ≡ taken.old) }
+{
+    let count = taken.checked_add(1)?;
+    let arrival = reception.next(rt)?;
+    *taken = count;
+    Some(arrival)
+}
+
+/// Serves the next connection, and adds its pass to the others. It returns whether there was one.
+fn serve_next<H, K, N, R>(hall: &Hall<'_, H, K, N, R>, part: &mut Part<N>) -> bool
 where
     H: Handler + Drop,
     K: Keeper + Drop,
     N: Room,
     R: Wait + Clock + Net,
 {
-    let (rt, alloc, reception) = (hall.rt, hall.alloc, hall.reception);
-    if reception.is_worker(rt) {
-        return work(rt, alloc, hall.shared, reception);
+    let (rt, reception) = (hall.rt, hall.reception);
+    if part.passes.reserve(1).is_err() {
+        reception.end(rt, Some(ServeFault::Memory));
     }
-    let passes = serve_arrivals(rt, alloc, hall.shared, reception, hall.log);
-    reception.leave(rt);
-    passes
-}
-
-/// Adds passes to others, and returns whether there was room.
-fn add_all<N: Room>(passes: &mut Vec<Pass<N>>, more: Vec<Pass<N>>) -> bool {
-    for pass in more {
-        if passes.push(pass).is_err() {
-            return false;
-        }
+    let Some(arrival) = next_arrival(rt, reception, &mut part.taken) else {
+        return false;
+    };
+    let connection = arrival.connection();
+    let (pass, was_closed) = arrival.serve(rt, hall.alloc, hall.shared, hall.log);
+    reception.note_end(rt, connection);
+    if !add(&mut part.passes, pass) {
+        part.is_whole = false;
+        reception.end(rt, Some(ServeFault::Memory));
+    }
+    if is_over(was_closed, hall.shared.calls(rt), reception.calls()) {
+        reception.end(rt, None);
     }
     true
+}
+
+/// Serves connections, one after the other, until none arrives any more, and returns their passes. It ends the service if the desk has answered all its
+/// calls, if a connection was answered that the desk is closed, or if there is no room for another pass.
+fn serve_arrivals<H, K, N, R>(hall: &Hall<'_, H, K, N, R>) -> Part<N>
+where
+    H: Handler + Drop,
+    K: Keeper + Drop,
+    N: Room,
+    R: Wait + Clock + Net,
+{
+    let mut part = Part::new(hall.alloc);
+    for _ in hall.rt.forever() {
+        if !serve_next(hall, &mut part) {
+            return part;
+        }
+    }
+    unreachable!()
+}
+
+/// Lets every tile pass at once.
+struct Unheld;
+
+impl Gate for Unheld {
+    fn pass(&self, _run: u32, _tile: u32) {}
+}
+
+/// Executes runs with a pass of its own until the desk is stopped, and returns the pass. It ends the service if no pass is left.
+fn work<H, K, N, R>(hall: &Hall<'_, H, K, N, R>) -> Option<Pass<N>>
+where
+    H: Handler + Drop,
+    K: Keeper + Drop,
+    N: Room,
+    R: Wait + Clock + Net,
+{
+    let (rt, shared) = (hall.rt, hall.shared);
+    let Some(mut pass) = shared.pass(rt) else {
+        hall.reception.end(rt, Some(ServeFault::Full));
+        return None;
+    };
+    let _ = shared.worker(rt, hall.alloc, &mut pass, &Unheld);
+    Some(pass)
+}
+
+/// Takes part in a service: the first threads that come are its workers, and the others serve its connections. It returns their passes.
+fn take_part<H, K, N, R>(hall: &Hall<'_, H, K, N, R>) -> Part<N>
+where
+    H: Handler + Drop,
+    K: Keeper + Drop,
+    N: Room,
+    R: Wait + Clock + Net,
+{
+    if hall.reception.is_worker(hall.rt) {
+        return Part::of_worker(hall.alloc, work(hall));
+    }
+    let part = serve_arrivals(hall);
+    hall.reception.leave(hall.rt);
+    part
 }
 
 /// Accepts the connections of a service of which so many threads have begun, waits until the threads that serve have ended, and stops the
@@ -319,23 +184,22 @@ fn gather<N, R>(
     rt: &R,
     alloc: Global,
     reception: &Reception<Arrival<N>>,
-    threads: Vec<JoinHandle<Vec<Pass<N>>>>,
+    threads: Vec<JoinHandle<Part<N>>>,
     ended: Result<(), ServeFault>,
 ) -> Gathered<N>
 where
     N: Room,
     R: Threads + Wait,
 {
-    let mut passes = Vec::new(alloc);
-    let mut is_whole = true;
+    let mut parts = Parts::new(alloc);
     for handle in threads {
-        is_whole &= add_all(&mut passes, handle.join(rt));
+        parts.take_in(handle.join(rt));
     }
     let ended = match ended {
-        Ok(()) => reception.outcome(rt, is_whole),
+        Ok(()) => reception.outcome(rt, parts.is_whole),
         Err(fault) => Err(fault),
     };
-    Gathered { passes, ended }
+    parts.gathered(ended)
 }
 
 /// Starts the threads of a service, leads it, and joins them.
@@ -391,19 +255,14 @@ where
     K: Keeper + Send + Drop,
     N: Room + Send + Sync,
     R: Threads + Wait + Clock + Net<Listener = TcpListener, Stream = TcpStream> + Sync,
+    ensures { result.ended ≡ Ok tt → vec_len result.passes ≡ result.served + opening.entry.staff.workers }
 {
     let (listener, staff, log) = opening.into_parts();
     let Ok(address) = listener.local_addr() else {
-        return Gathered {
-            passes: Vec::new(alloc),
-            ended: Err(ServeFault::Accept),
-        };
+        return Gathered::none(alloc, ServeFault::Accept);
     };
     let Ok(reception) = Reception::new(alloc, address, staff) else {
-        return Gathered {
-            passes: Vec::new(alloc),
-            ended: Err(ServeFault::Memory),
-        };
+        return Gathered::none(alloc, ServeFault::Memory);
     };
     let hall = Hall {
         rt,
@@ -412,7 +271,7 @@ where
         reception: &reception,
         log,
     };
-    run_threads(&hall, listener, staff)
+    run_threads(&hall, listener, staff).with_workers(staff.workers)
 }
 
 /// Serves a desk under its name, as [`serve_desk`] does.
@@ -432,8 +291,9 @@ where
     requires name { blank.name ≡ N.name }
     requires parts { (blank.parts ≡ N.parts) × (N.all ≡ N.parts) × (1048577 ≤ N.all) }
     requires table { blank.table ≡ N.table }
-    requires first { 0 < begun.first }
-    ensures { IfOk result.0 (λ back. GoesOnTo N.begun (kept_desk (H.desk back.0.value) (K.kept back.1) (K.failures back.1))) }
+    requires first { (0 < begun.first) × (N.first ≡ begun.first) }
+    requires above { AreBelow begun.first (H.desk begun.core.value).history }
+    ensures { IfOk result.0 (λ back. IsServed opening.entry.staff.workers N.begun (kept_desk (H.desk back.0.value) (K.kept back.1) (K.failures back.1)) result.1) }
 {
     let Begun {
         core,
@@ -441,7 +301,7 @@ where
         first,
     } = begun;
     let shared: Shared<H, K, N> = Shared::new(core, keeper, blank, first);
-    let Gathered { passes, ended } = serve(rt, alloc, &shared, opening);
+    let (passes, ended) = serve(rt, alloc, &shared, opening).into_parts();
     match shared.finish(passes) {
         Ok(back) => (Ok(back), ended),
         Err(mismatch) => (Err(mismatch), ended),
@@ -462,10 +322,11 @@ where
     K: Keeper + Send + Drop,
     R: Threads + Wait + Clock + Net<Listener = TcpListener, Stream = TcpStream> + Sync,
     requires first { 0 < begun.first }
+    requires above { AreBelow begun.first (H.desk begun.core.value).history }
     requires parts { blank.parts ≡ 2097152 }
 
-    // The desk went on by calls, and its keeper has just their changes after those before.
-    ensures { IfOk result.0 (λ back. GoesOnTo (kept_desk (H.desk begun.core.value) (K.kept begun.keeper) (K.failures begun.keeper)) (kept_desk (H.desk back.0.value) (K.kept back.1) (K.failures back.1))) }
+    // The desk went on by calls, and its keeper has just their changes after those before. The passes made all of them.
+    ensures { IfOk result.0 (λ back. IsServed opening.entry.staff.workers (kept_desk (H.desk begun.core.value) (K.kept begun.keeper) (K.failures begun.keeper)) (kept_desk (H.desk back.0.value) (K.kept back.1) (K.failures back.1)) result.1) }
 {
     serve_named::<H, K, Brand, R>(rt, alloc, begun, blank, opening)
 }
