@@ -1,15 +1,22 @@
 -- How a service over a store ends, and what the store's rows tell then.
-use Rattle.std.proofs.Common.{◌≡◌, ◌↔◌, ◌∙◌, ℕ, List, [], ◌++◌, Option, None, Some, Result, Ok, Err, IsTrue, refl, sym, ap, subst, append-nil}
+use Rattle.std.proofs.Common.{◌≡◌, ◌↔◌, ◌∙◌, ℕ, Bool, true, false, List, [], ◌++◌, Option, None, Some, Result, Ok, Err, IsTrue, refl, sym, ap, subst, append-nil}
 use Rattle.sqlite.specs.State.{HasCleanDisk, State}
+use Rattle.std.proofs.lemmas.List.Elements.{All-nil}
+use Rattle.mpw_desk.specs.Finished.{IsFinished}
+use Rattle.mpw_desk.specs.Values.{PassView}
+use Rattle.mpw_receipts.specs.Calls.{calls_of}
+use Rattle.mpw_receipts.specs.Owner.{owner_of}
 use Rattle.mpw_events.specs.declared.keeper.KeptChange.{KeptChange}
 use Rattle.mpw_events.specs.GoingOn.{GoesOnTo, changes_of}
 use Rattle.mpw_events.specs.History.{Desk, KeptDesk, kept_desk, state_of}
 use Rattle.mpw_events.specs.Keeping.{Grows}
-use Rattle.mpw_keeper.specs.Kept.{IsKeptIn, Keeping, changes_in, failures_of, kept_by}
+use Rattle.mpw_keeper.specs.Kept.{IsKeptIn, Keeping, changes_in, failures_of, kept_by, rows_from}
 use Rattle.mpw_settings.specs.declared.officer.Officer.{Officer}
+use Rattle.mpw_store.specs.Changes.{HasRows}
 use Rattle.mpw_store.specs.declared.fault.StoreFault.{StoreFault}
+use Rattle.mpw_stored_script.specs.declared.fault.StoredFault.{StoredFault}
 use Rattle.mpw_stored_script.specs.declared.fault.StoredFault.TheVariants.{Closed}
-use Rattle.mpw_server.specs.Stored.{BeginsOver, Ends, GoesOnStored, HasStored, Leaves, StoresItsChanges}
+use Rattle.mpw_server.specs.Stored.{BeginsOver, Ends, GoesOnStored, HasStored, IsNoStore, Leaves, StoresItsChanges, ended_with}
 use Rattle.mpw_server.specs.declared.fault.ServiceFault.{ServiceFault}
 use Rattle.mpw_server.specs.declared.fault.ServiceFault.TheVariants as service
 
@@ -30,7 +37,7 @@ known-before (Some old) (Some new) now more is grows =
 goes_on : (officer : Officer) (s s' : State) (begun left : KeptDesk) → BeginsOver officer s begun
     → GoesOnTo begun left → IsKeptIn s' left.kept → GoesOnStored officer s s'
 goes_on officer s s' begun left begins goes is_kept =
-    let before = known-before begun.kept left.kept (changes_in is_kept.entries)
+    let before = known-before begun.kept left.kept is_kept.changes
     (changes_of (state_of begun.desk) goes.calls) is_kept.is goes.grows in
     record {
       desk = begun.desk;
@@ -38,9 +45,9 @@ goes_on officer s s' begun left begins goes is_kept =
       begins = begins.begins before.0 before.1;
       calls = goes.calls;
       ready = is_kept.ready;
-      entries = is_kept.entries;
-      rows = is_kept.rows;
-      told = before.2;
+      rows = subst (λ changes. HasRows s'.now.trees (rows_from 1 changes)) before.2 is_kept.rows;
+      told = subst (λ changes. changes_in (rows_from 1 changes) ≡ Some changes) before.2
+          is_kept.told;
     }
 
 pub stores_its_changes : (s s' : State) → StoresItsChanges s s'
@@ -80,6 +87,17 @@ grows-to-itself : (kept : Option (List KeptChange)) → Grows kept kept []
 grows-to-itself None = tt
 grows-to-itself (Some known) = sym (append-nil known)
 
+-- without a pass and a call
+unused : (desk : Desk) (kept left : Option (List KeptChange)) (failures count : ℕ)
+    → Grows kept left [] → IsFinished (kept_desk desk kept failures) (kept_desk desk left count) []
+unused desk kept left failures count grows = record {
+  calls = [];
+  history = sym (append-nil desk.history);
+  goes = record { calls = []; added = stays desk; grows = grows };
+  counted = refl;
+  receipts = All-nil (λ (p : PassView). p.receipts ≡ calls_of owner_of p.connection desk.history);
+}
+
 grows-to-none : (kept : Option (List KeptChange)) → Grows kept None []
 grows-to-none None = tt
 grows-to-none (Some known) = tt
@@ -91,33 +109,45 @@ err-is-ok : (ended : Result (Unit {0}) ServiceFault) (told : ServiceFault) → e
     → ended ≡ Ok tt → ⊥
 err-is-ok ended told is well = cc
 
+-- a fault that no store gave is told as none of a store
+no-store : (ended : Result (Unit {0}) ServiceFault) (told : ServiceFault) (stored : StoredFault)
+    → IsNoStore told → ended ≡ Err told → ended ≡ Err (service.Store stored) → ⊥
+no-store ended told stored storeless is other = let same : told ≡ service.Store stored = cc in
+    subst IsNoStore same storeless
+
 -- a desk that wasn't shared, of which each change was kept
 pub ends_unshared : (desk : Desk) (kept : Option (List KeptChange)) (failures : ℕ)
     (fault : Option StoreFault) (Comes : Option (List KeptChange) → Option StoreFault → Type 0)
-    (told : ServiceFault) → failures ≡ 0 → (fault ≡ None) ↔ (failures ≡ 0) → Comes kept fault
-    → Ends (kept_desk desk kept failures) (Err told) Comes
-ends_unshared desk kept failures fault Comes told whole tells comes = record {
+    (told : ServiceFault) → IsNoStore told → failures ≡ 0 → (fault ≡ None) ↔ (failures ≡ 0)
+    → Comes kept fault → Ends (kept_desk desk kept failures) (Err told) Comes
+ends_unshared desk kept failures fault Comes told storeless whole tells comes = record {
   left = kept_desk desk kept failures;
   goes = record { calls = []; added = stays desk; grows = grows-to-itself kept };
+  passes = [];
+  finished = unused desk kept kept failures failures (grows-to-itself kept);
   fault = fault;
   told = tells;
   comes = comes;
   well = λ is. absurd (err-is-ok (Err told) told refl is);
   closed = λ why is. absurd (none-is-some why (sym (tells.1 whole) ∙ is));
+  reason = λ stored is. absurd (no-store (Err told) told stored storeless refl is);
 }
 
 -- a desk that didn't come back
 pub ends_lost : (desk : Desk) (kept : Option (List KeptChange)) (failures : ℕ)
     (Comes : Option (List KeptChange) → Option StoreFault → Type 0) (told : ServiceFault)
-    → Comes None None → Ends (kept_desk desk kept failures) (Err told) Comes
-ends_lost desk kept failures Comes told comes = record {
+    → IsNoStore told → Comes None None → Ends (kept_desk desk kept failures) (Err told) Comes
+ends_lost desk kept failures Comes told storeless comes = record {
   left = kept_desk desk None 0;
   goes = record { calls = []; added = stays desk; grows = grows-to-none kept };
+  passes = [];
+  finished = unused desk kept None failures 0 (grows-to-none kept);
   fault = None;
   told = (λ _. refl, λ _. refl);
   comes = comes;
   well = λ _. refl;
   closed = λ why is. absurd (none-is-some why is);
+  reason = λ stored is. absurd (no-store (Err told) told stored storeless refl is);
 }
 
 -- a desk that came back
@@ -126,13 +156,41 @@ pub ends_by : (begun : KeptDesk) (calls : ℕ) (fault : Option StoreFault)
     (ended : Result (Unit {0}) ServiceFault) → Leaves begun calls fault Comes
     → (ended ≡ Ok tt → fault ≡ None)
     → ((why : StoreFault) → fault ≡ Some why → ended ≡ Err (service.Store (Closed why)))
+    → ((stored : StoredFault) → ended ≡ Err (service.Store stored)
+    → (why : StoreFault) × (fault ≡ Some why) × (stored ≡ Closed why))
     → Ends begun ended Comes
-ends_by begun calls fault Comes ended leaves well closed = record {
+ends_by begun calls fault Comes ended leaves well closed reason = record {
   left = leaves.left;
   goes = leaves.goes;
+  passes = leaves.passes;
+  finished = leaves.finished;
   fault = fault;
   told = leaves.told;
   comes = leaves.comes;
   well = well;
   closed = closed;
+  reason = reason;
+}
+
+ok-is-err : (told : ServiceFault) (ended : Result (Unit {0}) ServiceFault) → ended ≡ Ok tt
+    → ended ≡ Err told → ⊥
+ok-is-err told ended well is = cc
+
+-- so it ends where it is told as ended with or without its store
+pub ends_with : (begun : KeptDesk) (ended : Result (Unit {0}) ServiceFault)
+    (Comes : Option (List KeptChange) → Option StoreFault → Type 0) (back : Bool)
+    → Ends begun ended Comes → Ends begun (ended_with back ended) Comes
+ends_with begun ended Comes true ends = ends
+ends_with begun (Err fault) Comes false ends = ends
+ends_with begun (Ok done) Comes false ends = record {
+  left = ends.left;
+  goes = ends.goes;
+  passes = ends.passes;
+  finished = ends.finished;
+  fault = ends.fault;
+  told = ends.told;
+  comes = ends.comes;
+  well = λ is. absurd (err-is-ok (Err service.Mismatch) service.Mismatch refl is);
+  closed = λ why is. absurd (ok-is-err (service.Store (Closed why)) (Ok done) refl (ends.closed why is));
+  reason = λ stored is. absurd (no-store (Err service.Mismatch) service.Mismatch stored tt refl is);
 }

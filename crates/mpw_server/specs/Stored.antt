@@ -1,15 +1,16 @@
 -- A service over the desk of a store.
-use Rattle.std.specs.Prelude.{◌≡◌, ◌↔◌, ℕ, List, ◌++◌, length, Option, None, Some, Result, Ok, Err, IsTrue}
+use Rattle.std.specs.Prelude.{◌≡◌, ◌↔◌, ℕ, List, ◌++◌, length, ⊤, Bool, true, false, Option, None, Some, Result, Ok, Err, IsTrue}
 use Rattle.sqlite.specs.State.{HasCleanDisk, State}
+use Rattle.mpw_desk.specs.Finished.{IsFinished}
+use Rattle.mpw_desk.specs.Values.{PassView}
 use Rattle.mpw_events.specs.declared.event.Call.{Call}
 use Rattle.mpw_events.specs.declared.keeper.KeptChange.{KeptChange}
 use Rattle.mpw_events.specs.GoingOn.{GoesOnTo, changes_of}
 use Rattle.mpw_events.specs.History.{Desk, KeptDesk, state_of}
-use Rattle.mpw_keeper.specs.Kept.{IsKeptIn, changes_in}
+use Rattle.mpw_keeper.specs.Kept.{IsKeptIn, changes_in, rows_from}
 use Rattle.mpw_settings.specs.declared.officer.Officer.{Officer}
 use Rattle.mpw_store.specs.Changes.{HasRows, IsReady}
 use Rattle.mpw_store.specs.declared.fault.StoreFault.{StoreFault}
-use Rattle.mpw_stored_rows.specs.Rows.{Entry}
 use Rattle.mpw_stored_script.specs.Serving.{BeginsWith}
 use Rattle.mpw_stored_script.specs.declared.fault.StoredFault.{StoredFault}
 use Rattle.mpw_stored_script.specs.declared.fault.StoredFault.TheVariants.{Closed}
@@ -35,27 +36,49 @@ abbrev pub ComesBack : {A : Type 0} → Option A → (A → State) → Option (L
 ComesBack None shown kept fault = kept ≡ None
 ComesBack (Some conn) shown kept fault = HasStored (shown conn) kept fault
 
--- a desk that was shared comes back with so many calls, and with such a store: it went on by calls, and its keeper has just their changes
--- behind those before; there is a fault just where a change could not be kept
+-- a desk that was shared comes back with so many calls, and with such a store: it went on by calls, which its passes made, and its keeper has
+-- just their changes behind those before; there is a fault just where a change could not be kept
 pub record Leaves (begun : KeptDesk) (calls : ℕ) (fault : Option StoreFault)
     (Comes : Option (List KeptChange) → Option StoreFault → Type 0) : Type 0 where
   pub left : KeptDesk
   pub goes : GoesOnTo begun left
+  pub passes : List PassView
+  pub finished : IsFinished begun left passes
   pub counted : calls ≡ length left.desk.history
   pub told : (fault ≡ None) ↔ (left.failures ≡ 0)
   pub comes : Comes left.kept fault
 
--- how a service ends that began with a desk: that went on by calls, and such a store is given back. Where it ends well each change was kept; and
--- where one could not be, that is what is told
+-- a fault that no store gave
+abbrev pub IsNoStore : ServiceFault → Type 0
+IsNoStore (service.Store fault) = ⊥
+IsNoStore service.Memory = ⊤
+IsNoStore service.Log = ⊤
+IsNoStore service.Bind = ⊤
+IsNoStore service.Print = ⊤
+IsNoStore (service.Serve fault) = ⊤
+IsNoStore service.Mismatch = ⊤
+
+-- how a service ends that began with a desk: that went on by calls, which its passes made, and such a store is given back. Where it ends well each change was kept; and
+-- where one could not be, that is what is told, and nothing else of the store
 pub record Ends (begun : KeptDesk) (ended : Result (Unit {0}) ServiceFault)
     (Comes : Option (List KeptChange) → Option StoreFault → Type 0) : Type 0 where
   pub left : KeptDesk
   pub goes : GoesOnTo begun left
+  pub passes : List PassView
+  pub finished : IsFinished begun left passes
   pub fault : Option StoreFault
   pub told : (fault ≡ None) ↔ (left.failures ≡ 0)
   pub comes : Comes left.kept fault
   pub well : ended ≡ Ok tt → fault ≡ None
   pub closed : (why : StoreFault) → fault ≡ Some why → ended ≡ Err (service.Store (Closed why))
+  pub reason : (stored : StoredFault) → ended ≡ Err (service.Store stored)
+      → (why : StoreFault) × (fault ≡ Some why) × (stored ≡ Closed why)
+
+-- a service over a store doesn't end well if the store isn't handed back
+abbrev pub ended_with : Bool → Result (Unit {0}) ServiceFault → Result (Unit {0}) ServiceFault
+ended_with true ended = ended
+ended_with false (Ok done) = Err service.Mismatch
+ended_with false (Err fault) = Err fault
 
 -- a service over a store: its rows lead to no desk, which is told with such a reason; or the service begins with the desk that they lead to, and
 -- ends
@@ -67,17 +90,17 @@ pub data EndsOver (officer : Officer) (s : State) (IsReason : StoredFault → Ty
   opened : (begun : KeptDesk) (ended : Result (Unit {0}) ServiceFault) → BeginsOver officer s begun
       → Ends begun ended Comes → EndsOver officer s IsReason Comes ended
 
--- the rows that a service over a store leaves tell, in order, the changes that its store had, with the ends of the sessions that were open, and
--- then those that the service's calls had kept
+-- the rows that a service over a store leaves are just those of the changes that its store had, with the ends of the sessions that were open, and
+-- then of those that the service's calls had kept; each row tells its change
 pub record GoesOnStored (officer : Officer) (s s' : State) : Type 0 where
   pub desk : Desk
   pub known : List KeptChange
   pub begins : BeginsWith officer s desk known
   pub calls : List Call
   pub ready : IsReady s'
-  pub entries : List Entry
-  pub rows : HasRows s'.now.trees entries
-  pub told : changes_in entries ≡ known ++ changes_of (state_of desk) calls
+  pub rows : HasRows s'.now.trees (rows_from 1 (known ++ changes_of (state_of desk) calls))
+  pub told : changes_in (rows_from 1 (known ++ changes_of (state_of desk) calls))
+      ≡ Some (known ++ changes_of (state_of desk) calls)
 
 abbrev pub StoresItsChanges : State → State → Type 0
 StoresItsChanges s s' = (officer : Officer) (begun : KeptDesk)

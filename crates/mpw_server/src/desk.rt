@@ -1,5 +1,6 @@
 //! The desk of a service with the keeper of its changes: how it begins, and how it comes back.
 ghost use Rattle.std.specs.Prelude.{◌≡◌, ◌↔◌, ◌+◌, None, IfErr, IfOk, IsSome, length};
+ghost use Rattle.mpw_desk.specs.Numbers.{AreBelow};
 ghost use Rattle.mpw_events.specs.History.{kept_desk, new_desk};
 ghost use Rattle.mpw_keeper.specs.Kept.{failures_of, kept_by};
 ghost use Rattle.mpw_reopen.specs.Reopening.{IsIdle};
@@ -44,6 +45,7 @@ pub(crate) fn begin_new<S: Alter + Drop, H: Handler + Drop>(
     ensures desk { IfOk result (λ begun. H.desk begun.core.value ≡ new_desk officer.name officer.digest) }
     ensures keeper { IfOk result (λ begun. begun.keeper ≡ None) }
     ensures first { IfOk result (λ begun. begun.first ≡ 1) }
+    ensures above { IfOk result (λ begun. AreBelow begun.first (H.desk begun.core.value).history) }
     ensures whole { IfOk result (λ begun. failures_of begun.keeper ≡ 0) }
 {
     let Officer { name, digest } = officer;
@@ -74,6 +76,7 @@ where
     ensures keeper { IfOk result (λ begun. IsSome begun.keeper) }
     ensures whole { IfOk result (λ begun. failures_of begun.keeper ≡ 0) }
     ensures next { IfOk result (λ begun. begun.first ≡ greatest_connection (H.desk begun.core.value) + 1) }
+    ensures above { IfOk result (λ begun. AreBelow begun.first (H.desk begun.core.value).history) }
     ensures unopened { IfErr result (λ e. IsUnopened officer (state S.Store conn) (state S.Store e.1) e.0) }
 {
     let mut conn = conn;

@@ -18,3 +18,4 @@ mod serving;
 pub use fault::ServiceFault;
 pub use laws::services_store_their_changes;
 pub use program::run;
+pub use serving::serve_over;

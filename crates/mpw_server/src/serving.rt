@@ -1,13 +1,15 @@
 //! Serving a desk that may have a store, and how that ends.
-ghost use Rattle.std.specs.Prelude.{◌≡◌, ◌<◌, Err, IfOk, IfSome, None, Ok, Some};
+ghost use Rattle.std.specs.Prelude.{◌≡◌, ◌<◌, Err, IfErr, IfOk, IsSome, IsSomeAnd, None, Ok, Some, is_some};
+ghost use Rattle.mpw_desk.specs.Numbers.{AreBelow};
 ghost use Rattle.mpw_events.specs.History.{kept_desk};
 ghost use Rattle.mpw_keeper.specs.Kept.{failures_of, kept_by};
 ghost use Rattle.mpw_reopen.specs.Reopening.{IsIdle};
-ghost use Rattle.mpw_server.specs.Stored.{ComesBack, Ends, EndsOver, Leaves};
+ghost use Rattle.mpw_server.specs.Stored.{ComesBack, Ends, EndsOver, IsNoStore, Leaves, ended_with};
 ghost use Rattle.mpw_server.specs.declared.fault.ServiceFault.{ServiceFault as Fault};
 ghost use Rattle.mpw_server.specs.declared.fault.ServiceFault.TheVariants as told;
 ghost use Rattle.mpw_store.specs.declared.fault.StoreFault.{StoreFault as Why};
 ghost use Rattle.mpw_stored_script.specs.Serving.{IsUnopened};
+ghost use Rattle.mpw_stored_script.specs.declared.fault.StoredFault.{StoredFault as Stored};
 ghost use Rattle.mpw_stored_script.specs.declared.fault.StoredFault.TheVariants.{Closed};
 ghost use Rattle.sqlite.specs.Held.{state};
 ghost use Rattle.sqlite.specs.State.{HasCleanDisk};
@@ -45,8 +47,10 @@ where
     H: Handler + Send + Drop,
     R: Threads + Wait + Clock + Net<Listener = TcpListener, Stream = TcpStream> + Sync,
     requires first { 0 < begun.first }
+    requires above { AreBelow begun.first (H.desk begun.core.value).history }
     requires parts { blank.parts ≡ 2097152 }
-    ensures { IfOk result (λ served. Leaves (kept_desk (H.desk begun.core.value) (kept_by begun.keeper) (failures_of begun.keeper)) served.0.calls served.0.fault (ComesBack served.0.store (λ conn. state S.Store conn))) }
+    ensures leaves { IfOk result (λ served. Leaves (kept_desk (H.desk begun.core.value) (kept_by begun.keeper) (failures_of begun.keeper)) served.0.calls served.0.fault (ComesBack served.0.store (λ conn. state S.Store conn))) }
+    ensures lost { IfErr result IsNoStore }
 {
     let (back, ended) = serve_desk(rt, alloc, begun, blank, opening);
     match back {
@@ -59,7 +63,9 @@ where
 }
 
 /// Prints how many calls a desk has.
-fn print_calls(host: &HostRuntime, calls: usize) -> Result<(), ServiceFault> {
+fn print_calls(host: &HostRuntime, calls: usize) -> Result<(), ServiceFault>
+    ensures { IfErr result IsNoStore }
+{
     match println!(host; "calls {calls}") {
         Ok(()) => Ok(()),
         Err(_) => Err(ServiceFault::Print),
@@ -76,6 +82,7 @@ fn end<S: Alter + Drop>(
     ensures store { result.1 ≡ left.store }
     ensures well { result.0 ≡ Ok tt → left.fault ≡ None }
     ensures closed { (why : Why) → left.fault ≡ Some why → result.0 ≡ Err (told.Store (Closed why)) }
+    ensures reason { (stored : Stored) → result.0 ≡ Err (told.Store stored) → (why : Why) × (left.fault ≡ Some why) × (stored ≡ Closed why) }
 {
     let Left {
         calls,
@@ -97,7 +104,7 @@ fn store_of<S: Alter + Drop, H: Handler + Drop>(
     begun: Begun<H, OptionalKeeper<S>>,
 ) -> Option<Connection<S>>
     requires { failures_of begun.keeper ≡ 0 }
-    ensures { (fault : Fault) → Ends (kept_desk (H.desk begun.core.value) (kept_by begun.keeper) (failures_of begun.keeper)) (Err fault) (ComesBack result (λ conn. state S.Store conn)) }
+    ensures { (fault : Fault) → IsNoStore fault → Ends (kept_desk (H.desk begun.core.value) (kept_by begun.keeper) (failures_of begun.keeper)) (Err fault) (ComesBack result (λ conn. state S.Store conn)) }
 {
     let Begun {
         core,
@@ -121,6 +128,7 @@ where
     H: Handler + Send + Drop,
     R: Threads + Wait + Clock + Net<Listener = TcpListener, Stream = TcpStream> + Sync,
     requires first { 0 < begun.first }
+    requires above { AreBelow begun.first (H.desk begun.core.value).history }
     requires parts { opened.blank.parts ≡ 2097152 }
     ensures { Ends (kept_desk (H.desk begun.core.value) (kept_by begun.keeper) (failures_of begun.keeper)) result.0 (ComesBack result.1 (λ conn. state S.Store conn)) }
 {
@@ -156,6 +164,7 @@ where
     H: Handler + Send + Drop,
     R: Threads + Wait + Clock + Net<Listener = TcpListener, Stream = TcpStream> + Sync,
     requires first { 0 < begun.first }
+    requires above { AreBelow begun.first (H.desk begun.core.value).history }
     requires whole { failures_of begun.keeper ≡ 0 }
     ensures { Ends (kept_desk (H.desk begun.core.value) (kept_by begun.keeper) (failures_of begun.keeper)) result.0 (ComesBack result.1 (λ conn. state S.Store conn)) }
 {
@@ -165,8 +174,28 @@ where
     }
 }
 
-/// Serves the desk that the rows of a store lead to as the settings say. The store is returned if that is possible.
-pub(crate) fn serve_over<S, H, R, P>(
+/// How a service over a store ended: without its store it didn't end well.
+fn with_store<S: Alter + Drop>(
+    served: (Result<(), ServiceFault>, Option<Connection<S>>),
+) -> (Result<(), ServiceFault>, Option<Connection<S>>)
+    ensures store { result.1 ≡ served.1 }
+    ensures ended { result.0 ≡ ended_with (is_some served.1) served.0 }
+    ensures back { result.0 ≡ Ok tt → IsSome result.1 }
+{
+    let (ended, store) = served;
+    let ended = match ended {
+        Ok(()) if store.is_none() => Err(ServiceFault::Mismatch),
+        _ => ended,
+    };
+    (ended, store)
+}
+
+/// Serves the desk that the rows of a store lead to as the settings say. If a change could not be stored, that is the fault. The rows are then those that
+/// were found, the ends of the sessions that were open, and the changes of the calls, in order ([`services_store_their_changes`]). A bad row is
+/// reported only if the rows lead to no desk. The store is returned if that is possible, and always if the service ends well.
+///
+/// [`services_store_their_changes`]: crate::services_store_their_changes
+pub fn serve_over<S, H, R, P>(
     host: &HostRuntime,
     executor: Executor<'_, R, P>,
     service: &Service,
@@ -179,12 +208,13 @@ where
     R: Threads + Wait + Clock + Net<Listener = TcpListener, Stream = TcpStream> + Sync,
     P: Progress + Drop,
     requires { HasCleanDisk (state S.Store store.0) → IsIdle (state S.Store store.0) }
-    ensures { EndsOver store.1 (state S.Store store.0) (λ fault. IfSome result.1 (λ conn. IsUnopened store.1 (state S.Store store.0) (state S.Store conn) fault)) (ComesBack result.1 (λ conn. state S.Store conn)) result.0 }
+    ensures over { EndsOver store.1 (state S.Store store.0) (λ fault. IsSomeAnd result.1 (λ conn. IsUnopened store.1 (state S.Store store.0) (state S.Store conn) fault)) (ComesBack result.1 (λ conn. state S.Store conn)) result.0 }
+    ensures back { result.0 ≡ Ok tt → IsSome result.1 }
 {
     let rt = executor.threads;
     let (conn, officer) = store;
     match begin_over::<S, H, R, P>(executor, conn, officer) {
-        Ok(begun) => serve_begun(host, rt, service, staff, begun),
+        Ok(begun) => with_store(serve_begun(host, rt, service, staff, begun)),
         Err(unopened) => {
             let (fault, conn) = unopened;
             (Err(ServiceFault::Store(fault)), Some(conn))

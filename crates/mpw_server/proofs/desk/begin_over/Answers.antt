@@ -1,10 +1,11 @@
-use Rattle.std.proofs.Common.{◌≡◌, ◌∙◌, ap, subst, sym}
+use Rattle.std.proofs.Common.{◌≡◌, ◌∙◌, Err, ap, rules, subst, sym}
 use Rattle.sqlite.specs.Held.{state}
 use Rattle.mpw_keeper.specs.Kept.{failures_of, kept_by, kept_in}
 use Rattle.mpw_reopen.proofs.ClosingLemmas.{clean-before}
 use Rattle.mpw_stored_script.proofs.ServingLemmas.{begins, holds, known_clean, unopened_by}
 use Rattle.mpw_stored_script.specs.Serving.{IsUnopened}
 use Rattle.mpw_stored_script.specs.declared.fault.StoredFault.TheVariants.{File}
+use Rattle.mpw_server.proofs.Numbers.{above-greatest}
 use Rattle.mpw_server.proofs.desk.begin_over.Goals as goal
 
 pub new-requires : goal.new-requires
@@ -38,4 +39,9 @@ returns-in-Err-clause-unopened g c =
     let new = state g.S.Store c.reopen.new.conn in
     subst (IsUnopened c.args.officer old new) (sym (c.from-in-Err.ensures ∙ ap File c.from.ensures))
     (unopened_by c.args.officer old new c.in-Err.fault (λ clean.
-    c.in-Err.ensures.rows clean (c.requires (clean-before old new c.in-Err.ensures.clean clean))))
+    c.in-Err.ensures.rows clean (c.requires (clean-before old new c.in-Err.ensures.clean clean)))
+    (λ is. c.reopen.ensures.other.0 (c.in-Err.is ∙ ap Err is)))
+
+pub returns-in-Some-clause-above : goal.returns-in-Some-clause-above
+returns-in-Some-clause-above g c =
+    above-greatest c.in-Some.first (g.H.Handler.desk c.in-Ok.reopened.core.value) (search rules)

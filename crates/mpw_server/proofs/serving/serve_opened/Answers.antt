@@ -13,9 +13,9 @@ returns-in-Ok g c =
     subst (λ store. Ends begun c.end.result.0 (ComesBack store (λ conn. state g.S.Store conn)))
     (sym c.end.ensures.store)
     (ends_by begun left.calls left.fault (ComesBack left.store (λ conn. state g.S.Store conn))
-    c.end.result.0 c.in-Ok.ensures c.end.ensures.well c.end.ensures.closed)
+    c.end.result.0 c.in-Ok.ensures.leaves c.end.ensures.well c.end.ensures.closed c.end.ensures.reason)
 
 pub returns : goal.returns
 returns g c =
     ends_lost (g.H.Handler.desk c.args.begun.core.value) (kept_by c.args.begun.keeper)
-    (failures_of c.args.begun.keeper) _ c.in-Err.fault refl
+    (failures_of c.args.begun.keeper) _ c.in-Err.fault c.in-Err.ensures.lost refl

@@ -3,7 +3,7 @@ use Rattle.mpw_server.proofs.StoredLemmas.{ends_unshared}
 use Rattle.mpw_server.proofs.serving.store_of.Goals as goal
 
 pub returns : goal.returns
-returns g c = λ fault.
+returns g c = λ fault storeless.
     ends_unshared (g.H.Handler.desk c.args.begun.core.value) (kept_by c.args.begun.keeper)
-    (failures_of c.args.begun.keeper) c.parts_of.result.1 _ fault c.requires c.parts_of.ensures.told
+    (failures_of c.args.begun.keeper) c.parts_of.result.1 _ fault storeless c.requires c.parts_of.ensures.told
     c.parts_of.ensures.comes
