@@ -1,17 +1,22 @@
 -- How a script over a store ends the program.
-use Rattle.std.specs.Prelude.{◌≡◌, ℕ, Option, Result, Err}
+use Rattle.std.specs.Prelude.{◌≡◌, ◌↔◌, ℕ, Option, None, Result, Err}
 use Rattle.sqlite.specs.State.{State}
-use Rattle.mpw_serve.specs.Serving.{LeavesNothingPending, write_failures}
+use Rattle.mpw_events.specs.History.{KeptDesk}
+use Rattle.mpw_serve.specs.OwnDesk.{IsAnswer, IsGone}
+use Rattle.mpw_serve.specs.Serving.{LeavesNothingPending, Serves, write_failures}
 use Rattle.mpw_serve.specs.Status.{Devices}
 use Rattle.mpw_serve.specs.declared.serve.End.{End}
 use Rattle.mpw_serve.specs.declared.serve.Served.{Served}
 use Rattle.mpw_settings.specs.declared.officer.Officer.{Officer}
 use Rattle.mpw_store.specs.declared.fault.StoreFault.{StoreFault}
+use Rattle.mpw_store_file.specs.declared.fault.FileFault.{FileFault}
 use Rattle.mpw_stored_script.specs.Serving.{IsUnopened, ServesStore}
 use Rattle.mpw_stored_script.specs.Status.{end_told, exit_of}
 use Rattle.mpw_stored_script.specs.declared.fault.StoredFault.{StoredFault}
+use Rattle.mpw_stored_script.specs.declared.fault.StoredFault.TheVariants.{File, Full, Wire}
 use Rattle.mpw_wire.specs.Reading.{read_failures}
 use Rattle.mpw_wire.specs.Writing.{fault_of}
+use Rattle.mpw_wire.specs.declared.fault.WireFault.TheVariants as wire
 
 -- a connection was served over the store between these devices, and the program ends as that did
 pub record EndsAsServed (officer : Officer) (s s' : State) (d d' : Devices)
@@ -37,6 +42,19 @@ abbrev pub ExitsWith : Officer → State → State → Devices → Devices → �
 ExitsWith officer s s' d d' status =
     (ended : Result End StoredFault) × EndsAs officer s s' d d' ended × (status ≡ exit_of ended)
 
--- the status is that of some end
-abbrev pub IsStatus : ℕ → Type 0
-IsStatus status = (ended : Result End StoredFault) × (status ≡ exit_of ended)
+-- how a script over a file ends the program, and with which status: the file isn't opened, or its rows lead to no desk; there is no room to buffer
+-- the devices; no number is left for the connection; or a connection is served between devices that had not failed, and the status is that of its
+-- end, or of why a change could not be stored
+pub data EndsOverFile : ℕ → Type 0 where
+  unopened : (fault : FileFault) (status : ℕ) → status ≡ exit_of (Err (File fault))
+      → EndsOverFile status
+  unbuffered : (status : ℕ) → status ≡ exit_of (Err (Wire wire.Memory)) → EndsOverFile status
+  unnumbered : (status : ℕ) → status ≡ exit_of (Err Full) → EndsOverFile status
+  served : (d d' : Devices) (connection : ℕ) (begun left : KeptDesk) (served : Served)
+      (fault : Option StoreFault) (status : ℕ) → d.failed_reads ≡ 0 → d.failed_writes ≡ 0
+      → Serves (IsAnswer connection) (IsGone connection) d.input d'.input d.output d'.output begun
+      left served
+      → begun.failures ≡ 0 → ((fault ≡ None) ↔ (left.failures ≡ 0))
+      → d'.failed_reads ≡ read_failures (fault_of served.ended) d.failed_reads
+      → d'.failed_writes ≡ write_failures (fault_of served.ended) d.failed_writes
+      → status ≡ exit_of (end_told served.ended fault) → EndsOverFile status

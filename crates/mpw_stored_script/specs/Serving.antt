@@ -5,7 +5,7 @@ use Rattle.mpw_events.specs.History.{Desk, KeptDesk, answering, kept_desk, new_d
 use Rattle.mpw_events.specs.declared.event.Event.TheVariants as event
 use Rattle.mpw_stored_rows.specs.Rows.{Entry}
 use Rattle.mpw_events.specs.declared.keeper.KeptChange.{KeptChange}
-use Rattle.mpw_keeper.specs.Kept.{IsKeptIn, changes_in}
+use Rattle.mpw_keeper.specs.Kept.{IsKeptIn, changes_in, rows_from}
 use Rattle.mpw_reopen.specs.Reopening.{CantGoOn, Finds, Reopens, gone_rows}
 use Rattle.mpw_restoring.specs.Sessions.{AreOpen, greatest_connection}
 use Rattle.mpw_restoring.specs.Restoring.{Folds}
@@ -13,13 +13,15 @@ use Rattle.mpw_serve.specs.OwnDesk.{IsAnswer, IsGone}
 use Rattle.mpw_serve.specs.Serving.{Serves}
 use Rattle.mpw_serve.specs.declared.serve.Served.{Served}
 use Rattle.mpw_settings.specs.declared.officer.Officer.{Officer}
+use Rattle.mpw_store.specs.Changes.{IsOther}
 use Rattle.mpw_store.specs.declared.fault.StoreFault.{StoreFault}
 use Rattle.mpw_store.specs.declared.fault.StoreFault.TheVariants as store
 use Rattle.mpw_store_file.specs.declared.fault.FileFault.TheVariants as file
 use Rattle.mpw_stored_script.specs.declared.fault.StoredFault.{StoredFault}
 use Rattle.mpw_stored_script.specs.declared.fault.StoredFault.TheVariants.{File, Full, Wire, Closed}
 
--- the store's rows lead to this desk, and what is kept are their changes, with the ends of the sessions that they left
+-- the store's rows lead to this desk. These rows, with the ends of the sessions that they left, are just the rows of the changes that are
+-- kept, and each tells its change
 pub record BeginsWith (officer : Officer) (s : State) (desk : Desk) (kept : List KeptChange) :
     Type 0 where
   pub found : List Entry
@@ -29,7 +31,8 @@ pub record BeginsWith (officer : Officer) (s : State) (desk : Desk) (kept : List
   pub closing : List ℕ
   pub open_ones : AreOpen whole closing
   pub restarted : desk ≡ (answering whole event.Restart true).desk
-  pub changes : kept ≡ changes_in (found ++ gone_rows (length found + 1) closing)
+  pub rows : found ++ gone_rows (length found + 1) closing ≡ rows_from 1 kept
+  pub told : changes_in (rows_from 1 kept) ≡ Some kept
 
 -- a connection of that number is served from a desk on with what its keeper has. There is a fault just where a change could not be kept,
 -- and without one the store has just the changes that are kept, while its disk is clean
@@ -55,14 +58,14 @@ pub record ServesStore (officer : Officer) (s s' : State)
   pub over : ServesOver connection (kept_desk desk kept 0) input input' output output' served fault
       s'
 
--- why no connection is served over the store: a bad row is told only where the rows can't stand, and that no number is left only where the
--- greatest one was given
+-- why no connection is served over the store: a bad row is reported only if the rows can't be there, another database only if it is one, and
+-- that no number is left only if the greatest one was given
 abbrev pub IsUnopened : Officer → State → State → StoredFault → Type 0
 IsUnopened officer s s' (File (file.Store (store.Rows place))) =
     HasCleanDisk s' → CantGoOn officer.name officer.digest s place
 IsUnopened officer s s' (File (file.Store (store.Sql error))) = Unit {0}
 IsUnopened officer s s' (File (file.Store store.Memory)) = Unit {0}
-IsUnopened officer s s' (File (file.Store store.Other)) = Unit {0}
+IsUnopened officer s s' (File (file.Store store.Other)) = IsOther s
 IsUnopened officer s s' (File file.Missing) = ⊥
 IsUnopened officer s s' (File file.NoFile) = ⊥
 IsUnopened officer s s' (File file.Linked) = ⊥

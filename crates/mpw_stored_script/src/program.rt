@@ -3,7 +3,7 @@ ghost use Rattle.std.specs.Prelude.{◌≡◌, None};
 ghost use Rattle.std.specs.Process.{exit_status};
 ghost use Rattle.mpw_reopen.specs.Reopening.{IsIdle};
 ghost use Rattle.mpw_serve.specs.Status.{devices};
-ghost use Rattle.mpw_stored_script.specs.Ending.{EndsAs, ExitsWith, IsStatus};
+ghost use Rattle.mpw_stored_script.specs.Ending.{EndsAs, EndsOverFile, ExitsWith};
 ghost use Rattle.mpw_stored_script.specs.Status.{end_told, exit_of};
 ghost use Rattle.sqlite.specs.Held.{state};
 ghost use Rattle.sqlite.specs.State.{HasCleanDisk};
@@ -121,7 +121,7 @@ where
     P: Progress + Drop,
     R: Read + Drop,
     W: Write + Drop,
-    ensures { IsStatus (exit_status result) }
+    ensures { EndsOverFile (exit_status result) }
 {
     let (path, officer) = store;
     let conn = match open_or_make(rt, path) {

@@ -1,4 +1,4 @@
-use Rattle.std.proofs.Common.{◌∙◌, ap, subst, sym}
+use Rattle.std.proofs.Common.{◌∙◌, Err, ap, subst, sym}
 use Rattle.sqlite.specs.Held.{state}
 use Rattle.mpw_keeper.specs.Kept.{kept_in}
 use Rattle.mpw_reopen.proofs.ClosingLemmas.{clean-before}
@@ -39,4 +39,5 @@ returns-in-Err-clause-unopened g c =
     let new = state g.S.Store c.reopen.new.conn in
     subst (IsUnopened c.args.officer old new) (sym (c.from-in-Err.ensures ∙ ap File c.from.ensures))
     (unopened_by c.args.officer old new c.in-Err.fault (λ clean.
-    c.in-Err.ensures.rows clean (c.requires (clean-before old new c.in-Err.ensures.clean clean))))
+    c.in-Err.ensures.rows clean (c.requires (clean-before old new c.in-Err.ensures.clean clean)))
+    (λ is. c.reopen.ensures.other.0 (c.in-Err.is ∙ ap Err is)))
