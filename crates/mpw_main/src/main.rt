@@ -31,7 +31,7 @@ fn script(rt: &HostRuntime, threads: &(impl Threads + Sync), script: Script) -> 
     }
 }
 
-/// Exits with 0 where the connections ended, and behind help, 2 at a usage fault, 3 where a device or a store failed, 4 where the passes of a service don't
+/// Exits with 0 if the connections ended, 2 after help or at a usage fault, 3 where a device or a store failed, 4 where the passes of a service don't
 /// account for every call, and 5 where memory or a thread was wanting. A fault is told on the standard error.
 fn main(rt: HostRuntime) -> ExitCode {
     match command_line(&rt) {

@@ -32,7 +32,7 @@ fn refuse(rt: &HostRuntime) -> ExitCode {
     ExitCode::from(2)
 }
 
-/// Exits with 0 after a script or help, 2 at a usage fault, 3 if a device failed, and 5 if memory ran out. It prints a fault on the
+/// Exits with 0 after a script, 2 after help or at a usage fault, 3 if a device failed, and 5 if memory ran out. It prints a fault on the
 /// standard error.
 fn main(rt: HostRuntime) -> ExitCode {
     match command_line(&rt) {

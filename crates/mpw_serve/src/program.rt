@@ -59,14 +59,12 @@ pub fn tell(rt: &HostRuntime, fault: &ProgramFault) -> ExitCode
     ExitCode::from(fault.status())
 }
 
-/// Prints the help on the standard output. The exit status is 0, or 3 where the output failed, which is told.
+/// Prints the help on the standard error, since the standard output has the replies alone. The exit status is 2: nothing was served.
 pub fn print_help(rt: &HostRuntime, text: &str) -> ExitCode
-    ensures { (exit_status result ≡ 0) ⊎ (exit_status result ≡ 3) }
+    ensures { exit_status result ≡ 2 }
 {
-    match print!(rt; "{text}") {
-        Ok(()) => ExitCode::from(0),
-        Err(_) => tell(rt, &ProgramFault::Wire(WireFault::Write)),
-    }
+    let _ = eprint!(rt; "{text}");
+    ExitCode::from(2)
 }
 
 /// How the program ends by what came of the script.
