@@ -1,1 +1,4 @@
+pub mod Answering
+pub mod Forms
+pub mod Settings
 pub mod Status

@@ -1,4 +1,9 @@
-//! The command line.
+//! The command line, in `specs/Settings.antt` by what `clap` finds.
+ghost use Rattle.std.specs.Prelude.{◌≡◌, ◌≢◌, ◌↔◌, None, codes, IsTrue, map, option_map, IfOk, IfErr};
+ghost use Rattle.std.specs.String.{string_bytes};
+ghost use Rattle.clap.specs.Words.{App, Rule, app_of, first_of, found_of, kind_of, new_app, rows_of, subcommand_rows_of, with_rule};
+ghost use Rattle.mpw_auditor.specs.Forms.{HasForm, IsArgument, payload_rule, program_app, store_app, trail_app, word_rule};
+ghost use Rattle.mpw_auditor.specs.Settings.{AreGiven, AreOf, AsksNoPlace, AsksNothing, AsksPlace, AsksStore, AsksTrail, GiveNone, Gives, IsFaultOf, IsMisuse};
 
 use crate::fault::AuditFault;
 use clap::error::ErrorKind;
@@ -21,7 +26,9 @@ pub enum Asked {
 }
 
 /// A word that has to be given.
-fn word<'a>(alloc: Global, name: &'a str, value: &'a str, help: &'a str) -> Arg<'a> {
+fn word<'a>(alloc: Global, name: &'a str, value: &'a str, help: &'a str) -> Arg<'a>
+    ensures { IsArgument (word_rule name.entry.now) result }
+{
     Arg::new(alloc, name)
         .value_name(value)
         .required(true)
@@ -29,29 +36,57 @@ fn word<'a>(alloc: Global, name: &'a str, value: &'a str, help: &'a str) -> Arg<
         .help(help)
 }
 
-/// The subcommand `trail`.
-fn trail_command<'a>(alloc: Global) -> Result<Command<'a>, AllocError> {
-    let payload = Arg::new(alloc, "payload")
+/// The option that names a row.
+fn payload_option<'a>(alloc: Global) -> Arg<'a>
+    ensures { IsArgument payload_rule result }
+{
+    Arg::new(alloc, "payload")
         .long("payload")
         .value_name("K")
         .action(ArgAction::Set)
-        .help("Writes the payload of row K in place of the rows");
-    Command::new(alloc, "trail")
-        .about("Lists what a store holds, as comma-separated fields")
-        .arg(word(alloc, "file", "FILE", "The file of the store"))?
-        .arg(payload)
+        .help("Writes the payload of row K in place of the rows")
+}
+
+/// A subcommand without arguments.
+fn new_command<'a>(alloc: Global, name: &'a str, about: &'a str) -> Command<'a>
+    ensures { HasForm (new_app name.entry.now) result }
+{
+    Command::new(alloc, name).about(about)
+}
+
+/// The subcommand with one more argument.
+fn with_argument<'a>(command: Command<'a>, argument: Arg<'a>) -> Result<Command<'a>, AllocError>
+    ensures { IfOk result (λ with. (app : App) (rule : Rule) → HasForm app command.entry → IsArgument rule argument.entry → HasForm (with_rule app rule) with) }
+{
+    command.arg(argument)
+}
+
+/// The subcommand `trail`.
+fn trail_command<'a>(alloc: Global) -> Result<Command<'a>, AllocError>
+    ensures { IfOk result (HasForm trail_app) }
+{
+    let about = "Lists what a store holds, as comma-separated fields";
+    let command = new_command(alloc, "trail", about);
+    let file = word(alloc, "file", "FILE", "The file of the store");
+    with_argument(with_argument(command, file)?, payload_option(alloc))
 }
 
 /// The subcommand `store`.
-fn store_command<'a>(alloc: Global) -> Result<Command<'a>, AllocError> {
-    Command::new(alloc, "store")
-        .about("Tells whether a store is sound: mpw store check FILE")
-        .arg(word(alloc, "task", "check", "What is done"))?
-        .arg(word(alloc, "file", "FILE", "The file of the store"))
+fn store_command<'a>(alloc: Global) -> Result<Command<'a>, AllocError>
+    ensures { IfOk result (HasForm store_app) }
+{
+    let about = "Tells whether a store is sound: mpw store check FILE";
+    let command = new_command(alloc, "store", about);
+    let task = word(alloc, "task", "check", "What is done");
+    let file = word(alloc, "file", "FILE", "The file of the store");
+    with_argument(with_argument(command, task)?, file)
 }
 
 /// The command line's form.
-fn command<'a>(alloc: Global) -> Result<Command<'a>, AllocError> {
+#[tactic(auto, unfolding(crate::specs::Forms::program_app))]
+fn program_command<'a>(alloc: Global) -> Result<Command<'a>, AllocError>
+    ensures { IfOk result (λ command. app_of command ≡ program_app) }
+{
     Command::new(alloc, "mpw")
         .about("What a store holds")
         .subcommand_required(true)
@@ -60,29 +95,44 @@ fn command<'a>(alloc: Global) -> Result<Command<'a>, AllocError> {
 }
 
 /// A fault of the command line, with its text.
-fn usage(alloc: Global, text: &str) -> AuditFault {
+fn usage(alloc: Global, text: &str) -> AuditFault
+    ensures { IsMisuse result }
+{
     match String::from_str(alloc, text) {
         Ok(text) => AuditFault::Usage(text),
         Err(_) => AuditFault::Memory,
     }
 }
 
+/// The value of an argument, if it has one.
+fn given<'a>(options: &ArgMatches<'a>, name: &str) -> Option<&'a str>
+    ensures { option_map (λ text. text.now) result ≡ first_of name.now (rows_of (found_of options.now)) }
+{
+    options.get_str(name)
+}
+
 /// The file that is given.
-fn file_of(alloc: Global, options: &ArgMatches<'_>) -> Result<String, AuditFault> {
-    match options.get_str("file") {
+fn file_of(alloc: Global, options: &ArgMatches<'_>) -> Result<String, AuditFault>
+    ensures ok { IfOk result (λ file. Gives (codes "file") (rows_of (found_of options.now)) (string_bytes file)) }
+    ensures refused { IfErr result (IsFaultOf (first_of (codes "file") (rows_of (found_of options.now)) ≡ None)) }
+{
+    match given(options, "file") {
         Some(file) => Ok(String::from_str(alloc, file)?),
         None => Err(usage(alloc, "error: a file has to be given")),
     }
 }
 
-/// What `trail` asks for.
-fn trail_of(alloc: Global, options: &ArgMatches<'_>) -> Result<Asked, AuditFault> {
-    let file = file_of(alloc, options)?;
-    let Some(text) = options.get_str("payload") else {
-        return Ok(Asked::Rows { file });
+/// The place of a row whose payload is asked for, if one is.
+#[tactic(auto, using(std::proofs::lemmas::Bool::Decides::nat_tests))]
+fn place_of(alloc: Global, options: &ArgMatches<'_>) -> Result<Option<u32>, AuditFault>
+    ensures ok { IfOk result (AsksPlace (rows_of (found_of options.now))) }
+    ensures refused { IfErr result (IsFaultOf (AsksNoPlace (rows_of (found_of options.now)))) }
+{
+    let Some(text) = given(options, "payload") else {
+        return Ok(None);
     };
     match read_number(text.as_bytes(), 1, MAX_ROWS) {
-        Some(place) => Ok(Asked::Payload { file, place }),
+        Some(place) => Ok(Some(place)),
         None => Err(usage(
             alloc,
             "error: --payload takes the number of a row, from 1 to 2097152",
@@ -90,37 +140,74 @@ fn trail_of(alloc: Global, options: &ArgMatches<'_>) -> Result<Asked, AuditFault
     }
 }
 
+/// What `trail` asks for.
+fn trail_of(alloc: Global, options: &ArgMatches<'_>) -> Result<Asked, AuditFault>
+    ensures ok { IfOk result (AsksTrail (rows_of (found_of options.now))) }
+    ensures refused { IfErr result (IsFaultOf (AsksNothing (AsksTrail (rows_of (found_of options.now))))) }
+{
+    let file = file_of(alloc, options)?;
+    match place_of(alloc, options)? {
+        None => Ok(Asked::Rows { file }),
+        Some(place) => Ok(Asked::Payload { file, place }),
+    }
+}
+
+/// Whether the task is the one that there is.
+fn is_task(options: &ArgMatches<'_>) -> bool
+    ensures { IsTrue result ↔ Gives (codes "task") (rows_of (found_of options.now)) (codes "check") }
+{
+    match given(options, "task") {
+        Some(task) => task == "check",
+        None => false,
+    }
+}
+
 /// What `store` asks for.
-fn store_of(alloc: Global, options: &ArgMatches<'_>) -> Result<Asked, AuditFault> {
-    match options.get_str("task") {
-        Some(task) if task == "check" => Ok(Asked::Check {
-            file: file_of(alloc, options)?,
-        }),
-        _ => Err(usage(alloc, "error: a store can be checked: mpw store check FILE")),
+fn store_of(alloc: Global, options: &ArgMatches<'_>) -> Result<Asked, AuditFault>
+    ensures ok { IfOk result (AsksStore (rows_of (found_of options.now))) }
+    ensures refused { IfErr result (IsFaultOf (AsksNothing (AsksStore (rows_of (found_of options.now))))) }
+{
+    if !is_task(options) {
+        return Err(usage(alloc, "error: a store can be checked: mpw store check FILE"));
     }
+    let file = file_of(alloc, options)?;
+    Ok(Asked::Check { file })
 }
 
-/// The help that `clap` tells as an error, or the fault.
-fn help_of(alloc: Global, error: &Error) -> Result<Asked, AuditFault> {
-    match error.kind() {
-        ErrorKind::OutOfMemory => Err(AuditFault::Memory),
-        ErrorKind::DisplayHelp => Ok(Asked::Help(error.to_string(alloc)?)),
-        _ => Err(AuditFault::Usage(error.to_string(alloc)?)),
-    }
-}
-
-/// What the words of a command line ask for, the program's name first.
-///
-/// # Errors
-/// `Usage` where they ask for nothing, and `Memory`.
-pub fn read_settings(alloc: Global, words: &[&str]) -> Result<Asked, AuditFault> {
-    let matches = match command(alloc)?.try_get_matches_from(words) {
-        Ok(matches) => matches,
-        Err(error) => return help_of(alloc, &error),
-    };
+/// What the subcommand that the words name asks for.
+fn asked_of(alloc: Global, matches: &ArgMatches<'_>) -> Result<Asked, AuditFault>
+    ensures ok { IfOk result (AreOf (subcommand_rows_of matches.now)) }
+    ensures refused { IfErr result (IsFaultOf (AsksNothing (AreOf (subcommand_rows_of matches.now)))) }
+{
     match matches.subcommand() {
         Some((name, options)) if name == "trail" => trail_of(alloc, options),
         Some((name, options)) if name == "store" => store_of(alloc, options),
         _ => Err(usage(alloc, "error: a subcommand has to be given: trail or store")),
+    }
+}
+
+/// The help that `clap` reports as an error, or the fault.
+fn help_of(alloc: Global, error: &Error) -> Result<String, AuditFault>
+    ensures ok { IfOk result (λ _. kind_of error.now ≡ ErrorKind.DisplayHelp) }
+    ensures refused { IfErr result (IsFaultOf ((kind_of error.now ≢ ErrorKind.OutOfMemory) × (kind_of error.now ≢ ErrorKind.DisplayHelp))) }
+{
+    match error.kind() {
+        ErrorKind::OutOfMemory => Err(AuditFault::Memory),
+        ErrorKind::DisplayHelp => Ok(error.to_string(alloc)?),
+        _ => Err(AuditFault::Usage(error.to_string(alloc)?)),
+    }
+}
+
+/// What the words of a command line ask for, the program's name first. One pass over the words.
+///
+/// # Errors
+/// `Usage`, only if the words ask for nothing, with a text that says what is wrong and what is accepted; and `Memory`.
+pub fn read_settings<'a>(alloc: Global, words: &'a [&'a str]) -> Result<Asked, AuditFault>
+    ensures ok { IfOk result (λ asked. AreGiven asked (map (λ word. word.now) words.entry.now)) }
+    ensures refused { IfErr result (IsFaultOf (GiveNone (map (λ word. word.now) words.entry.now))) }
+{
+    match program_command(alloc)?.try_get_matches_from(words) {
+        Ok(matches) => asked_of(alloc, &matches),
+        Err(error) => Ok(Asked::Help(help_of(alloc, &error)?)),
     }
 }

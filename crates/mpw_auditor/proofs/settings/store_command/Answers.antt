@@ -1,0 +1,14 @@
+use Rattle.std.proofs.Common.{codes}
+use Rattle.std.proofs.lemmas.Result.{IfOk-weaker}
+use Rattle.clap.specs.Words.{new_app, with_rule}
+use Rattle.mpw_auditor.specs.Forms.{word_rule}
+use Rattle.mpw_auditor.proofs.settings.store_command.Goals as goal
+
+pub returns : goal.returns
+returns c =
+    let app = new_app (codes "store") in
+    let first = c.in_ok-with_argument.ensures app (word_rule (codes "task"))
+    c.new_command-command.ensures c.word-task.ensures in
+    IfOk-weaker c.with_argument-2.result _ _ (λ with added.
+    added (with_rule app (word_rule (codes "task"))) (word_rule (codes "file")) first c.word-file.ensures)
+    c.with_argument-2.ensures
