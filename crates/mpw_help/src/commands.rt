@@ -3,31 +3,31 @@
 use crate::entry::{Detail, Entry};
 
 /// The commands.
-static COMMANDS: [Entry; 5] = [
+static COMMANDS: [Entry; 7] = [
     Entry {
         word: "script",
         form: "mpw script --officer NAME --digest HEX",
         meaning: "serves the lines of the standard input on a new desk, and writes the replies to \
-            the standard output; --store FILE keeps each change in a database, and goes on from \
+            the standard output; --store FILE stores each change in a database, and goes on from \
             those that it has",
         detail: Detail::Command {
-            statuses: "0 the connection ended, or help was asked for; 2 the command line isn't one; \
-                3 a device or the store failed; 5 want of memory outside a request",
+            statuses: "0 the connection ended; 2 the command line is wrong, or asks for help; \
+                3 a device or the store failed; 5 out of memory outside a request",
         },
     },
     Entry {
         word: "serve",
         form: "mpw serve --listen ADDRESS:PORT --connections N --workers W --officer NAME --digest HEX",
         meaning: "serves connections that share a new desk, N in all, or with --ongoing N at a time; \
-            --idle SECONDS ends one that sends nothing for so long, --log FILE keeps a line for each \
-            connection and each request, and --store FILE keeps each change in a database, and goes \
+            --idle SECONDS ends one that sends nothing for so long, --log FILE writes a line for each \
+            connection and each request, and --store FILE stores each change in a database, and goes \
             on from those that it has",
         detail: Detail::Command {
-            statuses: "0 the connections ended, the desk's history is full, or help was asked for; 2 \
-                the command line isn't one; 3 the store or the log can't be opened, a change could \
-                not be kept, the address can't be bound, the output failed, a connection can't be \
+            statuses: "0 the connections ended, or the desk's history is full; 2 the command line \
+                is wrong, or asks for help; 3 the store or the log can't be opened, a change could \
+                not be stored, the address can't be bound, the output failed, a connection can't be \
                 accepted or no number is left for one; 4 the desk has a call that nobody made; 5 \
-                want of memory, or a thread can't be started",
+                out of memory, or a thread can't be started",
         },
     },
     Entry {
@@ -35,17 +35,19 @@ static COMMANDS: [Entry; 5] = [
         form: "mpw check --deck DECK [--top STRUCTURE] FILE",
         meaning: "checks a structure of a GDSII library by itself under a deck, and prints its \
             markers as the request markers does; without --top the one that no other places; \
-            --report OUT and --picture OUT write them to files for KLayout and as SVG, --marker \
-            KEY draws what lies round one, --tile SIDE takes tiles of that side in place of the \
-            deck's, --tiles TILES prints the part of a share for mpw stitch, --skip-layers L/D,.. \
-            leaves out the elements on these layers, --faults tells the fault of each \
-            element, and --strict refuses a check of which a rule looks at nothing",
+            --report OUT, --page OUT and --picture OUT write them for KLayout, for a browser and as \
+            SVG, --marker KEY draws what is around one, --limit N lists the first N of each rule, \
+            --summary prints their numbers alone, --tile SIDE takes tiles of that side instead of \
+            the deck's, --tiles TILES prints the part of a share for mpw stitch, --skip-layers \
+            L/D,.. leaves out the elements on these layers, --skip-unreached the structures that \
+            the top doesn't reach, --faults prints the fault of each element, and --strict refuses \
+            a check of which a rule looks at nothing",
         detail: Detail::Command {
-            statuses: "0 no markers; 1 markers; 2 the command line isn't one, an output is an input \
+            statuses: "0 no markers; 1 markers; 2 the command line is wrong, an output is an input \
                 or another output, no marker has the key of --marker, or there aren't all the \
                 columns of --tiles; 3 a file can't be read or written, or the output failed; 4 the \
                 library, the structure or the deck has a fault, or with --strict a rule looks at \
-                nothing; 5 want of memory",
+                nothing; 5 out of memory",
         },
     },
     Entry {
@@ -53,23 +55,44 @@ static COMMANDS: [Entry; 5] = [
         form: "mpw stitch PART..",
         meaning: "puts the parts of one check together that have each of its columns once, and \
             prints the markers that mpw check prints of the whole; --report OUT writes them to a \
-            file for KLayout",
+            file for KLayout, and --limit N lists the first N of each rule",
         detail: Detail::Command {
-            statuses: "0 no markers; 1 markers; 2 the command line isn't one, or an output is a part \
+            statuses: "0 no markers; 1 markers; 2 the command line is wrong, or an output is a part \
                 or another output; 3 a file can't be read or written, or the output failed; 4 a \
                 file is no part, one of an older form or one that was cut off, a part is of another \
-                library, deck, structure or cut, or a column is in no part or in two; 5 want of \
+                library, deck, structure or cut, or a column is in no part or in two; 5 out of \
                 memory",
+        },
+    },
+    Entry {
+        word: "trail",
+        form: "mpw trail FILE",
+        meaning: "lists the rows of a store, a line each: place, connection, kind and line; \
+            --payload K writes the library or the deck of row K instead",
+        detail: Detail::Command {
+            statuses: "0 the rows, the payload or the help was printed; 2 the command line is \
+                wrong; 3 the file can't be opened or read, row K has no payload, or the output \
+                failed; 5 out of memory",
+        },
+    },
+    Entry {
+        word: "store",
+        form: "mpw store check FILE",
+        meaning: "tests each row of a store, and prints how many there are",
+        detail: Detail::Command {
+            statuses: "0 each row is sound, or the help was printed; 2 the command line is wrong; 3 \
+                the file can't be opened or read, or the output failed; 4 the store isn't sound; 5 \
+                out of memory",
         },
     },
     Entry {
         word: "help",
         form: "mpw help [CODE-OR-REQUEST]",
-        meaning: "tells what a request, a denial, a code or a command means; without a word it \
+        meaning: "explains what a request, a denial, a code or a command means; without a word it \
             lists them",
         detail: Detail::Command {
-            statuses: "0 it was told; 2 there is nothing of that word; 3 the output failed; 5 want \
-                of memory",
+            statuses: "0 the text was printed; 2 there is nothing of that word; 3 the output failed; \
+                5 out of memory",
         },
     },
 ];

@@ -9,7 +9,7 @@ static DENIALS: [Entry; 8] = [
         form: "DENIED session",
         meaning: "the connection has no session",
         detail: Detail::Denial {
-            remedy: "open one; where an open stands before, it was denied, or the session was closed, or its user was deleted",
+            remedy: "open one; if it was opened before, that was denied, or the session was closed, or its user was deleted",
         },
     },
     Entry {
@@ -55,9 +55,9 @@ static DENIALS: [Entry; 8] = [
     Entry {
         word: "submitter",
         form: "DENIED submitter cell",
-        meaning: "the user submitted that cell, and the marker meets it",
+        meaning: "the user submitted that cell, and the marker touches it",
         detail: Detail::Denial {
-            remedy: "have it signed by one who submitted nothing that it meets",
+            remedy: "have it signed by one who submitted nothing that it touches",
         },
     },
     Entry {

@@ -7,7 +7,7 @@ static LIMITS: [Entry; 9] = [
     Entry {
         word: "memory",
         form: "REFUSED 17 memory",
-        meaning: "memory is wanting; nothing has changed",
+        meaning: "out of memory; nothing has changed",
         detail: Detail::Refusal {
             number: "17",
             remedy: "ask again, or ask for less",
@@ -109,7 +109,7 @@ static STATES: [Entry; 9] = [
         meaning: "no run is cutting or checking",
         detail: Detail::Refusal {
             number: "31",
-            remedy: "there is nothing to leave; status tells how far the run is",
+            remedy: "there is nothing to leave; status shows how far the run is",
         },
     },
     Entry {
@@ -154,7 +154,7 @@ static STATES: [Entry; 9] = [
         meaning: "a run is cutting or checking",
         detail: Detail::Refusal {
             number: "37",
-            remedy: "cancel it, and run again; with mpw script memory was wanting for it, and nothing goes on by itself",
+            remedy: "wait for it, as mpw-ask --wait does, or cancel it; with mpw script it ran out of memory: cancel it, and run with more",
         },
     },
     Entry {
@@ -218,7 +218,8 @@ static LINES: [Entry; 9] = [
         meaning: "no run is finished",
         detail: Detail::Refusal {
             number: "43",
-            remedy: "run; where status says cutting or checking, cancel before",
+            remedy: "while a run goes on, ask status, or wait for it, as mpw-ask --wait does; else run; with mpw script \
+                cancel before",
         },
     },
     Entry {
@@ -251,20 +252,20 @@ static LINES: [Entry; 9] = [
     Entry {
         word: "store",
         form: "REFUSED 60 store",
-        meaning: "the change could not be kept; nothing has changed, and the desk is closed",
+        meaning: "the change could not be stored; nothing has changed, and the desk is closed",
         detail: Detail::Refusal {
             number: "60",
             remedy: "look at the store's disk, and start the program again: it goes on from what \
-                is kept",
+                is stored",
         },
     },
     Entry {
         word: "closed",
         form: "REFUSED 61 closed",
-        meaning: "an earlier change could not be kept, so the desk answers no request",
+        meaning: "an earlier change could not be stored, so the desk answers no request",
         detail: Detail::Refusal {
             number: "61",
-            remedy: "start the program again: it goes on from what is kept",
+            remedy: "start the program again: it goes on from what is stored",
         },
     },
 ];

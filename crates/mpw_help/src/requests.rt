@@ -49,8 +49,8 @@ static SESSIONS: [Entry; 5] = [
         meaning: "lists the session's user, its active roles and those that it is authorized for",
         detail: Detail::Request {
             tests: "a session (DENIED session)",
-            reply: "OK n, and a line each: user U, then active R by name, then authorized R by \
-                name",
+            reply: "OK n, and a line each: user U, then active R and then authorized R, each in \
+                alphabetical order",
         },
     },
 ];

@@ -14,7 +14,7 @@ static CELLS: [Entry; 6] = [
                 submit cell); the bytes are a library (the first fault, from 1 short to 18 \
                 absolute); it has the top (20 notop); neither the top nor a structure that it \
                 reaches leads back to itself (21 cycle); the permission use on each name outside \
-                the library (DENIED permission use cell, the first by name); each of these has a \
+                the library (DENIED permission use cell, the first in alphabetical order); each of these has a \
                 submission (23 nocell); within -2^30 to 2^30 nm (24 extent); at most 2^20 shapes \
                 (25 shapes); at most 64 levels (26 deep); at most 1024 cells and 4096 \
                 submissions (27 full)",
@@ -27,7 +27,7 @@ static CELLS: [Entry; 6] = [
         meaning: "lists the cells that the session may read",
         detail: Detail::Request {
             tests: "a session (DENIED session)",
-            reply: "OK n, and a line each by name: cell V submitter",
+            reply: "OK n, and a line each in alphabetical order: cell V submitter",
         },
     },
     Entry {
@@ -69,7 +69,7 @@ static CELLS: [Entry; 6] = [
     Entry {
         word: "deck",
         form: "deck length",
-        meaning: "brings the deck of so many bytes after the line, in the place of the one before",
+        meaning: "uploads the deck of so many bytes after the line; it replaces the one before",
         detail: Detail::Request {
             tests: "a session (DENIED session); the permission deck on the desk (DENIED permission \
                 deck desk); the bytes are a deck (the first fault, from 51 word to 57 rules)",
@@ -111,7 +111,7 @@ static RUNS: [Entry; 9] = [
     Entry {
         word: "status",
         form: "status",
-        meaning: "tells how far the run is",
+        meaning: "shows how far the run is",
         detail: Detail::Request {
             tests: "a session (DENIED session)",
             reply: "OK 1, and idle, cutting N, checking N done total or finished N",
@@ -148,7 +148,7 @@ static RUNS: [Entry; 9] = [
                 sign desk); the run is finished (43 notfinished); the book has a marker of that \
                 key, which the session sees in full (44 marker); a waiver of it was asked for (45 \
                 nowaiver); it isn't signed (33 known); the user submitted nothing that the marker \
-                meets (DENIED submitter cell); the user didn't ask for the waiver (DENIED asker)",
+                touches (DENIED submitter cell); the user didn't ask for the waiver (DENIED asker)",
             reply: "OK 0",
         },
     },
@@ -164,7 +164,7 @@ static RUNS: [Entry; 9] = [
     Entry {
         word: "verdict",
         form: "verdict",
-        meaning: "tells whether each marker has a signed waiver, and deck and placements are still \
+        meaning: "shows whether each marker has a signed waiver, and deck and placements are still \
             those of the run",
         detail: Detail::Request {
             tests: "a session (DENIED session); the permission verdict on the desk (DENIED \
