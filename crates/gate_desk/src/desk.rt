@@ -1,6 +1,9 @@
 //! A table of events of the core, each with what it is answered.
 //!
 //! Each line is repeated, with the answer below. A line that begins with `#`, and an empty one, says nothing.
+//! - `begin` begins with a new desk, whose officer is `root` with the token `abc`;
+//! - `script CONN NAME` asks the requests of the script of that name on a connection, executes each run that is accepted, and prints how many requests
+//!   there were, where each is answered as it is written there;
 //! - `new NAME` begins with a new desk, whose officer is `root`, asks what the lines of the data file of that name ask, each
 //!   on connection 1, and tells how many of them are accepted;
 //! - `ask CONN WORDS` asks a request on a connection and tells the reply. A library, in the notation of `gate_samples`, or
@@ -15,12 +18,26 @@
 //! - `replay` goes on with the desk that the events of the history give, and tells how many of its calls are answered
 //!   otherwise;
 //! - `fill CONN N` ends a connection until the history has room for N calls.
+//!
+//! What finds no memory is tried once more. An event that finds none has to leave the history as it was; that it left all else so is shown by what is
+//! answered behind it. So where a single allocation of the program is refused, whichever it is, the same is printed, or nothing at all.
+mod asking;
 mod table;
 
 use crate::desk::table::Table;
 use anyhow::{Result, bail};
+use gate_events::{digest, read_transcript};
 use gate_words::number;
+use mpw_requests::digest_of;
 use std::fs;
+
+/// Has a connection ask what a script asks.
+fn serve(rt: &HostRuntime, table: &mut Table, connection: u32, name: &str) -> Result<()> {
+    let path = format!(in rt.alloc(); "{name}.txt")?;
+    let text = fs::read_to_string(rt, path.as_str())?;
+    let script = read_transcript(rt.alloc(), text.as_str())?;
+    table.serve(rt, connection, &script)
+}
 
 /// Begins with a new desk that is asked what a data file says.
 fn begin(rt: &HostRuntime, table: &mut Table, name: &str) -> Result<()> {
@@ -53,6 +70,11 @@ fn answer(rt: &HostRuntime, table: &mut Table, line: &str) -> Result<()> {
     let (command, payload) = line.split_once('|').unwrap_or((line, ""));
     let words: Vec<&str> = command.split_whitespace().collect(rt.alloc())?;
     match words.as_slice() {
+        ["begin"] => {
+            *table = Table::new(rt.alloc(), digest_of(b"abc"))?;
+            Ok(())
+        }
+        ["script", connection, name] => serve(rt, table, number(connection)?, name),
         ["new", name] => begin(rt, table, name),
         ["ask", connection, asked @ ..] => table.ask(
             rt,
@@ -67,12 +89,22 @@ fn answer(rt: &HostRuntime, table: &mut Table, line: &str) -> Result<()> {
     }
 }
 
+/// Answers a line, once more where there was no memory for it before the desk was asked anything.
+fn answer_again(rt: &HostRuntime, table: &mut Table, line: &str) -> Result<()> {
+    let calls = table.calls();
+    match answer(rt, table, line) {
+        Ok(()) => Ok(()),
+        Err(_) if table.calls() == calls || line.starts_with("new ") => answer(rt, table, line),
+        Err(fault) => Err(fault),
+    }
+}
+
 /// Answers the lines of its table.
 pub(crate) fn run(rt: &HostRuntime, lines: &[String]) -> Result<()> {
-    let mut table = Table::new(rt.alloc())?;
+    let mut table = Table::new(rt.alloc(), digest("abc"))?;
     for line in lines {
         println!(rt; "{line}")?;
-        answer(rt, &mut table, line.as_str())?;
+        answer_again(rt, &mut table, line.as_str())?;
     }
     Ok(())
 }

@@ -5,24 +5,25 @@
 
 mod desk;
 mod policy;
+mod replies;
 mod scripts;
 mod shared;
 
 use anyhow::{Result, bail};
 use gate_words::{Table, read_tables};
+use std::net::{Net, TcpListener, TcpStream};
 use std::sync::Wait;
 use std::thread::Threads;
 use std::time::Clock;
 
 /// Runs a table.
-fn run<T: Threads + Wait + Clock + Sync>(
-    rt: &HostRuntime,
-    threads: &T,
-    table: &Table,
-) -> Result<()> {
+fn run<T>(rt: &HostRuntime, threads: &T, table: &Table) -> Result<()>
+where
+    T: Threads + Wait + Clock + Net<Listener = TcpListener, Stream = TcpStream> + Sync,
+{
     match table.name() {
         "policy" => Ok(policy::run(rt)?),
-        "desk" => desk::run(rt, table.lines()),
+        "desk" | "refused" => desk::run(rt, table.lines()),
         "scripts" => scripts::run(rt, threads, table.lines()),
         "shared" => shared::run(rt, threads, table.lines()),
         _ => bail!("no table has this name"),

@@ -7,6 +7,7 @@
 //! - `NAME keeper N`: the keeper fails from its Nth call on, and the script says how that is answered;
 //! - `NAME once N`: the same where it fails at its Nth call alone;
 //! - `NAME keeper each`: so at each call in turn, where the script says how all is answered that is kept.
+mod changes;
 mod devices;
 mod digests;
 mod keeper;
@@ -14,7 +15,9 @@ mod limit;
 mod restart;
 mod serving;
 
+use crate::replies::whole_replies;
 use anyhow::Result;
+use changes::kept_after;
 use devices::tell_flushes;
 use digests::tell_digests;
 use gate_events::{Transcript, read_transcript};
@@ -176,10 +179,17 @@ fn tell_failing(
     Ok(())
 }
 
-/// Whether the replies end in a front of those that are written, the fault is told, and the desk was handed the end.
+/// Whether the replies end in a front of those that are written, the fault is told, the desk was handed the end, and all that was accepted stays: of the
+/// requests that the front answers, and of the one whose reply could not be written.
 fn is_told(served: &Served, script: &Transcript, device: &str) -> bool {
-    let is_fault = served.end == (if device == "source" { "Read" } else { "Write" });
-    is_fault & served.is_gone && is_front(served, script)
+    let is_source = device == "source";
+    let fault = if is_source { "Read" } else { "Write" };
+    let unwritten = if is_source { 0usize } else { 1usize };
+    let answered = whole_replies(served.text.as_slice()).saturating_add(unwritten);
+    served.end == fault
+        && served.is_gone
+        && is_front(served, script)
+        && served.kept == kept_after(script, answered)
 }
 
 /// Tells of a script over a device that fails at each byte in turn.

@@ -7,7 +7,10 @@
 //! - `session NAME` serves the script of that name, as `gate_events` has them, to a pass of a new desk without workers. With
 //!   `source N` behind it the source fails at that byte, with `sink N` the sink takes so many bytes and fails, and with `source each` and
 //!   `sink each` they fail so at each place in turn. A front is told where what was written is a front of the replies, the history has just
-//!   the requests that were read and the end, and all calls are the pass's;
+//!   the requests that were read and the end, and all calls are the pass's. With `events` behind these words, but for `each`, the events of the
+//!   history are told too, or alone;
+//! - `loopback NAME` serves the script of that name to a client over loopback, by a service of one connection and one worker over a new desk, and prints each
+//!   event of the history but the worker's calls for a job;
 //! - `passes N` takes passes, one after another, until there is none or there were N and one more.
 //!
 //! A connection's steps stand in lines below one another:
@@ -19,6 +22,8 @@ mod day;
 mod ending;
 mod faults;
 mod flags;
+mod history;
+mod loopback;
 mod passes;
 mod session;
 mod setup;
@@ -28,6 +33,7 @@ mod threads;
 
 use crate::shared::day::Day;
 use crate::shared::faults::tell_session;
+use crate::shared::loopback::tell_loopback;
 use crate::shared::passes::tell_passes;
 use crate::shared::setup::desk_of;
 use crate::shared::shared_day::tell_day;
@@ -35,6 +41,7 @@ use anyhow::{Result, bail};
 use gate_events::read_transcript;
 use gate_words::number;
 use std::fs;
+use std::net::{Net, TcpListener, TcpStream};
 use std::sync::Wait;
 use std::thread::Threads;
 use std::time::Clock;
@@ -55,16 +62,26 @@ fn run_session(rt: &HostRuntime, waits: &impl Wait, name: &str, words: &[&str]) 
     tell_session(rt, waits, &script, words)
 }
 
+/// Serves a script over loopback.
+fn run_loopback<R>(rt: &HostRuntime, threads: &R, name: &str) -> Result<()>
+where
+    R: Threads + Wait + Clock + Net<Listener = TcpListener, Stream = TcpStream> + Sync,
+{
+    let text = read_script(rt, name)?;
+    let script = read_transcript(rt.alloc(), text.as_str())?;
+    tell_loopback(rt, threads, &script)
+}
+
 /// Runs one line of the standard input.
-fn run_case<R: Threads + Wait + Clock + Sync>(
-    rt: &HostRuntime,
-    threads: &R,
-    line: &str,
-) -> Result<()> {
+fn run_case<R>(rt: &HostRuntime, threads: &R, line: &str) -> Result<()>
+where
+    R: Threads + Wait + Clock + Net<Listener = TcpListener, Stream = TcpStream> + Sync,
+{
     println!(rt; "{line}")?;
     let words: Vec<&str> = line.split_whitespace().collect(rt.alloc())?;
     match words.as_slice() {
         ["session", name, words @ ..] => run_session(rt, threads, name, words),
+        ["loopback", name] => run_loopback(rt, threads, name),
         ["passes", count] => tell_passes(rt, threads, desk_of(rt, DESK)?, number(count)?),
         [name, hold, kept_back] => {
             let core = desk_of(rt, DESK)?;
@@ -76,11 +93,10 @@ fn run_case<R: Threads + Wait + Clock + Sync>(
 }
 
 /// Answers the lines of its table.
-pub(crate) fn run<R: Threads + Wait + Clock + Sync>(
-    rt: &HostRuntime,
-    waits: &R,
-    lines: &[String],
-) -> Result<()> {
+pub(crate) fn run<R>(rt: &HostRuntime, waits: &R, lines: &[String]) -> Result<()>
+where
+    R: Threads + Wait + Clock + Net<Listener = TcpListener, Stream = TcpStream> + Sync,
+{
     for line in lines {
         run_case(rt, waits, line.as_str())?;
     }

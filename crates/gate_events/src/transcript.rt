@@ -1,7 +1,7 @@
 //! Scripts with their replies, one below the other.
 //!
 //! - `> TEXT` is a line of the input;
-//! - `| TEXT` is text of the input, in which `\n`, `\r`, `\t` and `\0` are those bytes;
+//! - `| TEXT` is text of the input, in which `\n`, `\r`, `\t`, `\0`, `\1`, `\2` and `\7` are those bytes;
 //! - `x N TEXT` is such a text N times;
 //! - `* N TEXT` is N lines of the input, with `#` for the numbers from 0 on and `@` for the next, each answered `OK 0`;
 //! - `= NOTATION` is a library in the notation of samples;
@@ -64,6 +64,9 @@ fn escaped(letter: u8) -> u8 {
         b'r' => b'\r',
         b't' => b'\t',
         b'0' => 0,
+        b'1' => 1,
+        b'2' => 2,
+        b'7' => 7,
         other => other,
     }
 }

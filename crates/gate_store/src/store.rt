@@ -4,6 +4,8 @@
 //! - `store`: a new store, with nothing;
 //! - `serve NAME`: the desk is reopened, and a connection served with the script of that name, for the officer `root`, whose token is `abc`;
 //! - `as OFFICER TOKEN NAME`: the same, for another officer;
+//! - `reopen NAME`: the desk is reopened, and a connection with the number 1, which the rows have too, is served with the script of that name. Nothing
+//!   of it is stored, and the store is let go;
 //! - `row CONNECTION KIND LINE`: a row is stored behind the others, as it stands;
 //! - `first N`: the store has its first rows alone;
 //! - `rows`: the rows, without their payloads;
@@ -20,7 +22,7 @@ use mpw_geom::Name;
 use mpw_requests::digest_of;
 use mpw_settings::Officer;
 use mpw_stored_rows::{Kind, StoredRow};
-use serving::{end_word, serve};
+use serving::{end_word, serve, serve_again};
 use sqlite::{Connection, MemStore};
 use std::alloc::Global;
 use std::fs;
@@ -38,6 +40,41 @@ fn read_officer(alloc: Global, name: &str, token: &str) -> Result<Officer> {
     })
 }
 
+/// Reads a script of the folder of data.
+fn read_script(rt: &HostRuntime, name: &str) -> Result<Transcript> {
+    let path = format!(in rt.alloc(); "{name}.txt")?;
+    let text = fs::read_to_string(rt, path.as_str())?;
+    Ok(read_transcript(rt.alloc(), text.as_str())?)
+}
+
+/// Whether a text has the replies of a script, in words.
+fn answer_word(text: &[u8], script: &Transcript) -> &'static str {
+    if text == script.replies.as_slice() {
+        "answered as written"
+    } else {
+        "ANOTHER answer"
+    }
+}
+
+/// Reopens a store's desk, serves a script over it on connection 1, and prints whether it was answered as written. The store is let go.
+fn serve_first(
+    rt: &HostRuntime,
+    threads: &(impl Threads + Sync),
+    store: Store<MemStore>,
+    name: &str,
+) -> Result<Shelf> {
+    let script = read_script(rt, name)?;
+    let officer = read_officer(rt.alloc(), "root", "abc")?;
+    match serve_again(threads, rt.alloc(), store, officer, script.input.as_slice()) {
+        Ok(text) => {
+            let told = answer_word(text.as_slice(), &script);
+            println!(rt; "{name}: {told}, on connection 1")?;
+        }
+        Err(fault) => println!(rt; "{name}: {fault}")?,
+    }
+    Ok(None)
+}
+
 /// Reopens a store's desk, serves a script over it, and tells whether it was answered as written.
 fn serve_script(
     rt: &HostRuntime,
@@ -46,17 +83,10 @@ fn serve_script(
     officer: Officer,
     name: &str,
 ) -> Result<Shelf> {
-    let path = format!(in rt.alloc(); "{name}.txt")?;
-    let text = fs::read_to_string(rt, path.as_str())?;
-    let script: Transcript = read_transcript(rt.alloc(), text.as_str())?;
+    let script = read_script(rt, name)?;
     match serve(threads, rt.alloc(), store, officer, script.input.as_slice()) {
         Ok(came) => {
-            let is_so = came.text.as_slice() == script.replies.as_slice();
-            let told = if is_so {
-                "answered as written"
-            } else {
-                "ANOTHER answer"
-            };
+            let told = answer_word(came.text.as_slice(), &script);
             println!(rt; "{name}: {told}; {}", end_word(came.end))?;
             if let Some(fault) = came.fault {
                 println!(rt; "{name}: closed by {fault}")?;
@@ -136,6 +166,9 @@ fn obey(
         let (token, script) = rest.split_once(' ').unwrap_or((rest, ""));
         let officer = read_officer(alloc, name, token)?;
         return serve_script(rt, threads, store, officer, script);
+    }
+    if verb == "reopen" {
+        return serve_first(rt, threads, store, words);
     }
     if verb == "row" {
         return Ok(Some(put_row(alloc, store, words)?));

@@ -1,9 +1,10 @@
 //! Threads that ask one desk.
 ghost use Rattle.std.specs.Prelude.{◌≡◌, ◌≤◌, None};
+ghost use Rattle.mpw_desk.specs.Numbers.{AreBelow};
 ghost use Rattle.mpw_events.specs.History.{kept_desk};
 
 use mpw_core::Core;
-use mpw_desk::{Blank, Pass, Room, Shared};
+use mpw_desk::{Blank, Pass, Room, Shared, are_below};
 use mpw_events::{Handler, NoKeeper};
 use mpw_geom::Name;
 use mpw_requests::{PolicyRequest, Request, SharedRequest, digest_of};
@@ -117,6 +118,8 @@ fn ask_named<N: Room + Send + Sync, R: Threads + Wait + Clock + Sync>(
     requires name { blank.name ≡ N.name }
     requires parts { (blank.parts ≡ N.parts) × (N.all ≡ N.parts) × (1048577 ≤ N.all) }
     requires table { blank.table ≡ N.table }
+    requires first { N.first ≡ 1 }
+    requires above { AreBelow 1 core.value.history }
 {
     let shared: Shared<Core, NoKeeper, N> = Shared::new(core, NoKeeper, blank, 1);
     let Ok(begin) = Instant::now(rt) else {
@@ -135,13 +138,16 @@ fn ask_named<N: Room + Send + Sync, R: Threads + Wait + Clock + Sync>(
     }
 }
 
-/// Asks a new desk in threads; none if not all was asked, or the clock can't be read.
+/// Asks a new desk in threads; none if it had calls, not all was asked, or the clock can't be read.
 pub fn ask_in_threads<R: Threads + Wait + Clock + Sync>(
     rt: &R,
     alloc: Global,
     core: Box<Core>,
     plan: Plan,
 ) -> Result<Option<Asked>, AllocError> {
+    if !are_below(1, core.calls()) {
+        return Ok(None);
+    }
     let blank = Blank::new(alloc)?;
     ask_named::<Brand, R>(rt, alloc, core, blank, plan)
 }

@@ -1,20 +1,26 @@
 //! A desk, and the answers that are kept beside it.
 
+use crate::desk::asking::{job_event, next_request, reply_text, taken_job};
 use anyhow::{Result, bail};
 use gate_events::{
-    Kept, cut_job, different, digest, event_of, events_of, find, find_cut, find_tile, is_accepted,
-    job_of, keep, name, request, tell_response, tile_job, work,
+    Kept, Text, Transcript, cut_job, different, digest, event_of, events_of, find, find_cut,
+    find_tile, is_accepted, keep, name, request, tell_response, tile_job, work,
 };
 use mpw_core::{Core, MAX_EVENTS, replay};
 use mpw_events::{Event, NoKeeper, Response};
 use mpw_geom::Name;
 use mpw_job::Job;
+use mpw_requests::{Digest, Request, RunRequest, SharedRequest};
 use std::alloc::{AllocError, Global};
 
-/// A desk, and the answers that are kept beside it.
+/// The most jobs of a run that a script has, with the call that finds none.
+const MOST_JOBS: usize = 100;
+
+/// A desk, the digest of its officer, and the answers that are kept beside it.
 #[derive(Drop)]
 pub struct Table {
     core: Box<Core>,
+    officer: Digest,
     kept: Vec<Kept>,
 }
 
@@ -26,23 +32,42 @@ fn boxed(alloc: Global, core: Core) -> Result<Box<Core>, AllocError> {
     }
 }
 
-/// A new desk.
-fn new_core(alloc: Global, officer: Name) -> Result<Box<Core>, AllocError> {
-    Core::new_boxed(alloc, officer, digest("abc"))
-}
-
 /// The desk that events give.
-fn replayed(alloc: Global, officer: Name, events: &[Event]) -> Result<Box<Core>, AllocError> {
-    boxed(alloc, replay(alloc, officer, digest("abc"), events)?)
+fn replayed(
+    alloc: Global,
+    officer: Name,
+    digest: Digest,
+    events: &[Event],
+) -> Result<Box<Core>, AllocError> {
+    boxed(alloc, replay(alloc, officer, digest, events)?)
 }
 
-/// Handles an event. The response stands behind a pointer too.
-fn handle(alloc: Global, core: &mut Core, event: Event) -> Result<Box<Response>, AllocError> {
-    let response = core.handle(&mut NoKeeper, event)?;
-    match Box::new(alloc, response) {
-        Ok(response) => Ok(response),
+/// A place for a response. It is a pointer, so that to let it go is one step wherever it is held.
+fn new_place(alloc: Global) -> Result<Box<Response>, AllocError> {
+    match Box::new(alloc, Response::Ended) {
+        Ok(place) => Ok(place),
         Err(_) => Err(AllocError),
     }
+}
+
+/// Handles an event, with a place for the response made before.
+fn handle_once(alloc: Global, core: &mut Core, event: &Event) -> Result<Box<Response>, AllocError> {
+    let mut place = new_place(alloc)?;
+    let event = event.copy()?;
+    *place = core.handle(&mut NoKeeper, event)?;
+    Ok(place)
+}
+
+/// Handles an event. Where there is no memory for it, the history has to be as it was, and it is handled once more.
+fn handle(alloc: Global, core: &mut Core, event: &Event) -> Result<Box<Response>> {
+    let calls = core.history().len();
+    if let Ok(response) = handle_once(alloc, core, event) {
+        return Ok(response);
+    }
+    if core.history().len() != calls {
+        bail!("a history as it was");
+    }
+    Ok(handle_once(alloc, core, event)?)
 }
 
 /// Ends a connection so many times.
@@ -54,19 +79,19 @@ fn end_times(core: &mut Core, connection: u32, count: usize) -> Result<(), Alloc
 }
 
 impl Table {
-    /// A new desk, beside which nothing is kept.
-    pub fn new(alloc: Global) -> Result<Table> {
-        let officer = name(alloc, "root")?;
-        let core = new_core(alloc, officer)?;
+    /// A new desk whose officer's token has this digest, beside which nothing is kept.
+    pub fn new(alloc: Global, officer: Digest) -> Result<Table> {
+        let core = Core::new_boxed(alloc, name(alloc, "root")?, officer)?;
         Ok(Table {
             core,
+            officer,
             kept: Vec::new(alloc),
         })
     }
 
     /// Begins with a new desk, which is asked what the lines of a text ask.
     pub fn begin(&mut self, rt: &HostRuntime, text: &str) -> Result<()> {
-        *self = Table::new(rt.alloc())?;
+        *self = Table::new(rt.alloc(), digest("abc"))?;
         let mut count = 0usize;
         for line in text.lines() {
             self.set_up(rt.alloc(), line)?;
@@ -83,7 +108,7 @@ impl Table {
         let response = handle(
             alloc,
             &mut self.core,
-            Event::Ask {
+            &Event::Ask {
                 connection: 1,
                 request,
             },
@@ -96,7 +121,7 @@ impl Table {
 
     /// Handles an event, and tells the response.
     fn tell(&mut self, rt: &HostRuntime, event: Event) -> Result<()> {
-        let response = handle(rt.alloc(), &mut self.core, event)?;
+        let response = handle(rt.alloc(), &mut self.core, &event)?;
         tell_response(rt, &response)
     }
 
@@ -137,11 +162,14 @@ impl Table {
 
     /// Calls for a job, and does it.
     pub fn take(&mut self, rt: &HostRuntime, worker: u32, name: &str) -> Result<()> {
-        let response = handle(rt.alloc(), &mut self.core, Event::Take { worker })?;
+        let response = handle(rt.alloc(), &mut self.core, &Event::Take { worker })?;
         tell_response(rt, &response)?;
-        match job_of(rt.alloc(), &response)? {
-            Some(job) => self.work(rt.alloc(), name, &job),
-            None => Ok(()),
+        let Some(job) = taken_job(rt.alloc(), &response)? else {
+            return Ok(());
+        };
+        match self.work(rt.alloc(), name, &job) {
+            Ok(()) => Ok(()),
+            Err(_) => self.work(rt.alloc(), name, &job),
         }
     }
 
@@ -180,16 +208,81 @@ impl Table {
         self.work(rt.alloc(), name, &job)
     }
 
+    /// How many calls the history has.
+    pub fn calls(&self) -> usize {
+        self.core.history().len()
+    }
+
     /// Tells how many calls the history has.
     pub fn tell_calls(&self, rt: &HostRuntime) -> Result<()> {
-        Ok(println!(rt; "    {} calls", self.core.history().len())?)
+        Ok(println!(rt; "    {} calls", self.calls())?)
+    }
+
+    /// Works a run off: calls for its jobs, does each, and hands in what comes of it, until there is none.
+    fn work_off(&mut self, alloc: Global) -> Result<()> {
+        for _ in 0..MOST_JOBS {
+            let response = handle(alloc, &mut self.core, &Event::Take { worker: 1 })?;
+            let Some(job) = taken_job(alloc, &response)? else {
+                return Ok(());
+            };
+            let event = job_event(alloc, &job)?;
+            handle(alloc, &mut self.core, &event)?;
+        }
+        bail!("a run of fewer tiles")
+    }
+
+    /// Has a connection ask a request, works a run off that is accepted, and gives the text of the reply.
+    fn reply_to(
+        &mut self,
+        alloc: Global,
+        connection: u32,
+        request: SharedRequest,
+    ) -> Result<Vec<u8>> {
+        let is_run = matches!(request.get(), Request::Run(RunRequest::Run));
+        let response = handle(
+            alloc,
+            &mut self.core,
+            &Event::Ask {
+                connection,
+                request,
+            },
+        )?;
+        let text = reply_text(alloc, &response)?;
+        if is_run && is_accepted(&response) {
+            self.work_off(alloc)?;
+        }
+        Ok(text)
+    }
+
+    /// Has a connection ask what a script asks, request by request, and says whether each is answered as it is written there.
+    pub fn serve(&mut self, rt: &HostRuntime, connection: u32, script: &Transcript) -> Result<()> {
+        let mut reader = Text {
+            bytes: script.input.as_slice(),
+            at: 0,
+            fails_at: usize::MAX,
+            failures: 0,
+        };
+        let (mut told, mut count) = (0usize, 0usize);
+        for _ in 0..script.input.len() {
+            let Some(request) = next_request(rt.alloc(), &mut reader)? else {
+                break;
+            };
+            let reply = self.reply_to(rt.alloc(), connection, request)?;
+            count = count.saturating_add(1);
+            let wanted = &script.replies[told.min(script.replies.len())..];
+            if !wanted.starts_with(reply.as_slice()) {
+                return Ok(println!(rt; "    ANOTHER reply to request {count}")?);
+            }
+            told = told.saturating_add(reply.len());
+        }
+        Ok(println!(rt; "    {count} requests, answered as written")?)
     }
 
     /// Goes on with the desk that the events of the history give.
     pub fn replay(&mut self, rt: &HostRuntime) -> Result<()> {
         let events = events_of(rt.alloc(), self.core.history())?;
         let officer = name(rt.alloc(), "root")?;
-        let core = replayed(rt.alloc(), officer, events.as_slice())?;
+        let core = replayed(rt.alloc(), officer, self.officer, events.as_slice())?;
         let different = different(self.core.history(), core.history());
         let count = core.history().len();
         self.core = core;

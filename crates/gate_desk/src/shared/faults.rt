@@ -1,5 +1,6 @@
 //! A session that is served over devices of which one fails at a place, told.
 
+use crate::replies::whole_replies;
 use crate::shared::session::{Devices, Session, serve_session};
 use anyhow::{Result, bail};
 use gate_events::{Paper, Text, Transcript, name};
@@ -10,7 +11,6 @@ use mpw_requests::digest_of;
 use mpw_serve::End;
 use mpw_wire::WireFault;
 use std::alloc::Global;
-use std::str::from_utf8;
 use std::sync::Wait;
 
 /// A device that fails, and where.
@@ -40,45 +40,6 @@ fn serve(rt: &impl Wait, alloc: Global, script: &Transcript, fault: Fault) -> Re
     };
     let writer = Paper::new(alloc, room);
     Ok(serve_session(rt, alloc, core, Devices { reader, writer })?)
-}
-
-/// How many lines stand behind a reply's first line.
-fn lines_behind(first: &str) -> usize {
-    match first.split_once(' ') {
-        Some(("OK", count)) => count.parse::<usize>().unwrap_or(0),
-        _ => 0,
-    }
-}
-
-/// How many lines of a text end.
-fn whole_lines(text: &[u8]) -> usize {
-    let mut count = 0usize;
-    for byte in text {
-        if *byte == b'\n' {
-            count = count.saturating_add(1);
-        }
-    }
-    count
-}
-
-/// How many replies a text has in whole.
-fn whole_replies(text: &[u8]) -> usize {
-    let (mut count, mut behind) = (0usize, 0usize);
-    for line in from_utf8(text)
-        .unwrap_or("")
-        .lines()
-        .take(whole_lines(text))
-    {
-        behind = if behind > 0 {
-            behind - 1
-        } else {
-            lines_behind(line)
-        };
-        if behind == 0 {
-            count = count.saturating_add(1);
-        }
-    }
-    count
 }
 
 /// Whether a session ended at a fault: what was written is a front of the replies, the history has a front of the requests, with that whose
@@ -127,6 +88,14 @@ fn tell_cut(rt: &HostRuntime, session: &Session, whole: &Session, fault: Fault) 
     Ok(())
 }
 
+/// Tells each event of a session's history.
+fn tell_events(rt: &HostRuntime, session: &Session) -> Result<()> {
+    for line in session.events.lines() {
+        println!(rt; "  {line}")?;
+    }
+    Ok(())
+}
+
 /// The fault of a device at a place.
 fn fault_at(device: &str, place: usize) -> Result<Fault> {
     match device {
@@ -159,7 +128,7 @@ fn tell_each(
     Ok(println!(rt; "  {places} places: {count} times a front")?)
 }
 
-/// Tells of a script over a desk that is shared for it: in whole, or with a device that fails at a place or at each in turn.
+/// Tells of a script over a desk that is shared for it: in whole, by its events, or with a device that fails at a place or at each in turn.
 ///
 /// # Errors
 /// Where the words are none of these, there is no memory, or it can't be printed.
@@ -172,11 +141,16 @@ pub fn tell_session(
     let whole = serve(waits, rt.alloc(), script, Fault::Never)?;
     match words {
         [] => tell_whole(rt, script, &whole),
+        ["events"] => tell_events(rt, &whole),
         [device, "each"] => tell_each(rt, waits, script, &whole, device),
-        [device, place] => {
+        [device, place, more @ ..] => {
             let fault = fault_at(device, number(place)? as usize)?;
             let session = serve(waits, rt.alloc(), script, fault)?;
-            tell_cut(rt, &session, &whole, fault)
+            tell_cut(rt, &session, &whole, fault)?;
+            match more {
+                [] => Ok(()),
+                _ => tell_events(rt, &session),
+            }
         }
         _ => bail!("a device and a place"),
     }

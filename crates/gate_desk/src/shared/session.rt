@@ -1,9 +1,11 @@
 //! A session over a desk that is shared for it, without workers, over devices of which one may fail.
 ghost use Rattle.std.specs.Prelude.{◌≡◌, ◌≤◌, None};
+ghost use Rattle.mpw_desk.specs.Numbers.{AreBelow};
 ghost use Rattle.mpw_events.specs.History.{kept_desk};
 
 use crate::shared::account::{Trouble, push_request};
-use crate::shared::threads::FIRST;
+use crate::shared::history::event_lines;
+use crate::shared::threads::{FIRST, check_first};
 use gate_events::{Paper, Text};
 use mpw_desk::{Blank, Room, Shared, serve_pass};
 use mpw_events::{Call, Event, Handler, NoKeeper};
@@ -35,6 +37,8 @@ pub struct Session {
     pub asked: String,
     /// How many there are.
     pub requests: usize,
+    /// A line for each event of the history.
+    pub events: String,
 }
 
 /// Adds the lines of the requests of calls, and tells how many there are.
@@ -66,12 +70,14 @@ fn session_of(
 ) -> Result<Session, Trouble> {
     let mut asked = String::new(alloc);
     let requests = push_requests(alloc, &mut asked, calls)?;
+    let events = event_lines(alloc, calls)?;
     Ok(Session {
         text: writer.into_bytes(),
         ended: served.ended,
         is_gone: served.is_gone && is_last_gone(calls),
         asked,
         requests,
+        events,
     })
 }
 
@@ -87,6 +93,8 @@ fn serve_named<H: Handler + Drop, N: Room, R: Wait>(
     requires name { blank.name ≡ N.name }
     requires parts { (blank.parts ≡ N.parts) × (N.all ≡ N.parts) × (1048577 ≤ N.all) }
     requires table { blank.table ≡ N.table }
+    requires first { N.first ≡ 2 }
+    requires above { AreBelow 2 (H.desk core.value).history }
 {
     let Devices {
         mut reader,
@@ -115,6 +123,7 @@ pub fn serve_session<H: Handler + Drop, R: Wait>(
     core: Box<H>,
     devices: Devices<'_>,
 ) -> Result<Session, Trouble> {
+    check_first(core.calls())?;
     let blank = Blank::new(alloc)?;
     serve_named::<H, Brand, R>(rt, alloc, core, blank, devices)
 }

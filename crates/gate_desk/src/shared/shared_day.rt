@@ -1,11 +1,12 @@
 //! A day of a shared desk, from where it is shared to where its passes have come back.
 ghost use Rattle.std.specs.Prelude.{◌≡◌, ◌≤◌, None};
+ghost use Rattle.mpw_desk.specs.Numbers.{AreBelow};
 ghost use Rattle.mpw_events.specs.History.{kept_desk};
 
 use crate::shared::account::Account;
 use crate::shared::day::{Day, KeptBack};
 use crate::shared::ending::{tell_accounts, tell_history};
-use crate::shared::threads::{FIRST, Part, all_parts};
+use crate::shared::threads::{FIRST, Part, all_parts, check_first};
 use anyhow::Result;
 use mpw_desk::{Blank, Pass, Room, Shared};
 use mpw_events::{Handler, NoKeeper};
@@ -53,6 +54,8 @@ where
     requires name { blank.name ≡ N.name }
     requires parts { (blank.parts ≡ N.parts) × (N.all ≡ N.parts) × (1048577 ≤ N.all) }
     requires table { blank.table ≡ N.table }
+    requires first { N.first ≡ 2 }
+    requires above { AreBelow 2 (H.desk core.value).history }
 {
     let shared: Shared<H, NoKeeper, N> = Shared::new(core, NoKeeper, blank, FIRST);
     let parts = all_parts::<H, N, R, Day>(threads, &shared, day)?;
@@ -77,6 +80,7 @@ where
     H: Handler + Send + Drop,
     R: Threads + Wait + Clock + Sync,
 {
+    check_first(core.calls())?;
     let blank = Blank::new(rt.alloc())?;
     run_day::<H, Brand, R>(rt, threads, core, blank, day)
 }

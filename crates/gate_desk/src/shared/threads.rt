@@ -1,10 +1,13 @@
 //! The threads of a day: one for each connection and each worker, each with a pass.
 
+ghost use Rattle.std.specs.Prelude.{IfOk};
+ghost use Rattle.mpw_desk.specs.Numbers.{AreBelow};
+
 use crate::shared::account::{Account, Trouble};
 use crate::shared::day::Script;
 use crate::shared::steps::Asking;
-use mpw_desk::{Pass, Room, Shared};
-use mpw_events::{Handler, NoKeeper, Response};
+use mpw_desk::{Pass, Room, Shared, are_below};
+use mpw_events::{Call, Handler, NoKeeper, Response};
 use std::sync::Wait;
 use std::thread;
 use std::thread::Threads;
@@ -12,6 +15,20 @@ use std::time::Clock;
 
 /// The number of the first connection. What sets the desk up before it is shared has the number before it.
 pub const FIRST: u32 = 2;
+
+/// Checks that the calls before a desk is shared are of no connection from [`FIRST`] on.
+///
+/// # Errors
+/// Where one is.
+pub fn check_first(calls: &[Call]) -> Result<(), Trouble>
+    ensures { IfOk result (λ _. AreBelow 2 calls.now) }
+{
+    if are_below(FIRST, calls) {
+        Ok(())
+    } else {
+        Err(Trouble::Calls)
+    }
+}
 
 /// What a thread gives back: its pass, and what came of it.
 pub struct Part<N: Room> {

@@ -3,7 +3,9 @@
 use crate::store::store::Store;
 use gate_events::{Paper, Text};
 use mpw_core::Core;
-use mpw_serve::{End, Executor, Silent};
+use mpw_events::NoKeeper;
+use mpw_reopen::{Reopened, reopen};
+use mpw_serve::{End, Executor, OwnDesk, Silent, serve_core};
 use mpw_settings::Officer;
 use mpw_store::StoreFault;
 use mpw_stored_script::{Stopped, StoredFault, serve_store};
@@ -77,5 +79,52 @@ pub fn serve<S: Alter + Drop>(
             fault,
         }),
         Err((fault, _conn)) => Err(fault),
+    }
+}
+
+/// Serves a text over a desk that was reopened, on connection 1, and gives what was answered.
+fn serve_over<T: Threads + Sync>(
+    alloc: Global,
+    reopened: Reopened<'_, Core, T, Silent>,
+    bytes: &[u8],
+) -> Vec<u8> {
+    let mut reader = Text {
+        bytes,
+        at: 0,
+        fails_at: usize::MAX,
+        failures: 0,
+    };
+    let mut writer = Paper::new(alloc, usize::MAX);
+    let Reopened {
+        core,
+        executor,
+        rows: _,
+        next: _,
+    } = reopened;
+    let mut own = OwnDesk::new(core, NoKeeper, 1, executor);
+    let _served = serve_core(&mut own, &mut reader, &mut writer);
+    let (_core, _keeper) = own.into_parts();
+    writer.into_bytes()
+}
+
+/// Reopens the desk of a store, serves a text over it on connection 1, which its rows may have, and gives what was answered. Nothing of that is
+/// stored.
+pub fn serve_again<S: Alter + Drop>(
+    threads: &(impl Threads + Sync),
+    alloc: Global,
+    store: Store<S>,
+    officer: Officer,
+    bytes: &[u8],
+) -> Result<Vec<u8>, StoreFault> {
+    let mut conn = store.into_conn();
+    let Officer { name, digest } = officer;
+    let executor = Executor {
+        threads,
+        alloc,
+        progress: Silent,
+    };
+    match reopen::<S, Core, _, _>(executor, &mut conn, name, digest) {
+        Ok(reopened) => Ok(serve_over(alloc, reopened, bytes)),
+        Err(fault) => Err(fault),
     }
 }

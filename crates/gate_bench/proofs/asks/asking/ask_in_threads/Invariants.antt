@@ -10,4 +10,8 @@ abbrev pub ghosts-ask_named-N-Naming : goal.ghosts-ask_named-N-Naming
 ghosts-ask_named-N-Naming g a = record { table = a.blank.table }
 
 abbrev pub ghosts-ask_named-N-Room : goal.ghosts-ask_named-N-Room
-ghosts-ask_named-N-Room g a = record { all = a.blank.parts; begun = kept_desk a.core.value None 0 }
+ghosts-ask_named-N-Room g a = record {
+  all = a.blank.parts;
+  begun = kept_desk a.core.value None 0;
+  first = 1;
+}

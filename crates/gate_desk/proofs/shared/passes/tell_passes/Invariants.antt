@@ -12,4 +12,5 @@ abbrev pub ghosts-count_passes-N-Room : goal.ghosts-count_passes-N-Room
 ghosts-count_passes-N-Room g a = record {
   all = a.blank.parts;
   begun = kept_desk (g.H.Handler.desk a.core.value) None 0;
+  first = 2;
 }

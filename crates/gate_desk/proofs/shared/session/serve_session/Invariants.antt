@@ -12,4 +12,5 @@ abbrev pub ghosts-serve_named-N-Room : goal.ghosts-serve_named-N-Room
 ghosts-serve_named-N-Room g a = record {
   all = a.blank.parts;
   begun = kept_desk (g.H.Handler.desk a.core.value) None 0;
+  first = 2;
 }

@@ -12,4 +12,5 @@ abbrev pub ghosts-run_day-N-Room : goal.ghosts-run_day-N-Room
 ghosts-run_day-N-Room g a = record {
   all = a.blank.parts;
   begun = kept_desk (g.H.Handler.desk a.core.value) None 0;
+  first = 2;
 }
