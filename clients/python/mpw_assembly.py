@@ -1,6 +1,6 @@
 """Puts the wafer of a store together: one GDSII library of all placed submissions, and a manifest of what is in it.
 
-Names. The top is `WAFER`. A structure keeps its name if no other structure of the file has it and it isn't `WAFER`. Each
+Names. The top is `WAFER`. The name of a structure stays if no other structure of the file has it and it isn't `WAFER`. Each
 other structure is named `CELL.VERSION.STRUCTURE`. If that name is in use, or has more than 255 characters, its first 240
 characters stay, and `~` and a number follow: the least number from 1 whose name isn't in use. Names are given by
 submission, in the order in which the desk accepted them, and then in the order of the library.

@@ -1,7 +1,7 @@
 """Waivers after a new run: which earlier markers are there again, and the lines for whoever signs.
 
 What `lines_of` gives is a list for a person: comments, and a line `sign KEY` for each waiver that may be signed again.
-The signer takes out what may not stay, and gives the rest to mpw-ask, which passes over the comments.
+The signer takes out what may not stay, and gives the rest to mpw-ask, which leaves the comments out.
 """
 from mpw_desk import BadWord, Key, shortened
 
@@ -22,7 +22,7 @@ def earlier_of(text):
         try:
             found[Key.of("".join(words[:1]))] = words[1:]
         except BadWord:
-            raise ValueError(f"line {number}: {shortened(line)}: no line of markers or waivers") from None
+            raise ValueError(f"line {number}: {shortened(line)}: no line of markers or waivers: give a reply to one of these as it was printed") from None
     return found
 
 

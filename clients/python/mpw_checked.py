@@ -23,13 +23,13 @@ def keys_of(lines):
     """The keys of a listing, which has to be whole."""
     found = re.fullmatch(r"OK ([0-9]{1,12})\n", next(lines, ""))
     if not found:
-        raise Unchecked("mpw check printed no listing")
+        raise Unchecked("mpw check printed no listing: run it by hand on a draft (--draft)")
     count = int(found.group(1))
     for line in lines:
         count -= 1
         yield str(Key.of(line.split(" ")[0]))
     if count != 0:
-        raise Unchecked("mpw check printed a part of a listing")
+        raise Unchecked("mpw check printed a part of a listing: run it by hand on a draft (--draft)")
 
 
 def tally(keys, waivers):
@@ -40,7 +40,7 @@ def tally(keys, waivers):
         unseen.discard(key)
         still_open += waivers.get(key, (None, None))[1] is None
     if unseen:
-        raise Unchecked(f"the run has a waiver of {min(unseen)}, and mpw check finds no such marker in the wafer")
+        raise Unchecked(f"the run has a waiver of {min(unseen)}, and mpw check finds no such marker in the wafer: --draft writes it, to compare")
     return markers, still_open
 
 
@@ -74,7 +74,7 @@ def check(program, deck, top, library, waivers):
         try:
             process = subprocess.Popen(words, stdin=subprocess.DEVNULL, stdout=subprocess.PIPE, stderr=errors)
         except OSError as error:
-            raise Unchecked(f"{program}: {error.strerror}") from None
+            raise Unchecked(f"{program}: {error.strerror}: mpw check can't be run: build it (./mpw build check)") from None
         with process:
             counted = counts_of(process, waivers)
         lines = lines_of(errors)

@@ -13,6 +13,8 @@ def read_file(path, read):
     """What a function reads of a file."""
     try:
         return read(path)
+    except UnicodeDecodeError as error:
+        raise FileFault(f"{path}: byte {error.start} is {error.object[error.start]:02X} hex: the file has to be ASCII") from None
     except (OSError, ValueError) as error:
         raise FileFault(f"{path}: {getattr(error, 'strerror', None) or error}") from None
 

@@ -41,7 +41,7 @@ class Structure(NamedTuple):
 
 
 class Library(NamedTuple):
-    """A library: its unit in nm, and its structures by name in their order."""
+    """A library: its unit in nm, and its structures, each under its name, in their order."""
 
     unit: int
     structures: dict

@@ -32,15 +32,15 @@ def markers_in(lines):
     lines = (line[:-1] if line.endswith("\n") else line for line in lines)
     found = re.fullmatch(r"OK (0|[1-9][0-9]{0,11})", next(lines, ""))
     if not found:
-        raise BadListing("line 1: no listing: it begins with OK and a number")
+        raise BadListing("line 1: no listing: give all that mpw check printed, from its first line, OK and a number, on")
     count, number = int(found.group(1)), 1
     for number, line in enumerate(lines, 2):
         try:
             yield marker_of(line)
         except (BadWord, ValueError):
-            raise BadListing(f"line {number}: {shortened(line)}: no marker") from None
+            raise BadListing(f"line {number}: {shortened(line)}: no marker: give a listing as it was printed, without --summary") from None
     if number - 1 != count:
-        raise BadListing(f"the listing isn't whole: it has {number - 1} of {count} lines")
+        raise BadListing(f"the listing isn't whole: it has {number - 1} of {count} lines: run the check again")
 
 
 class Rule:

@@ -1,6 +1,6 @@
 """Writes what a session sees of shapes and markers as one page for a browser, by the template page.html.
 
-The template says what its data is: reply lines as they came, as JSON. Nothing is reckoned here, so another program can
+The template says what its data is: reply lines as they came, as JSON. Nothing is computed here, so another program can
 fill in the same template.
 """
 import json
@@ -14,14 +14,14 @@ DATA = "@DATA@"  # in the template, once
 
 
 def shapes_of(desk, cells, placements):
-    """The lines of `shapes` of each cell that is drawn: of those that are placed, where that is known, else of all."""
+    """The lines of `shapes` of each cell that is drawn: of those that are placed, if that is known, else of all."""
     placed = {words.split(" ")[0] for words in placements}
     drawn = [cell for cell in cells if not placed or cell in placed]
     return [[cell, desk.ask("shapes", cell)] for cell in drawn]
 
 
 def data_of(desk: Desk, placements: Iterable[str] = (), deck: str = "", made: str = "") -> dict:
-    """Asks a desk for what its session sees. A placement is the words behind `place`; the deck is its text."""
+    """Asks a desk for what its session sees. A placement is the words after `place`; the deck is its text."""
     status, placements = desk.status(), list(placements)
     is_finished = status.state is State.FINISHED
     cells = desk.ask("cells")
@@ -47,5 +47,5 @@ def json_text(data: dict) -> str:
 def page_of(data: dict) -> str:
     """The page of such data."""
     with open(TEMPLATE, encoding="utf-8") as file:
-        before, behind = file.read().split(DATA)
-    return before + json_text(data) + behind
+        before, after = file.read().split(DATA)
+    return before + json_text(data) + after

@@ -82,14 +82,14 @@ def edge_pair(key) -> str:
 
 
 def rules_of(deck: str) -> List[Tuple[str, str]]:
-    """The rules of a deck, each by its name and its line. Only the desk tells faults: a line without a name is passed
-    over here."""
+    """The rules of a deck, each by its name and its line. Only the desk finds faults: a line without a name is left
+    out here."""
     lines = [line for line in deck.split("\n")[1:] if len(line.split(" ")) > 1]
     return [(line.split(" ")[1], line) for line in lines]
 
 
 def categories_of(deck, markers):
-    """A category for each rule of the deck in order, then for each other one of which a marker is told, with its name
+    """A category for each rule of the deck in order, then for each other one that has a marker, with its name
     alone."""
     found = dict(rules_of(deck))
     for rule in [*(marker.key.rule for marker in markers.full), *(masked.rule for masked in markers.masked)]:

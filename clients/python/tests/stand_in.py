@@ -58,6 +58,7 @@ class StandIn:
         with self.lock:
             policy = self.desk.policy
             policy.session = session
+            policy.trim()  # what other connections changed
             return self.desk.ask(request, payload), policy.session
 
 

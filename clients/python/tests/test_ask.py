@@ -1,4 +1,4 @@
-"""mpw-ask: what it prints and tells, its exit status, the files that it sends and writes, and where a token may be."""
+"""mpw-ask: what it prints, its exit status, the files that it sends and writes, and where a token may be."""
 import os
 import pty
 import shutil
@@ -11,6 +11,7 @@ import xml.etree.ElementTree as ElementTree
 
 import layouts
 from asked import PROGRAM, ask, environment
+from mpw_desk import BadTokenFile, read_token
 from stand_in import OFFICER, TOKEN, StandIn, listening, saying
 
 HERE = os.path.dirname(os.path.abspath(__file__))
@@ -28,6 +29,7 @@ class WithFiles(unittest.TestCase):
         for name, data in ("pad.gds", layouts.pad()), ("rules.deck", deck), ("root.token", b"abc\n"):
             with open(self.file(name), "wb") as file:
                 file.write(data)
+        os.chmod(self.file("root.token"), 0o600)
 
     def file(self, name):
         return os.path.join(self.folder, name)
@@ -37,7 +39,9 @@ class WithFiles(unittest.TestCase):
             return file.read()
 
 
-class AtADesk(WithFiles):
+class WithDesk(WithFiles):
+    """A desk, whose officer asks."""
+
     def setUp(self):
         super().setUp()
         listener = listening(StandIn().serve)
@@ -52,6 +56,8 @@ class AtADesk(WithFiles):
         lines += [f"grant {operation} desk officer" for operation in ("deck", "run", "waive", "verdict", "audit")]
         self.assertEqual(self.ask(*lines), (0, "OK 0\n" * len(lines), ""))
 
+
+class AtADesk(WithDesk):
     def test_replies_as_they_came(self):
         self.assertEqual(self.ask("whoami", "cells"), (0, f"{WHOAMI}OK 0\n", ""))
 
@@ -106,6 +112,32 @@ class AtADesk(WithFiles):
         self.assertEqual((status, printed), (1, "DENIED login\nOK 0\nDENIED permission admin desk\n"))
         self.assertNotIn("secret", told)
         self.assertEqual(self.ask(*token, "--token-file", self.file("none"), "cells")[0], 4)
+
+    @unittest.skipUnless(os.name == "posix", "files have no such permissions here")
+    def test_token_files_of_others(self):
+        """A token file that others may use is refused, wherever it is named."""
+        path = self.file("root.token")
+        for mode in 0o640, 0o604, 0o620, 0o601:
+            os.chmod(path, mode)
+            fault = f"others may read this token file (its mode is {mode:04o}), so it isn't used: run chmod 600 {path}\n"
+            self.assertEqual(self.ask("--token-file", path, "cells", token=None), (4, "", f"mpw-ask: {path}: {fault}"))
+            for line in f"adduser bob @{path}", f"open root @{path}":
+                self.assertEqual(self.ask(line), (4, "", f"mpw-ask: {path}: {fault}"))
+            with self.assertRaisesRegex(BadTokenFile, "chmod 600"):
+                read_token(path)
+        for mode in 0o600, 0o400:
+            os.chmod(path, mode)
+            self.assertEqual(self.ask("--token-file", path, "cells", token=None), (0, "OK 0\n", ""))
+        words = f"{' '.join(PROGRAM)} {self.address} --user root --token-file <(echo abc) whoami"
+        ended = subprocess.run(["bash", "-c", words], stdout=subprocess.PIPE, stderr=subprocess.PIPE, env=environment())
+        self.assertEqual((ended.returncode, ended.stderr), (0, b""))
+
+    @unittest.skipUnless(os.name == "posix" and os.geteuid() == 0, "only root may give a file away")
+    def test_token_files_of_another_owner(self):
+        """As for ssh, its owner decides who may read it."""
+        os.chmod(self.file("root.token"), 0o644)
+        os.chown(self.file("root.token"), 65534, -1)
+        self.assertEqual(read_token(self.file("root.token")), "abc")
 
     def test_report(self):
         self.grant_all()

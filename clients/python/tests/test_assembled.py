@@ -19,7 +19,7 @@ from test_serve import BUILT, DIGEST, LIMIT, MPW
 from stand_in import TOP
 
 CHECK = BUILT[1]
-WAFERS = 50
+WAFERS = int(os.environ.get("MPW_WAFERS", "12"))
 AS_OFFICER = b"close\nopen root abc\nactivate officer\nmarkers\n"
 KLAYOUT = """
 layout = RBA::Layout.new
@@ -106,7 +106,6 @@ class Stores(WithShuttle):
         return keys(recorder.desk.wafer.run)
 
 
-@unittest.skipUnless(os.environ.get("MPW_TRY_ALL"), "it takes minutes: MPW_TRY_ALL=1 runs it")
 @unittest.skipUnless(os.access(MPW, os.X_OK) and os.access(CHECK, os.X_OK), f"{MPW} or {CHECK} isn't built")
 class Wafers(WithShuttle):
     """The desk and `mpw check` are the programs: a check of what is written lists just the desk's markers."""

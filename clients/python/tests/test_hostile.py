@@ -1,7 +1,9 @@
 """The proved program where it is refused what it needs: readers that go, devices that are full or closed, and memory. `bench/memory.py` and `bench/hostile.py` try the
 same at every place; here stands what takes a second. The program is MPW_PROGRAM, else the one that the gate built."""
+import multiprocessing
 import os
 import re
+import shutil
 import subprocess
 import sys
 import tempfile
@@ -51,6 +53,21 @@ class Memory(unittest.TestCase):
         for size in (8, 16, 24, 32, 64, 128):
             with self.subTest(megabytes=size):
                 self.assertNotIn("DIFFERS", memory.try_limit(("large", size << 20)))
+
+
+@unittest.skipUnless(os.access(os.path.join(memory.CRATES, "gate_desk", "out", "gate_desk"), os.X_OK), "gate_desk isn't built")
+@unittest.skipUnless(shutil.which("cc"), "no C compiler makes the library that refuses memory")
+class Refusals(unittest.TestCase):
+    def test_each_allocation_of_worked_runs(self):
+        """Whichever allocation is refused, the desk stays as it was, and answers as written when it is asked once more."""
+        with memory.library_of_refusals() as shim, multiprocessing.Pool(len(os.sched_getaffinity(0))) as pool:
+            for text, wanted in memory.refused_runs():
+                total = memory.allocations_of(shim, text)
+                if total == 0:
+                    self.skipTest("an unproved program has an allocator of its own")
+                found = pool.map(memory.try_refused, [(shim, text, wanted, first) for first in range(1, total + 1)], 8)
+                self.assertEqual([it for it in found if it.startswith("DIFFERS")], [], text.decode())
+                self.assertGreater(found.count("as ever"), total // 2)
 
 
 class Secrets(unittest.TestCase):

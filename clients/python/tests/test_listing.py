@@ -107,7 +107,6 @@ class Listing(WithFiles):
         self.assertEqual(self.report("--json", "none/a", "listing.txt")[0], 4)
         self.assertEqual(self.read("listing.txt"), LISTING)
 
-    @unittest.skipUnless(os.environ.get("MPW_TRY_ALL"), "MPW_TRY_ALL=1 runs it")
     @unittest.skipUnless(os.access(BUILT[1], os.X_OK), f"{BUILT[1]} isn't built")
     def test_of_the_program(self):
         """What mpw check prints of the examples."""

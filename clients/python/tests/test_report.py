@@ -9,8 +9,8 @@ import unittest
 import xml.etree.ElementTree as ElementTree
 from unittest import mock
 
-from asked import ask_module
 from mpw_desk import Axis, Key, Marker, Markers, Masked, Waiver
+from mpw_files import FileFault, write_whole
 from mpw_report import report_of, rules_of
 from stand_in import TOP
 
@@ -74,37 +74,36 @@ class Whole(unittest.TestCase):
         self.folder = tempfile.mkdtemp()
         self.addCleanup(shutil.rmtree, self.folder)
         self.path = os.path.join(self.folder, "out.lyrdb")
-        self.ask = ask_module()
 
     def content(self):
         with open(self.path, encoding="ascii") as file:
             return file.read(), os.listdir(self.folder)
 
     def test_written(self):
-        self.ask.write_whole(self.path, "old\n")
+        write_whole(self.path, "old\n")
         os.chmod(self.path, 0o640)
-        self.ask.write_whole(self.path, "new\n")
+        write_whole(self.path, "new\n")
         self.assertEqual(self.content(), ("new\n", ["out.lyrdb"]))
         self.assertEqual(stat.S_IMODE(os.stat(self.path).st_mode), 0o640)
 
     def test_kept(self):
-        self.ask.write_whole(self.path, "old\n")
+        write_whole(self.path, "old\n")
         for broken in "os.replace", "os.fsync":
             with mock.patch(broken, side_effect=OSError(28, "No space left on device")):
-                self.assertRaises(self.ask.FileFault, self.ask.write_whole, self.path, "new\n")
+                self.assertRaises(FileFault, write_whole, self.path, "new\n")
             self.assertEqual(self.content(), ("old\n", ["out.lyrdb"]))
 
     def test_through_a_link(self):
         link = os.path.join(self.folder, "link")
         os.symlink(self.path, link)
-        self.ask.write_whole(link, "new\n")
+        write_whole(link, "new\n")
         self.assertTrue(os.path.islink(link))
         self.assertEqual(self.content()[0], "new\n")
 
     def test_no_file(self):
-        self.assertRaises(self.ask.FileFault, self.ask.write_whole, self.folder, "new\n")
-        self.assertRaises(self.ask.FileFault, self.ask.write_whole, os.path.join(self.folder, "none", "out"), "new\n")
-        self.assertRaises(self.ask.FileFault, self.ask.write_whole, "/dev/null", "new\n")
+        self.assertRaises(FileFault, write_whole, self.folder, "new\n")
+        self.assertRaises(FileFault, write_whole, os.path.join(self.folder, "none", "out"), "new\n")
+        self.assertRaises(FileFault, write_whole, "/dev/null", "new\n")
 
 
 if __name__ == "__main__":

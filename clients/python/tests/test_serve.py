@@ -142,6 +142,45 @@ class Sessions(Served):
             # Twelve requests, the connection's end, and the worker's calls for a job: where it starts before the end, and as it is stopped.
             self.assert_calls(served.end(), 14, 15)
 
+    def test_history_of_the_first_session(self):
+        """The requests of the first session, in order and each as it was answered, and behind them those of who asks for the trail."""
+        first = [
+            "1,root,open,root,OK 0", "2,root,activate,officer,OK 0", "3,root,adduser,ann,OK 0", "4,root,addrole,alpha,OK 0",
+            "5,root,assign,ann,OK 0", "6,root,grant,pad,OK 0", "7,root,open,ann,REFUSED 30 opened", "8,root,close,-,OK 0",
+            "9,ann,open,ann,OK 0", "10,ann,whoami,-,OK 2", "11,ann,activate,alpha,OK 0", "12,ann,whoami,-,OK 3"]
+        asking = ["13,root,open,root,OK 0", "14,root,activate,officer,OK 0", "15,root,grant,desk,OK 0"]
+        with open(os.path.join(TOP, "examples", "first-session.txt"), "rb") as file:
+            lines = file.read()
+        with service(2) as served:
+            with served.connect() as end:
+                end.sendall(lines)
+                end.shutdown(socket.SHUT_WR)
+                read_all(end)
+            with served.desk() as desk:
+                desk.grant("audit", "desk", "officer")
+                self.assertEqual(desk.tell("trail").text, "".join(f"{line}\n" for line in ["OK 15", *first, *asking]))
+            # Sixteen requests, the ends of both connections, and the worker's calls for a job.
+            self.assert_calls(served.end(), 19, 20)
+
+    def test_run_over_three_tiles(self):
+        """From a new desk to the marker of a run over three tiles, on the one connection and with the one worker."""
+        with service(1) as served:
+            desk = served.desk()
+            for cell in ("chip", "left", "right", "via"):
+                for operation in ("submit", "use", "read", "place"):
+                    desk.grant(operation, cell, "officer")
+            for operation in ("deck", "run"):
+                desk.grant(operation, "desk", "officer")
+            data = library(structure("TOP", box(1, 0, 0, 512, 100), box(2, 500, 40, 512, 60)))
+            self.assertEqual(desk.tell("submit chip TOP", data).text, "OK 1\nversion 1\n")
+            self.assertEqual(desk.tell("deck", b"tile 256\nenclosing en 1/0 2/0 5").text, "OK 0\n")
+            self.assertEqual(desk.tell("place chip c1 R0 0 0").text, "OK 1\nversion 1\n")
+            self.assertEqual(desk.tell("run").text, "OK 1\nrun 1\n")
+            self.assertTrue(any(desk.tell("status").text == "OK 1\nfinished 1\n" or time.sleep(0.01) for _ in range(3000)))
+            self.assertEqual(desk.tell("markers").text, "OK 1\nen:V:1:512:512:40:60 chip\n")
+            desk.hang_up()
+            self.assertEqual(served.end()[::2], (0, ""))
+
     def test_run(self):
         with service(2, 2) as served:
             desk = served.desk()

@@ -3,6 +3,7 @@ no more closes the desk. The program is MPW_PROGRAM, else the one that the gate 
 import os
 import resource
 import signal
+import socket
 import sqlite3
 import subprocess
 import tempfile
@@ -132,6 +133,24 @@ class Kept(unittest.TestCase):
             self.assertEqual((len(old), rows[before:before + len(old)]), (len(asking), [(number, GONE, "") for number in sorted(old)]))
             self.assertTrue(all(number > max(old) for number, *_ in rows[before + len(old):]))
 
+    def test_first_session(self):
+        """What the first session changes, in order, and the end of its connection."""
+        with open(os.path.join(serving.TOP, "examples", "first-session.txt"), "rb") as file:
+            lines = file.read()
+        with folder() as at:
+            with service(at("desk.db"), 1) as served:
+                with served.connect() as end:
+                    end.sendall(lines)
+                    end.shutdown(socket.SHUT_WR)
+                    serving.read_all(end)
+                self.assertEqual(served.end()[0], 0)
+            changes = [
+                f"open root {DIGEST}", "activate officer", f"adduser ann {DIGEST}", "addrole alpha", "assign ann alpha", "grant read pad alpha",
+                "close", f"open ann {DIGEST}", "activate alpha"]
+            rows = rows_of(at("desk.db"))
+            self.assertEqual([row[1:] for row in rows], [*((REQUEST, line) for line in changes), (GONE, "")])
+            self.assertEqual(len({row[0] for row in rows}), 1)
+
     def test_finished_run(self):
         """A service that ended goes on with the run's markers and their waivers, on a file without its log."""
         with folder() as at:
@@ -186,17 +205,17 @@ class Kept(unittest.TestCase):
             self.assertEqual([row[2] for row in rows_of(at("desk.db"))][2], "addrole alpha")
 
     def test_what_is_no_store(self):
-        """It is told before anything is bound or printed, and stays as it is."""
+        """It is told before anything is bound or printed, and stays as it is. No interface has the address, which is kept for documentation."""
         with folder() as at:
             with closing(sqlite3.connect(at("other.db"))) as other:
                 other.execute("create table notes(text)")
             with open(at("other.db"), "rb") as file:
                 before = file.read()
-            status, printed, told = ended(serving.words(1, 1, "--store", at("other.db"), listen="no address"))
+            status, printed, told = ended(serving.words(1, 1, "--store", at("other.db"), listen="192.0.2.1:7001"))
             self.assertEqual((status, printed, "another database" in told), (3, "", True), told)
             with open(at("other.db"), "rb") as file:
                 self.assertEqual(file.read(), before)
-            status, printed, told = ended(serving.words(1, 1, "--store", at("new.db"), listen="no address"))
+            status, printed, told = ended(serving.words(1, 1, "--store", at("new.db"), listen="192.0.2.1:7001"))
             self.assertEqual((status, printed, told), (3, "", "error: the address can't be bound\n"))
             self.assertEqual(rows_of(at("new.db")), [])
 
