@@ -4,11 +4,13 @@
   scripts/cited.py
 
 In each page a link must lead to a file, and its anchor to a heading of that file. In the pages of NEWCOMERS, which are written in plain
-English, a page of more than 4096 bytes must begin with links to its sections, and no word of BANNED may be used.
+English, a page of more than 4096 bytes must begin with links to its sections, no word of BANNED may be used, an option must be one that
+docs/commands.md lists for its program and a command must be one that a test runs (scripts/commands_cited.py).
 
 In README.md, docs/, examples/README.md and bench/README.md it looks at what is between backquotes:
 - a path from the top of the tree, as `docs/PROVED.md`, or from crates/, as `mpw_hier/specs/Values.antt`;
 - `specs/NAME.antt` of `mpw_crate`, and so `src/` and `proofs/`;
+- `name` of `mpw_crate`, of a function, a type or a clause, that must stand in a source of that crate;
 - behind `crates/mpw_crate/specs` in a row's first column, `NAME.antt` in the others;
 - in a column headed Definition(s), `crate/NAME` for crates/mpw_crate/specs/NAME.antt, with the names of definitions
   after it, or `mpw_crate/specs/NAME.antt`, with the names before it; that file must declare each of them that isn't a crate
@@ -20,9 +22,12 @@ import os
 import re
 import sys
 
+import commands_cited
+
 TOP = os.path.dirname(os.path.dirname(os.path.abspath(__file__)))
 QUOTED = re.compile(r"`([^`]+)`")
 PATH = re.compile(r"(?:[\w.-]+/)+[\w.-]+\.(?:rt|antt|md|py|txt|edit|deck|gds)$")
+NAMES_OF_CRATE = re.compile(r"((?:`[A-Za-z][\w:]*`(?:, | and )?)+) (?:of|in) `(mpw_\w+|gate_\w+)`")
 OF_CRATE = re.compile(r"`((?:specs|src|proofs)/[\w/.-]+)`(?:,| and)? (?:of|in) `(mpw_\w+|gate_\w+)`")
 FOLDER = re.compile(r"\| `(crates/\w+/specs)` \|")
 FILE = re.compile(r"[\w/]+\.antt$")
@@ -32,7 +37,9 @@ NAME = re.compile(r"[A-Za-z]\w*$")
 
 # Pages in plain English. Add a page here when it is rewritten.
 NEWCOMERS = (
-    "README.md", "docs/limits.md", "docs/not-proved.md", "docs/proved-in-short.md", "docs/tutorial-firm.md", "docs/tutorial-shuttle.md",
+    "CHANGELOG.md", "README.md", "docs/checking.md", "docs/ci.md", "docs/codes.md", "docs/commands.md", "docs/deck.md", "docs/faq.md", "docs/install.md", "docs/klayout.md",
+    "docs/limits.md", "docs/not-proved.md", "docs/operating.md", "docs/proved-in-short.md", "docs/requests.md", "docs/troubleshooting.md",
+    "docs/tutorial-firm.md", "docs/tutorial-shuttle.md",
 )
 # Pages whose links alone are checked.
 LINKED = ("clients/python/README.md", "model/README.md")
@@ -68,7 +75,7 @@ FORBIDDEN = [(re.compile(rf"\b(?:{words})\b", re.I), instead) for words, instead
 
 def pages():
     """The documents, by their paths from the top."""
-    found = ["README.md", "examples/README.md", "bench/README.md"]
+    found = ["README.md", "CHANGELOG.md", "examples/README.md", "bench/README.md"]
     found += glob.glob("docs/**/*.md", root_dir=TOP, recursive=True)
     return sorted(found)
 
@@ -124,11 +131,31 @@ def missing_in_cell(cell):
     return [fault for part in cell.split(";") for fault in missing_in_part(QUOTED.findall(part))]
 
 
+@functools.cache
+def words_of(crate):
+    """The words of a crate's sources, definitions and proofs."""
+    paths = [path for kind in ("rt", "antt") for path in glob.glob(f"{TOP}/crates/{crate}/*/**/*.{kind}", recursive=True)]
+    found = set()
+    for path in paths:
+        with open(path, encoding="utf-8") as file:
+            found.update(re.findall(r"\w+", file.read()))
+    return found
+
+
+def missing_names(line):
+    """The names of a crate that its sources don't have."""
+    for listed, crate in NAMES_OF_CRATE.findall(line):
+        for name in QUOTED.findall(listed):
+            if not words_of(crate).issuperset(name.split("::")):
+                yield f"{crate} has no {name}"
+
+
 def missing_in_line(line):
     """What a line names by its path that isn't there."""
     for path, crate in OF_CRATE.findall(line):
         if not os.path.exists(f"{TOP}/crates/{crate}/{path}"):
             yield f"no {path} in {crate}"
+    yield from missing_names(line)
     folder = FOLDER.match(line)
     for quoted in QUOTED.findall(line):
         if folder and FILE.match(quoted):
@@ -218,6 +245,14 @@ def banned_words(text):
             yield from ((number, f"'{found[0]}': write {instead}") for found in pattern.finditer(line))
 
 
+def missing_version(text):
+    """What CHANGELOG.md lacks: a section of the version in VERSION."""
+    with open(f"{TOP}/VERSION", encoding="utf-8") as file:
+        version = file.read().strip()
+    if f"## {version}" not in text.splitlines():
+        yield 1, f"no section of version {version}"
+
+
 def faults_of(page):
     """The faults of a page, each with its line."""
     with open(f"{TOP}/{page}", encoding="utf-8") as file:
@@ -225,9 +260,12 @@ def faults_of(page):
     yield from broken_links(page, text)
     if page not in LINKED:
         yield from missing_in_page(text)
+    if page == "CHANGELOG.md":
+        yield from missing_version(text)
     if page in NEWCOMERS:
         yield from missing_contents(text)
         yield from banned_words(text)
+        yield from commands_cited.faults_of(page, text)
 
 
 def main():

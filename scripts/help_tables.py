@@ -1,17 +1,23 @@
 #!/usr/bin/env python3
-"""Makes docs/specification/help.md from the table of `mpw help` (crates/mpw_help/src), and what its golden test has to print.
+"""Makes the tables of docs/requests.md, docs/codes.md and docs/commands.md, and what the golden test of `mpw help` has to print.
 
-  scripts/help_tables.py            writes both
-  scripts/help_tables.py --check    tells what differs, and which request, denial or code of the sources the table lacks
+  scripts/help_tables.py            writes them
+  scripts/help_tables.py --check    prints what differs, and which request, denial or code of the sources the table lacks
+
+Requests, denials, codes and exit statuses come from the table of `mpw help` (crates/mpw_help/src), and options from the programs'
+sources (scripts/option_tables.py). On a page a table is between `<!-- made: NAME -->` and `<!-- end -->`. What is around it is written by hand.
 """
 import os
 import re
 import sys
 
 import golden
+import option_tables
+from plain_words import plain
 
 TOP = os.path.dirname(os.path.dirname(os.path.abspath(__file__)))
-PAGE = "docs/specification/help.md"
+PAGES = ("docs/requests.md", "docs/codes.md", "docs/commands.md")
+MADE = re.compile(r"<!-- made: ([^\n]+) -->\n(.*?)<!-- end -->\n", re.DOTALL)
 # The golden test of the help is a table of this program's.
 RUN, TABLE = "gate_texts", "help"
 # how a kind of entry stands in a table: its columns, and the fields behind the meaning
@@ -21,19 +27,17 @@ KINDS = {
     "Denial": (("Denial", "When", "What to do"), ("remedy",)),
     "Refusal": (("Code", "When", "What to do"), ("remedy",)),
 }
-HEAD = """# What requests, denials and codes mean
 
-The words of `mpw help CODE-OR-REQUEST`. `scripts/help_tables.py` makes this page from the table that the command prints
-(`crates/mpw_help/src`), and its `--check` tells whether both are the same, and whether a request, a denial or a code is
-missing: change the table, and not this page. The tests of a request are made in their order, and the first that fails
-answers; what comes before them is in `desk.md`, and the words of the forms are in `requests.md`.
-"""
+
+def whole(path):
+    """What a file has."""
+    with open(f"{TOP}/{path}", encoding="utf-8") as file:
+        return file.read()
 
 
 def read(path):
-    """What a file has; texts that go on behind a backslash in the next line are joined."""
-    with open(f"{TOP}/{path}", encoding="utf-8") as file:
-        return re.sub(r"\\\n\s*", "", file.read())
+    """What a file has; texts that go on after a backslash in the next line are joined."""
+    return re.sub(r"\\\n\s*", "", whole(path))
 
 
 def entries_of(module, name):
@@ -58,6 +62,43 @@ def table_of(title, entries):
         cells = [f"`{entry['form']}`", entry["meaning"], *(entry[column] for column in columns)]
         rows.append("| " + " | ".join(cells) + " |")
     return "\n".join(rows) + "\n"
+
+
+def rows_of(title, entries):
+    """A table of a page, in plain words."""
+    return "".join(f"{line}\n" for line in plain(table_of(title, entries)).split("\n")[3:-1])
+
+
+def statuses_of(entry):
+    """The exit statuses of a command as a table."""
+    found = re.findall(r"(\d+) (.*?)(?:; (?=\d)|$)", entry["statuses"])
+    return "| Status | What it means |\n|-|-|\n" + "".join(f"| {number} | {plain(text)} |\n" for number, text in found)
+
+
+def made_tables():
+    """The tables of the pages by their names."""
+    made = {title: rows_of(title, entries) for title, entries in tables()}
+    commands = dict(tables())["Commands"]
+    made |= {f"exit statuses of mpw {entry['word']}": statuses_of(entry) for entry in commands}
+    return made | option_tables.made_tables()
+
+
+def page_of(text, made, used):
+    """A page with its tables made anew; their names are added to those that are used."""
+    def table(found):
+        used.add(found[1])
+        return f"<!-- made: {found[1]} -->\n{made.get(found[1], '')}<!-- end -->\n"
+    return MADE.sub(table, text)
+
+
+def pages():
+    """The text of each page as it has to be, and what is wrong with the names of its tables."""
+    made, used, texts = made_tables(), set(), {}
+    for page in PAGES:
+        with open(f"{TOP}/{page}", encoding="utf-8") as file:
+            texts[page] = page_of(file.read(), made, used)
+    return texts, [f"the table '{name}' is on no page" for name in made if name not in used | {"Commands"}] + [
+        f"no table is named '{name}'" for name in used if name not in made]
 
 
 def body_of(path, enum):
@@ -182,13 +223,14 @@ def main(words):
         print(__doc__, file=sys.stderr)
         return 2
     made = "".join(table_of(*table) for table in tables())
-    texts = {PAGE: HEAD + made, f"crates/{RUN}/stdout": golden.with_table(RUN, "stdout", TABLE, made)}
+    texts, wrong = pages()
+    texts |= {f"crates/{RUN}/stdout": golden.with_table(RUN, "stdout", TABLE, made)}
     if not words:
         for path, text in texts.items():
             with open(f"{TOP}/{path}", "w", encoding="utf-8") as file:
                 file.write(text)
-    wrong = [f"{path} isn't what the table makes" for path, text in texts.items() if read(path) != text]
-    wrong += [f"not in both: {what}" for what in lacking()]
+    wrong += [f"{path} isn't what the tables make" for path, text in texts.items() if whole(path) != text]
+    wrong += [f"not in both: {what}" for what in lacking()] + option_tables.unlisted()
     for line in wrong:
         print(f"help: {line}")
     print("help: docs, run and sources are as the table says" if not wrong else f"help: {len(wrong)} differ")

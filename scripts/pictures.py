@@ -4,8 +4,8 @@
   scripts/pictures.py [NAME ..]
 
 It runs the commands of the tutorials (examples/pages.py), opens the marker pages that they write in a headless Chromium, and writes what it
-shows as PNG. Two pictures show the report of a tutorial in KLayout. It needs the built programs, a Chromium and for these two KLayout
-(apt-get install -y --no-install-recommends chromium klayout). A picture must have less than 150 KB.
+shows as PNG. Two pictures show the report of a tutorial in KLayout, and one a check by the package for KLayout. It needs the built programs, a
+Chromium and for these three KLayout and Xvfb (apt-get install -y --no-install-recommends chromium klayout xvfb). A picture must have less than 150 KB.
 """
 import os
 import shutil
@@ -36,6 +36,7 @@ PICTURES = {
     "signed.png": (SHUTTLE, "signed.html", ""),
     "waiver.png": (SHUTTLE, "signed.html", "m1.space:V:0:24800:24910:1300:2200"),
 }
+CHECKED = "klayout-check.png"  # by the package for KLayout
 
 
 def draw(source, target, key):
@@ -56,27 +57,42 @@ def draw_in_klayout(source, target, which):
         shutil.copy(words[which], target)
 
 
+def draw_check(target):
+    """Writes what KLayout shows of an example that the package for KLayout checks."""
+    words = [f"{TOP}/integrations/test", "test_klayout.Windows.test_picture"]
+    subprocess.run(words, env={**os.environ, "MPW_PICTURE": target}, timeout=300, check=True)
+
+
 def make(folder, name):
     """Makes a picture of the files in this folder. Returns a fault, or nothing."""
     _, source, key = PICTURES[name]
     target = f"{IMAGES}/{name}"
     (draw_in_klayout if source.endswith(".lyrdb") else draw)(f"{folder}/shuttle/{source}", target, key)
-    size = os.path.getsize(target)
+    return weighed(name)
+
+
+def weighed(name):
+    """Prints how large a picture is. Returns a fault if it is too large."""
+    size = os.path.getsize(f"{IMAGES}/{name}")
     print(f"{name}: {size} bytes", flush=True)
     return f"{name} has {size} bytes, and may have {LARGEST}" if size >= LARGEST else None
 
 
 def main(names):
-    names = names or list(PICTURES)
-    if any(name not in PICTURES for name in names) or browser.installed() is None:
+    names = names or [*PICTURES, CHECKED]
+    known = [name for name in names if name in PICTURES]
+    if len(known) + names.count(CHECKED) != len(names) or known and browser.installed() is None:
         print(__doc__, file=sys.stderr)
         return 2
     os.makedirs(IMAGES, exist_ok=True)
     faults = []
-    for page in dict.fromkeys(PICTURES[name][0] for name in names):
+    if CHECKED in names:
+        draw_check(f"{IMAGES}/{CHECKED}")
+        faults.append(weighed(CHECKED))
+    for page in dict.fromkeys(PICTURES[name][0] for name in known):
         with tempfile.TemporaryDirectory(prefix="mpw-pictures-") as folder:
             pages.run_page(page, folder)
-            faults += [make(folder, name) for name in names if PICTURES[name][0] == page]
+            faults += [make(folder, name) for name in known if PICTURES[name][0] == page]
     for fault in filter(None, faults):
         print(fault, file=sys.stderr)
     return 1 if any(faults) else 0
