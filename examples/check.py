@@ -4,10 +4,11 @@
   examples/check.py            NAME.gds under NAME.deck by mpw check, for each NAME.markers and for each
                                NAME.fault, which is told on the standard error; what failed.awk
                                tells of NAME.txt with NAME.replies, for each NAME.failed; and what
-                               becomes of a check's outputs (outputs.py), and of what it is given
-                               beside its files (choices.py)
+                               becomes of a check's outputs (outputs.py), of what it is given
+                               beside its files (choices.py), and the rules' pictures (rules.py)
   examples/check.py --desk     then also NAME.txt by mpw script, for each NAME.replies, and what
                                the commands tell of themselves (words.py) and keep in a store (stores.py),
+                               and what the commands of the README and the tutorials print (pages.py)
 
 The exit status is 0 where all are the same, else 1. A program that isn't built is proved and built
 first.
@@ -20,6 +21,8 @@ import sys
 
 import choices
 import outputs
+import pages
+import rules
 import stores
 import words as told_words
 
@@ -90,7 +93,8 @@ def main(words):
     for kind, run in kinds:
         for path in sorted(glob.glob(os.path.join(HERE, f"*.{kind}"))):
             told.append(is_same(path, run))
-    cases = {**outputs.CASES, **choices.CASES, **({**told_words.CASES, **stores.CASES} if words else {})}
+    of_desk = {**told_words.CASES, **stores.CASES, **pages.CASES} if words else {}
+    cases = {**outputs.CASES, **choices.CASES, **rules.CASES, **of_desk}
     told += [is_as_expected(name, case) for name, case in cases.items()]
     return 0 if told and all(told) else 1
 

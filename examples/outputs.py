@@ -274,10 +274,9 @@ def is_great():
 
 
 def makefile():
-    """That of docs/CHECKING.md."""
-    with open(os.path.join(os.path.dirname(HERE), "docs", "CHECKING.md"), encoding="utf-8") as page:
-        lines = page.read().split("### With make\n", 1)[1].split("\n`make", 1)[0].splitlines()
-    return "\n".join(line.removeprefix("    ") for line in lines) + "\n"
+    """That of docs/checking.md."""
+    with open(os.path.join(os.path.dirname(HERE), "docs", "checking.md"), encoding="utf-8") as page:
+        return page.read().split("```make\n", 1)[1].split("```", 1)[0]
 
 
 def leaves_nothing():

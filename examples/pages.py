@@ -5,7 +5,7 @@
   examples/pages.py --check [PAGE ..]         compares, and prints what differs
   examples/pages.py --in FOLDER PAGE          the same as --check in this new folder, whose files stay
 
-Without a PAGE it takes README.md and the tutorials. A command is a line `$ ..` of a fenced block whose language is console. A backslash at
+Without a PAGE it takes those of PAGES. A command is a line `$ ..` of a fenced block whose language is console. A backslash at
 its end joins the next line to it. The lines below it, up to the next command, are its output and its errors.
 
 Each page has a bash and a new folder of its own, with links to mpw, clients and examples. After a command that ends with `&` the script
@@ -25,7 +25,9 @@ import time
 
 HERE = os.path.dirname(os.path.abspath(__file__))
 TOP = os.path.dirname(HERE)
-PAGES = ("README.md", "docs/tutorial-firm.md", "docs/tutorial-shuttle.md")
+PAGES = (
+    "README.md", "docs/checking.md", "docs/ci.md", "docs/install.md", "docs/klayout.md", "docs/operating.md", "docs/tutorial-firm.md", "docs/tutorial-shuttle.md",
+)
 LINKS = ("mpw", "clients", "examples")
 ADDRESS = "127.0.0.1:7001"
 MEASURED = re.compile(r"\d+(?:\.\d+)?(?= (?:ms|s|MB)\b)")

@@ -163,6 +163,47 @@ def bad_rows():
         return found + differing("another officer", folder.run(*another, "desk.db")[0], 3)
 
 
+def audited():
+    """What is reported of a row with a payload, which is no change; and of rows without one."""
+    with Folder() as folder:
+        folder.run(*SCRIPT, "desk.db", lines=ASKED)
+        found = differing("a sound store", folder.run("store", "check", "desk.db"), (0, ["rows 10"], []))
+        with sqlite3.connect(folder.file("desk.db")) as store:
+            store.execute("insert into changes values (11, 2, 1, 'frob', x'616263')")
+        store.close()
+        found += differing("its rows", folder.run("trail", "desk.db"), (0, [*ROWS, GONE, "11,2,request,frob"], []))
+        found += differing("a payload", folder.run("trail", "desk.db", "--payload", "11"), (0, ["abc"], []))
+        for place in "10", "12":
+            told = [f"error: no row {place} has a payload"]
+            found += differing(f"no payload, {place}", folder.run("trail", "--payload", place, "desk.db"), (3, [], told))
+        told = ["error: the store isn't sound: row 11 is no change that the desk accepts there"]
+        found += differing("a row that is none", folder.run("store", "check", "desk.db"), (4, [], told))
+        for place in "0", "2097153", "011", "-1":
+            told = ["error: --payload takes the number of a row, from 1 to 2097152"]
+            ended = folder.run("trail", f"--payload={place}", "desk.db")
+            found += differing(f"no place, {place}", ended, (2, [], told))
+        return found + differing("another task", folder.run("store", "mend", "desk.db")[:2], (2, []))
+
+
+def without_a_table():
+    """A file in which nothing was stored yet has no table; one that is no store isn't sound."""
+    with Folder() as folder:
+        open(folder.file("new.db"), "wb").close()
+        found = differing("its listing", folder.run("trail", "new.db"), (0, ["place,connection,kind,line"], []))
+        found += differing("its soundness", folder.run("store", "check", "new.db"), (0, ["rows 0"], []))
+        told = ["error: no row 1 has a payload"]
+        found += differing("its payloads", folder.run("trail", "--payload", "1", "new.db"), (3, [], told))
+        with sqlite3.connect(folder.file("other.db")) as other:
+            other.execute("create table notes(text)")
+        other.close()
+        told = ["error: the store isn't sound: it is another database"]
+        found += differing("another database", folder.run("store", "check", "other.db"), (4, [], told))
+        found += differing("its rows", folder.run("trail", "other.db"), (3, [], ["error: the store: it is another database"]))
+        told = ["error: the store: there is no file of that name"]
+        found += differing("no file", folder.run("store", "check", "none.db"), (3, [], told))
+        return found + differing("its rows", folder.run("trail", "none.db"), (3, [], told))
+
+
 CASES = {
     "a desk over a store": kept,
     "a desk over a store that is killed": killed,
@@ -170,4 +211,6 @@ CASES = {
     "files that are no store": other_files,
     "a store with two names": two_names,
     "a store with a bad row": bad_rows,
+    "a store that is audited": audited,
+    "a store without a table": without_a_table,
 }

@@ -1,11 +1,12 @@
-"""What the commands say of themselves: mpw help finds a reply by the whole line, by its number and by its word, it lists no word twice,
-and help goes to the standard output. A command line that is wrong and an output that takes nothing have their exit statuses.
+"""What the commands say of themselves: mpw help finds a reply by the whole line, by its number and by its word, and it lists no word
+twice. Help goes to the standard output, but that of `mpw script` and `mpw serve` to the standard error, with the status of a wrong
+command line. A command line that is wrong and an output that takes nothing have their exit statuses.
 """
 import os
 import subprocess
 
 MPW = os.path.join(os.path.dirname(os.path.dirname(os.path.abspath(__file__))), "mpw")
-COMMANDS = ["mpw script", "mpw serve", "mpw check", "mpw stitch", "mpw trail", "mpw store", "mpw help", "mpw build"]
+COMMANDS = ["mpw script", "mpw serve", "mpw check", "mpw stitch", "mpw trail", "mpw store", "mpw help", "mpw build", "mpw install"]
 # Of the officer's token abc.
 DIGEST = "ba7816bf8f01cfea414140de5dae2223b00361a396177a9cb410ff61f20015ad"
 
@@ -36,10 +37,11 @@ def is_helped(*words, wanted):
     return [f"status {status}, lacking {lacking}, told {told!r}"] if status or lacking or told else []
 
 
-def is_refused(*words):
+def is_refused(*words, wanted=()):
     """A fault of the command line: status 2, a sentence, and no reply."""
     status, printed, fault = run(*words)
-    return [] if (status, printed) == (2, "") and fault else [f"status {status}, printed {printed!r}, {fault!r}"]
+    lacking = [text for text in wanted if text not in fault]
+    return [f"status {status}, printed {printed!r}, {fault!r}"] if (status, printed) != (2, "") or not fault or lacking else []
 
 
 def ends_on_a_full_device():
@@ -58,6 +60,7 @@ CASES = {
     "help of a line of the desk": is_found,
     "the words of help": is_listed_once,
     "help of all commands": lambda: is_helped("--help", wanted=COMMANDS),
-    "help of script": lambda: is_helped("script", "--help", wanted=["--officer", "--digest"]),
+    "help of script": lambda: is_refused("script", "--help", wanted=["--officer", "--digest"]),
+    "help of script by one letter": lambda: is_refused("script", "-h", wanted=["--officer", "--digest"]),
     "help of check": lambda: is_helped("check", "--help", wanted=["--deck", "--top", "--strict"]),
 }
