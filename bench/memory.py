@@ -8,6 +8,8 @@
   memory.py check [--jobs J] [--step S]                 each allocation of `mpw check` of examples/, alone and with all that come after it
   memory.py stored [--jobs J] [--step S]                each allocation of stored runs: answers to a run that come late, twice and by others (gate_desk/desk), and a store in
                                                         memory that is reopened (gate_store/store); such a program ends where memory is wanting
+  memory.py refused [--jobs J] [--step S]               each allocation of the golden test gate_desk/refused, whose desk is asked once more then; the gate does it, by
+                                                        clients/python/tests/test_hostile.py
 
 Sessions: first, firms, sight, duties, late. Behind each stand lines by which every user looks at all that there is. A line that is told `17 memory` is left out
 of what the model's desk is asked, so all other replies have to be those of a desk that never had it. A run for whose work memory was wanting
@@ -542,8 +544,60 @@ def stored(pool, shim, _names, step):
     return wrong
 
 
+# A golden test whose desk is asked once more if memory is refused.
+
+
+def parts_of(kind):
+    """What the table `refused` has from each new desk to the next."""
+    parts = []
+    for line in golden.table("gate_desk", kind, "refused").splitlines(keepends=True):
+        if line.startswith(("begin", "new ")):
+            parts.append("== refused\n")
+        if parts and not line.startswith("#"):
+            parts[-1] += line
+    return [part.encode() for part in parts]
+
+
+def refused_runs():
+    """What the program is given of each part, and what it has to print."""
+    return list(zip(parts_of("stdin"), parts_of("stdout")))
+
+
+def refused_run(shim, text, first, report=None):
+    return subprocess.run([os.path.join(CRATES, "gate_desk", "out", "gate_desk")], input=text, capture_output=True, timeout=LIMIT,
+                          cwd=os.path.join(TOP, "crates", "gate_desk", "data"), env=environment(shim, first, 1, report))
+
+
+def allocations_of(shim, text):
+    with tempfile.NamedTemporaryFile() as report:
+        refused_run(shim, text, 0, report.name)
+        return int(report.read().split()[0])
+
+
+def try_refused(task):
+    """It printed all that it has to print; or there was no memory to read the table, and so no desk."""
+    shim, text, wanted, first = task
+    ended = refused_run(shim, text, first)
+    if ended.returncode == 0 and ended.stdout == wanted:
+        return "as ever"
+    if ended.returncode == 1 and ended.stdout in (b"", b"== refused\n") and ended.stderr.startswith(b"Error: "):
+        return "no table, and an error"
+    lines, good = ended.stdout.splitlines(), wanted.splitlines()
+    same = next((place for place, pair in enumerate(zip(lines, good)) if pair[0] != pair[1]), min(len(lines), len(good)))
+    return f"DIFFERS: allocation {first}: status {ended.returncode}, line {same}: {lines[same:same + 1]} {good[same:same + 1]} {ended.stderr[-100:]!r}"
+
+
+def refused(pool, shim, _names, step):
+    wrong = 0
+    for number, (text, wanted) in enumerate(refused_runs(), 1):
+        total = allocations_of(shim, text)
+        tasks = [(shim, text, wanted, first) for first in range(1, total + 1, step)]
+        wrong += tell(f"part {number} of gate_desk/refused, {total} allocations, {len(tasks)} refused alone", pool.imap_unordered(try_refused, tasks, 8))
+    return wrong
+
+
 def main(words):
-    kinds = {"check": checks, "stored": stored, "each": each, "limit": limit, "store": over_stores, "serve": over_services}
+    kinds = {"check": checks, "stored": stored, "refused": refused, "each": each, "limit": limit, "store": over_stores, "serve": over_services}
     parser = argparse.ArgumentParser(description=__doc__, formatter_class=argparse.RawDescriptionHelpFormatter)
     parser.add_argument("kind", choices=kinds)
     parser.add_argument("sessions", nargs="*", choices=[*SESSIONS, []], metavar="SESSION")

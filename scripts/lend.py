@@ -4,7 +4,7 @@
   scripts/lend.py TARGET SOURCE..
 
 A library is lent where its crate's texts, and those of all crates below, are the same in both clones, and where a build wrote its sum
-beside it, or a log SOURCE.log of `rt ci` says that it was proved. It is lent by links, so it takes no room, or by copies from another
+beside it (`rt check` or `./mpw build`), or a log SOURCE.log of `rt ci` says that it was proved. It is lent by links, so it takes no room, or by copies from another
 disk. Lend from clones whose libraries were built over one another: the checker refuses one that was built over another build.
 """
 import importlib.machinery
@@ -43,6 +43,15 @@ def proved_in(source):
         return set()
 
 
+def built_in(source):
+    """The crates whose libraries `./mpw build` proved in a clone, by that clone's own scripts/build.py."""
+    loader = importlib.machinery.SourceFileLoader("build", f"{source}/scripts/build.py")
+    build = importlib.util.module_from_spec(importlib.util.spec_from_loader("build", loader))
+    loader.exec_module(build)
+    tools, names = build.Toolchain(), sorted(os.listdir(f"{source}/crates"))
+    return {it.name for it in build.crates_of(*names) if not it.is_program and it.is_kept(tools)}
+
+
 def lend(crate, other):
     """Links a library, or copies it from another disk, and writes its sum beside it."""
     source, to = f"{other.folder}/out/rlib", f"{crate.folder}/out/rlib"
@@ -50,8 +59,9 @@ def lend(crate, other):
     os.makedirs(os.path.dirname(to), exist_ok=True)
     alike = os.stat(source).st_dev == os.stat(os.path.dirname(to)).st_dev
     subprocess.run(["cp", "-al" if alike else "-a", source, to], check=True)
-    if os.path.exists(f"{to}/stamp"):
-        os.remove(f"{to}/stamp")
+    for name in ("stamp", "kept"):
+        if os.path.exists(f"{to}/{name}"):
+            os.remove(f"{to}/{name}")
     with open(f"{to}/stamp", "w", encoding="utf-8") as file:
         file.write(crate.stamp())
 
@@ -64,7 +74,7 @@ def main(words):
     target, *sources = (os.path.realpath(it) for it in words)
     mine = {it.name: it for it in rtlib.crates_below(target)}
     for source in sources:
-        theirs, proved = {it.name: it for it in rtlib.crates_below(source)}, proved_in(source)
+        theirs, proved = {it.name: it for it in rtlib.crates_below(source)}, proved_in(source) | built_in(source)
         for name, crate in mine.items():
             other = theirs.get(name)
             is_there = other and os.path.isdir(other.rlib) and (name in proved or other.is_built())

@@ -4,8 +4,8 @@
   scripts/quick.py
 
 It copies the tree to a folder of its own, compiles each program there without proof (scripts/unproved.py, optimised), runs each on its
-stdin, args and data, and compares what it prints and its exit status. Then it runs examples/check.py --desk, model/compare.py and
-clients/python/test in the copy. A line shows each step as it ends, with an estimate of the time left. The exit status is 0 if all
+stdin, args and data, and compares what it prints and its exit status. Then it runs examples/check.py --desk, model/compare.py,
+clients/python/test and integrations/test in the copy. A line shows each step as it ends, with an estimate of the time left. The exit status is 0 if all
 passed. The gate, ./test, proves the same programs before it runs them; only its verdict counts.
 """
 import concurrent.futures
@@ -25,7 +25,8 @@ TOP = os.path.dirname(HERE)
 MOST = 120
 # How long compiling a program takes beside one running its tests, for the estimate.
 COMPILING, RUNNING, SUITE = 10, 1, 8
-SUITES = (["examples/check.py", "--desk"], ["model/compare.py", "crates/mpw_main/out/mpw_main"], ["clients/python/test"])
+SUITES = (["examples/check.py", "--desk"], ["model/compare.py", "crates/mpw_main/out/mpw_main"], ["clients/python/test"],
+          ["integrations/test"])
 
 
 class Progress:
