@@ -177,6 +177,7 @@ class Actions(InKLayout):
         with listening(stand_in.serve) as port, Desk.connect("127.0.0.1", port) as desk:
             self.begin(desk)
             login = {**LOGIN, "desk": f"127.0.0.1:{port}", "token-file": self.file("ann.token", b"ann\n")}
+            os.chmod(login["token-file"], 0o600)
             forms = [{**login, "cell": "pad"}, {**login, "cell": "other"}, {**login, "cell": "pad", "roles": "officer"}, {},
                      {**login, "cell": "pad", "desk": "127.0.0.1:1"}]
             said, _ = self.scenario("submit", file=[coarse, "PAD"], forms=forms)
