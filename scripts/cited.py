@@ -7,14 +7,17 @@ In each page a link must lead to a file, and its anchor to a heading of that fil
 English, a page of more than 4096 bytes must begin with links to its sections, no word of BANNED may be used, an option must be one that
 docs/commands.md lists for its program and a command must be one that a test runs (scripts/commands_cited.py).
 
-In README.md, docs/, examples/README.md and bench/README.md it looks at what is between backquotes:
+The diagrams and the rows of docs/architecture.md must be those of crates.txt (scripts/diagrams.py).
+
+In README.md, CONTRIBUTING.md, docs/, examples/README.md and bench/README.md it looks at what is between backquotes:
 - a path from the top of the tree, as `docs/PROVED.md`, or from crates/, as `mpw_hier/specs/Values.antt`;
 - `specs/NAME.antt` of `mpw_crate`, and so `src/` and `proofs/`;
 - `name` of `mpw_crate`, of a function, a type or a clause, that must stand in a source of that crate;
 - behind `crates/mpw_crate/specs` in a row's first column, `NAME.antt` in the others;
 - in a column headed Definition(s), `crate/NAME` for crates/mpw_crate/specs/NAME.antt, with the names of definitions
   after it, or `mpw_crate/specs/NAME.antt`, with the names before it; that file must declare each of them that isn't a crate
-  or a function.
+  or a function;
+- in CONTRIBUTING.md, `src/NAME.rt` of the crate that the line names last, and `NAME.rt` from the folder of the path before it.
 """
 import functools
 import glob
@@ -23,6 +26,7 @@ import re
 import sys
 
 import commands_cited
+import diagrams
 
 TOP = os.path.dirname(os.path.dirname(os.path.abspath(__file__)))
 QUOTED = re.compile(r"`([^`]+)`")
@@ -37,7 +41,7 @@ NAME = re.compile(r"[A-Za-z]\w*$")
 
 # Pages in plain English. Add a page here when it is rewritten.
 NEWCOMERS = (
-    "CHANGELOG.md", "README.md", "docs/checking.md", "docs/ci.md", "docs/codes.md", "docs/commands.md", "docs/deck.md", "docs/faq.md", "docs/install.md", "docs/klayout.md",
+    "CHANGELOG.md", "CONTRIBUTING.md", "README.md", "docs/architecture.md", "docs/checking.md", "docs/ci.md", "docs/codes.md", "docs/commands.md", "docs/deck.md", "docs/faq.md", "docs/install.md", "docs/klayout.md",
     "docs/limits.md", "docs/not-proved.md", "docs/operating.md", "docs/proved-in-short.md", "docs/requests.md", "docs/troubleshooting.md",
     "docs/tutorial-firm.md", "docs/tutorial-shuttle.md",
 )
@@ -75,7 +79,7 @@ FORBIDDEN = [(re.compile(rf"\b(?:{words})\b", re.I), instead) for words, instead
 
 def pages():
     """The documents, by their paths from the top."""
-    found = ["README.md", "CHANGELOG.md", "examples/README.md", "bench/README.md"]
+    found = ["README.md", "CHANGELOG.md", "CONTRIBUTING.md", "examples/README.md", "bench/README.md"]
     found += glob.glob("docs/**/*.md", root_dir=TOP, recursive=True)
     return sorted(found)
 
@@ -163,6 +167,23 @@ def missing_in_line(line):
                 yield f"no file {folder[1]}/{quoted}"
         elif PATH.match(quoted) and not quoted.startswith(OWN) and not is_there(quoted):
             yield f"no file {quoted}"
+
+
+def missing_in_steps(text):
+    """The files that a step names by its crate or by the path before it, and that aren't there, each with its line."""
+    for number, line in enumerate(text.splitlines(), 1):
+        crate = folder = None
+        for quoted in QUOTED.findall(line):
+            named = re.match(r"(?:mpw|gate)_\w+(?=/|$)", quoted)
+            crate = f"crates/{named[0]}" if named else crate
+            path = f"crates/{quoted}" if named else f"{crate}/{quoted}" if crate and quoted.startswith(OWN) else None
+            if re.fullmatch(r"\w+\.\w+", quoted) and folder:
+                path = f"{folder}/{quoted}"
+            elif PATH.match(quoted) and not path:
+                path = quoted
+            if path and not is_there(path):
+                yield number, f"no file {path}"
+            folder = os.path.dirname(path) if path else folder
 
 
 def missing_in_page(text):
@@ -260,6 +281,8 @@ def faults_of(page):
     yield from broken_links(page, text)
     if page not in LINKED:
         yield from missing_in_page(text)
+    if page == "CONTRIBUTING.md":
+        yield from missing_in_steps(text)
     if page == "CHANGELOG.md":
         yield from missing_version(text)
     if page in NEWCOMERS:
@@ -271,6 +294,7 @@ def faults_of(page):
 def main():
     """Prints the faults, a line each."""
     faults = [f"{page}:{number}: {fault}" for page in sorted([*pages(), *LINKED]) for number, fault in faults_of(page)]
+    faults += diagrams.faults()
     print("".join(f"{fault}\n" for fault in faults), end="")
     sys.exit(1 if faults else 0)
 

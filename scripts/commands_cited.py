@@ -31,7 +31,8 @@ PROGRAMS = ("mpw", "mpw-ask", "mpw-assemble", "mpw-report", "mpw-page", "check.s
 OURS = re.compile(r"(?:^|[\s;|(\"'/])(mpw|mpw-ask|mpw-assemble|mpw-report|mpw-page|check\.sh)(?=\s)(?!\s*=)(.*)")
 OPTION = re.compile(r"(?<![\w-])--[a-z][a-z-]*")
 # What other programs' options are called, between backquotes or in a block, and what has them.
-OTHERS = {"--jobs": "parallel, pip", "--dependency": "sbatch", "--no-install-recommends": "apt-get", "--strip-components": "tar"}
+OTHERS = {"--jobs": "parallel, pip", "--dependency": "sbatch", "--no-install-recommends": "apt-get", "--strip-components": "tar",
+          "--allow-holes": "rt", "--start": "rt", "--apply": "audit", "--record": "audit", "--check": "scripts that make pages and pictures"}
 # What ./mpw takes before a command.
 OWN = {"--unproved", "--help", "--version", "--prefix", "--sysconfdir"}
 

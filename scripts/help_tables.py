@@ -1,5 +1,5 @@
 #!/usr/bin/env python3
-"""Makes the tables of docs/requests.md, docs/codes.md and docs/commands.md, and what the golden test of `mpw help` has to print.
+"""Makes the tables of docs/requests.md, docs/codes.md, docs/commands.md and CONTRIBUTING.md, and what the golden test of `mpw help` has to print.
 
   scripts/help_tables.py            writes them
   scripts/help_tables.py --check    prints what differs, and which request, denial or code of the sources the table lacks
@@ -16,7 +16,7 @@ import option_tables
 from plain_words import plain
 
 TOP = os.path.dirname(os.path.dirname(os.path.abspath(__file__)))
-PAGES = ("docs/requests.md", "docs/codes.md", "docs/commands.md")
+PAGES = ("docs/requests.md", "docs/codes.md", "docs/commands.md", "CONTRIBUTING.md")
 MADE = re.compile(r"<!-- made: ([^\n]+) -->\n(.*?)<!-- end -->\n", re.DOTALL)
 # The golden test of the help is a table of this program's.
 RUN, TABLE = "gate_texts", "help"
@@ -27,6 +27,9 @@ KINDS = {
     "Denial": (("Denial", "When", "What to do"), ("remedy",)),
     "Refusal": (("Code", "When", "What to do"), ("remedy",)),
 }
+# The numbers of codes by what they are about: the first and the last one.
+GROUPS = ((1, 19, "a library's text; 17 is out of memory"), (20, 29, "limits, and what is shown"), (30, 39, "what is there already or isn't"),
+          (40, 49, "lines, markers, the history"), (50, 59, "a deck's text"), (60, 69, "the store"))
 
 
 def whole(path):
@@ -75,12 +78,19 @@ def statuses_of(entry):
     return "| Status | What it means |\n|-|-|\n" + "".join(f"| {number} | {plain(text)} |\n" for number, text in found)
 
 
+def free_numbers():
+    """The numbers that no code has, as a table."""
+    taken = {int(entry["number"]) for _, entries in tables() for entry in entries if entry["kind"] == "Refusal"}
+    rows = [f"| {first} to {last} | {about} | {', '.join(str(it) for it in range(first, last + 1) if it not in taken)} |" for first, last, about in GROUPS]
+    return "".join(f"{row}\n" for row in ["| Numbers | About | Free |", "|-|-|-|", *rows])
+
+
 def made_tables():
     """The tables of the pages by their names."""
     made = {title: rows_of(title, entries) for title, entries in tables()}
     commands = dict(tables())["Commands"]
     made |= {f"exit statuses of mpw {entry['word']}": statuses_of(entry) for entry in commands}
-    return made | option_tables.made_tables()
+    return made | {"free numbers": free_numbers()} | option_tables.made_tables()
 
 
 def page_of(text, made, used):
