@@ -41,8 +41,9 @@ NAME = re.compile(r"[A-Za-z]\w*$")
 
 # Pages in plain English. Add a page here when it is rewritten.
 NEWCOMERS = (
-    "CHANGELOG.md", "CONTRIBUTING.md", "README.md", "docs/architecture.md", "docs/checking.md", "docs/ci.md", "docs/codes.md", "docs/commands.md", "docs/deck.md", "docs/faq.md", "docs/install.md", "docs/klayout.md",
-    "docs/limits.md", "docs/not-proved.md", "docs/operating.md", "docs/proved-in-short.md", "docs/requests.md", "docs/troubleshooting.md",
+    "CHANGELOG.md", "CONTRIBUTING.md", "README.md", "bench/README.md", "docs/architecture.md", "docs/checking.md", "docs/ci.md", "docs/codes.md", "docs/commands.md", "docs/deck.md",
+    "docs/faq.md", "docs/install.md", "docs/klayout.md", "docs/limits.md", "docs/not-proved.md", "docs/operating.md", "docs/proved-in-short.md", "docs/proving.md", "docs/requests.md",
+    "docs/troubleshooting.md",
     "docs/tutorial-firm.md", "docs/tutorial-shuttle.md",
 )
 # Pages whose links alone are checked.

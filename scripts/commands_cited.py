@@ -18,6 +18,7 @@ import pages  # noqa: E402
 REFERENCE = "docs/commands.md"
 # Blocks with commands that no test runs, by the page and the first word of the block's language, and why. A block that is indented has no language.
 UNTESTED = {
+    ("bench/README.md", "sh"): "proves for half an hour, and then needs the machine for itself",
     ("docs/checking.md", "sh"): "needs other hosts, or Slurm; examples/parallel.sh runs the same on one host",
     ("docs/checking.md", "make"): "examples/outputs.py runs it",
     ("docs/ci.md", "yaml"): "needs a runner of GitHub or GitLab; the page's console runs the script that it calls",
@@ -31,8 +32,12 @@ PROGRAMS = ("mpw", "mpw-ask", "mpw-assemble", "mpw-report", "mpw-page", "check.s
 OURS = re.compile(r"(?:^|[\s;|(\"'/])(mpw|mpw-ask|mpw-assemble|mpw-report|mpw-page|check\.sh)(?=\s)(?!\s*=)(.*)")
 OPTION = re.compile(r"(?<![\w-])--[a-z][a-z-]*")
 # What other programs' options are called, between backquotes or in a block, and what has them.
-OTHERS = {"--jobs": "parallel, pip", "--dependency": "sbatch", "--no-install-recommends": "apt-get", "--strip-components": "tar",
-          "--allow-holes": "rt", "--start": "rt", "--apply": "audit", "--record": "audit", "--check": "scripts that make pages and pictures"}
+OTHERS = {
+    "--jobs": "parallel, pip", "--dependency": "sbatch", "--no-install-recommends": "apt-get", "--strip-components": "tar",
+    "--only": "rt check", "--allow-holes": "rt check", "--start": "rt check", "--generated": "rattle", "--incremental": "rattle", "--lib": "rattle",
+    "--statements": "rattle", "--apply": "audit", "--record": "audit", "--check": "scripts that make pages and pictures", "--times": "scripts/build.py",
+    "--desk": "examples/check.py",
+}
 # What ./mpw takes before a command.
 OWN = {"--unproved", "--help", "--version", "--prefix", "--sysconfdir"}
 
