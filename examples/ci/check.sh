@@ -3,7 +3,7 @@
 #
 #   check.sh MPW DECK TOP FILE OUT
 #
-# MPW is the program mpw of a clone. The folder OUT gets TOP.txt (the listing), TOP.log (the summary), TOP.lyrdb (for KLayout), TOP.xml (JUnit)
+# MPW is the program mpw, of a clone or installed. The folder OUT gets TOP.txt (the listing), TOP.log (the summary), TOP.lyrdb (for KLayout), TOP.xml (JUnit)
 # and TOP.md (Markdown). The exit status is that of mpw check: 0 without markers, 1 with markers, more if nothing was checked.
 set -eu
 mpw=$1 deck=$2 top=$3 file=$4 out=$5
@@ -12,7 +12,11 @@ status=0
 "$mpw" check --strict --deck "$deck" --top "$top" --report "$out/$top.lyrdb" "$file" > "$out/$top.txt" 2> "$out/$top.log" || status=$?
 cat "$out/$top.log" >&2
 if [ "$status" -le 1 ]; then
-    "$(dirname "$(readlink -f "$mpw")")/clients/python/mpw-report" --deck "$deck" --name "$top" --junit "$out/$top.xml" --markdown "$out/$top.md" \
+    # In a clone the tool is below the folder of mpw, and else next to mpw.
+    folder=$(dirname "$(readlink -f "$(command -v "$mpw")")")
+    report=$folder/clients/python/mpw-report
+    [ -x "$report" ] || report=$folder/mpw-report
+    "$report" --deck "$deck" --name "$top" --junit "$out/$top.xml" --markdown "$out/$top.md" \
         "$out/$top.txt"
 fi
 exit "$status"
