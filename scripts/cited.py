@@ -45,6 +45,7 @@ NEWCOMERS = (
     "docs/faq.md", "docs/install.md", "docs/klayout.md", "docs/limits.md", "docs/not-proved.md", "docs/operating.md", "docs/proved-in-short.md", "docs/proving.md", "docs/requests.md",
     "docs/troubleshooting.md",
     "docs/tutorial-firm.md", "docs/tutorial-shuttle.md",
+    "docs/words.md",
 )
 # Pages whose links alone are checked.
 LINKED = ("clients/python/README.md", "model/README.md")
