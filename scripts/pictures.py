@@ -25,6 +25,8 @@ import pages  # noqa: E402
 SIZE = (1200, 640)
 LARGEST = 150_000
 FIRM, SHUTTLE = "docs/tutorial-firm.md", "docs/tutorial-shuttle.md"
+# The folder that each tutorial makes.
+FOLDERS = {FIRM: "try-firm", SHUTTLE: "try-shuttle"}
 # For each picture the tutorial, the file that it writes, and the key of the marker that is selected there. Of a report in KLayout, which window.
 PICTURES = {
     "amp.png": (FIRM, "amp.html", ""),
@@ -65,9 +67,9 @@ def draw_check(target):
 
 def make(folder, name):
     """Makes a picture of the files in this folder. Returns a fault, or nothing."""
-    _, source, key = PICTURES[name]
+    page, source, key = PICTURES[name]
     target = f"{IMAGES}/{name}"
-    (draw_in_klayout if source.endswith(".lyrdb") else draw)(f"{folder}/shuttle/{source}", target, key)
+    (draw_in_klayout if source.endswith(".lyrdb") else draw)(f"{folder}/{FOLDERS[page]}/{source}", target, key)
     return weighed(name)
 
 

@@ -14,7 +14,7 @@ say, and raises `Denied` or `Refused` if the request wasn't accepted. Nothing wa
 and `NotADesk` that what came is none. The connection is closed then. All coordinates and lengths are in nm.
 
 A word that would break the line, as one with a blank or a line feed, is refused before anything is sent (`BadWord`).
-This folder needs Python 3.6 or later, and nothing else.
+This folder needs Python 3.7 or later, and nothing else.
 
 In reading order: `values` (what requests name and replies say), `faults`, `words` (requests as text), `replies` (replies as text),
 `decks` and `files` (what is sent from files), `channel` (the connection), `conversation` (requests and replies over
