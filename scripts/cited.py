@@ -46,6 +46,7 @@ NEWCOMERS = (
     "docs/troubleshooting.md",
     "docs/tutorial-firm.md", "docs/tutorial-shuttle.md",
     "docs/words.md",
+    "docs/klayout-macros.md",
 )
 # Pages whose links alone are checked.
 LINKED = ("clients/python/README.md", "model/README.md")
