@@ -19,6 +19,7 @@ REFERENCE = "docs/commands.md"
 # Blocks with commands that no test runs, by the page and the first word of the block's language, and why. A block that is indented has no language.
 UNTESTED = {
     ("bench/README.md", "sh"): "proves for half an hour, and then needs the machine for itself",
+    ("clients/python/README.md", ""): "clients/python/tests/test_readme.py and test_log.py run those of four sections; the others need a desk elsewhere",
     ("docs/checking.md", "sh"): "needs other hosts, or Slurm; examples/parallel.sh runs the same on one host",
     ("docs/checking.md", "make"): "examples/outputs.py runs it",
     ("docs/ci.md", "yaml"): "needs a runner of GitHub or GitLab; the page's console runs the script that it calls",
@@ -27,6 +28,7 @@ UNTESTED = {
     ("docs/install.md", ""): "needs root and systemd; scripts/try_package.py runs the same in a root folder of its own",
     ("docs/klayout.md", "python"): "needs a window of KLayout",
     ("docs/operating.md", "ini"): "needs root; the page's console runs the same service",
+    ("examples/README.md", ""): "examples/check.py runs the shuttle, and gate_desk/scripts the first session",
     ("docs/operating.md", ""): "needs a shuttle with markers, which docs/tutorial-shuttle.md has: its console runs such lines",
 }
 PROGRAMS = ("mpw", "mpw-ask", "mpw-assemble", "mpw-report", "mpw-page", "check.sh")
@@ -37,7 +39,7 @@ OTHERS = {
     "--jobs": "parallel, pip", "--dependency": "sbatch", "--no-install-recommends": "apt-get", "--strip-components": "tar",
     "--only": "rt check", "--allow-holes": "rt check", "--start": "rt check", "--generated": "rattle", "--incremental": "rattle", "--lib": "rattle",
     "--statements": "rattle", "--apply": "audit", "--record": "audit", "--check": "scripts that make pages and pictures", "--times": "scripts/build.py",
-    "--desk": "examples/check.py",
+    "--desk": "examples/check.py", "--wafers": "clients/python/test",
 }
 # What ./mpw takes before a command.
 OWN = {"--unproved", "--help", "--version", "--prefix", "--sysconfdir"}
