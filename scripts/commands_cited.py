@@ -29,7 +29,7 @@ UNTESTED = {
     ("docs/klayout.md", "python"): "needs a window of KLayout",
     ("docs/operating.md", "ini"): "needs root; the page's console runs the same service",
     ("examples/README.md", ""): "examples/check.py runs the shuttle, and gate_desk/scripts the first session",
-    ("docs/operating.md", ""): "needs a shuttle with markers, which docs/tutorial-shuttle.md has: its console runs such lines",
+    ("docs/operating.md", ""): "needs root, or a shuttle with markers, which docs/tutorial-shuttle.md has: its console runs such lines",
 }
 PROGRAMS = ("mpw", "mpw-ask", "mpw-assemble", "mpw-report", "mpw-page", "check.sh")
 OURS = re.compile(r"(?:^|[\s;|(\"'/])(mpw|mpw-ask|mpw-assemble|mpw-report|mpw-page|check\.sh)(?=\s)(?!\s*=)(.*)")
