@@ -47,6 +47,7 @@ NEWCOMERS = (
     "docs/tutorial-firm.md", "docs/tutorial-shuttle.md",
     "docs/words.md",
     "docs/klayout-macros.md",
+    "docs/decisions.md",
     "clients/python/README.md", "docs/SPECIFICATION.md", "examples/README.md", "docs/specification/desk.md", "docs/specification/gdsii.md",
     "docs/specification/geometry.md", "docs/specification/policy.md", "docs/specification/requests.md", "docs/specification/rules.md", "docs/specification/shelf.md",
     "docs/specification/store.md", "docs/specification/tiles.md", "docs/specification/views.md", "docs/specification/wafer.md",
