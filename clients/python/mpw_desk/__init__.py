@@ -2,7 +2,7 @@
 
     from mpw_desk import Desk, read_token
 
-    with Desk.connect("desk.example", 7001) as desk:
+    with Desk.connect("127.0.0.1", 7001) as desk:
         desk.open("ann", read_token("ann.token"))
         desk.activate("pads")
         print("version", desk.submit("pad", "PAD", "pad.gds"))

@@ -81,7 +81,7 @@ class Commands(unittest.TestCase):
         stand_in.desk = self.recorder.desk
         with listening(stand_in.serve) as port:
             def ask(line):
-                return self.run_line(line.replace("desk.example:7001", f"127.0.0.1:{port}"))
+                return self.run_line(line.replace("127.0.0.1:7001", f"127.0.0.1:{port}"))
 
             ask(save)
             ask(save.replace("waivers > before.txt", "'unplace pad d' 'place pad d R0 600 0'"))
