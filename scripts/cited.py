@@ -7,7 +7,8 @@ In each page a link must lead to a file, and its anchor to a heading of that fil
 English, a page of more than 4096 bytes must begin with links to its sections, no word of BANNED may be used, an option must be one that
 docs/commands.md lists for its program and a command must be one that a test runs (scripts/commands_cited.py).
 
-The diagrams and the rows of docs/architecture.md must be those of crates.txt (scripts/diagrams.py).
+The diagrams and the rows of docs/architecture.md must be those of crates.txt (scripts/diagrams.py), and the pictures of paths in docs/klayout.md those
+that examples/paths.py draws.
 
 In README.md, CONTRIBUTING.md, docs/, examples/README.md and bench/README.md it looks at what is between backquotes:
 - a path from the top of the tree, as `docs/PROVED.md`, or from crates/, as `mpw_hier/specs/Values.antt`;
@@ -25,8 +26,9 @@ import os
 import re
 import sys
 
-import commands_cited
+import commands_cited  # which adds examples/ to where modules are
 import diagrams
+import paths
 
 TOP = os.path.dirname(os.path.dirname(os.path.abspath(__file__)))
 QUOTED = re.compile(r"`([^`]+)`")
@@ -301,7 +303,7 @@ def faults_of(page):
 def main():
     """Prints the faults, a line each."""
     faults = [f"{page}:{number}: {fault}" for page in sorted([*pages(), *LINKED]) for number, fault in faults_of(page)]
-    faults += diagrams.faults()
+    faults += diagrams.faults() + paths.faults()
     print("".join(f"{fault}\n" for fault in faults), end="")
     sys.exit(1 if faults else 0)
 
