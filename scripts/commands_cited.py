@@ -25,6 +25,7 @@ UNTESTED = {
     ("docs/ci.md", "yaml"): "needs a runner of GitHub or GitLab; the page's console runs the script that it calls",
     ("docs/ci.md", "groovy"): "needs Jenkins; the page's console runs the script that it calls",
     ("docs/ci.md", "sh"): "builds a clone; the page's console runs the script that it calls",
+    ("docs/deck.md", "sh"): "clients/python/tests/test_decks.py runs them, with a stand-in for mpw check",
     ("docs/install.md", ""): "needs root and systemd; scripts/try_package.py runs the same in a root folder of its own",
     ("docs/klayout.md", "python"): "needs a window of KLayout",
     ("docs/operating.md", "ini"): "needs root; the page's console runs the same service",

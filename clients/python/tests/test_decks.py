@@ -2,10 +2,9 @@
 import glob
 import os
 import subprocess
-import sys
 import unittest
 
-from asked import ASK
+from asked import ask
 from mpw_desk import BadDeck, Desk, Refused, deck_bytes, deck_text, plain_deck
 from stand_in import OFFICER, TOKEN, TOP, StandIn, listening
 from test_ask import WithDesk, WithFiles
@@ -94,23 +93,42 @@ class Sent(WithFiles):
             self.assertEqual((caught.exception.rest, caught.exception.line), ("1", None))
             self.assertRaises(BadDeck, desk.deck, "tile 256\nwidth w 1/0 0.1nm\n")
 
-    def plain(self, *words):
-        """What python3 -m mpw_desk prints, with its exit status and what it printed on the standard error."""
-        ended = subprocess.run(
-            [sys.executable, "-Bm", "mpw_desk", *words], cwd=self.folder, env={**os.environ, "PYTHONPATH": os.path.dirname(ASK)},
-            stdout=subprocess.PIPE, stderr=subprocess.PIPE)
-        return ended.stdout, ended.returncode, ended.stderr.decode()
+    def write(self, text):
+        with open(self.file("rules.deck"), "wb") as file:
+            file.write(text)
 
     def test_printed(self):
-        with open(self.file("rules.deck"), "wb") as file:
-            file.write(WRITTEN)
-        self.assertEqual(self.plain("rules.deck"), (PLAIN, 0, ""))
-        with open(self.file("rules.deck"), "wb") as file:
-            file.write(b"tile 256.5nm")
-        self.assertEqual(self.plain("rules.deck")[:2], (b"", 4))
-        self.assertEqual(self.plain("none.deck"), (b"", 4, "none.deck: No such file or directory\n"))
-        for words in [], ["--help"], ["a", "b"]:
-            self.assertEqual(self.plain(*words)[:2], (b"", 2))
+        """mpw-ask --plain-deck, of a file and of the standard input."""
+        self.write(WRITTEN)
+        for words in ["--plain-deck", "rules.deck"], ["--plain-deck=rules.deck"]:
+            self.assertEqual(ask(*words, cwd=self.folder), (0, PLAIN.decode(), ""))
+        self.assertEqual(ask("--plain-deck", "-", given=WRITTEN.decode()), (0, PLAIN.decode(), ""))
+        self.write(PLAIN)
+        self.assertEqual(ask("--plain-deck", "rules.deck", cwd=self.folder), (0, PLAIN.decode(), ""))
+
+    def test_pipe(self):
+        """The lines of docs/deck.md, with a stand-in for mpw check."""
+        with open(os.path.join(TOP, "docs", "deck.md"), encoding="utf-8") as page:
+            text = page.read()
+        self.write(text.split("\nThe client also takes a deck like this one:\n\n```text\n")[1].split("```")[0].encode())
+        lines = text.split("\n```sh\nclients/")[1].split("```")[0]
+        os.symlink(os.path.join(TOP, "clients"), self.file("clients"))
+        with open(self.file("mpw"), "w", encoding="ascii") as file:
+            file.write('#!/bin/sh\necho "$*"; exec cat\n')
+        os.chmod(self.file("mpw"), 0o755)
+        ended = subprocess.run(["sh", "-ec", f"clients/{lines}"], cwd=self.folder, stdout=subprocess.PIPE, check=True, timeout=60)
+        plain = b"tile 4096\nwidth m1.width 1/0 100\nspace m1.space 1/0 120\n"
+        self.assertEqual(ended.stdout, b"check --deck - --top TOP cell.gds\n" + plain)
+        with open(self.file("plain.deck"), "rb") as file:
+            self.assertEqual(file.read(), plain)
+
+    def test_not_printed(self):
+        self.write(b"# rules\r\ntile 256.5nm")
+        told = "mpw-ask: rules.deck: line 2: 256.5nm is no whole number of nm: write one, as 56, 56nm or 0.056um\n"
+        self.assertEqual(ask("--plain-deck", "rules.deck", cwd=self.folder), (4, "", told))
+        self.assertEqual(ask("--plain-deck", "none.deck", cwd=self.folder), (4, "", "mpw-ask: none.deck: No such file or directory\n"))
+        for words in [], ["rules.deck", "whoami"], ["rules.deck", "--wait"], ["rules.deck", "--log-summary", "a.log"]:
+            self.assertEqual(ask("--plain-deck", *words, cwd=self.folder)[:2], (2, ""), words)
 
     def test_text(self):
         with open(self.file("rules.deck"), "wb") as file:

@@ -31,6 +31,7 @@ Options:
         exit ${status-0} ;;
 esac
 echo "${0##*/} $*"
+case "$*" in *" -") cat ;; esac
 """
 CRATES = "mpw_main", "mpw_firm", "mpw_auditor", "mpw_manual"
 COMPLETED = """
@@ -88,6 +89,18 @@ class Command(Installed):
         self.assertEqual(run(mpw, "help", "submit"), (0, "mpw-help submit\n", ""))
         for words, status in (["foo"], 2), (["../mpw/mpw-serve"], 2), (["-x"], 2), ([], 2), (["--help"], 0), (["help", "--help"], 0):
             self.assertEqual(run(mpw, *words)[0], status, words)
+
+    def test_pipes(self):
+        """A check gets a library that zcat unpacks, and ends by its own status; under pipefail a damaged file isn't clean."""
+        text = bytes(range(256)) * 4096
+        packed, cut = os.path.join(self.folder, "a b.gds.gz"), os.path.join(self.folder, "cut.gds.gz")
+        for path, data in (packed, gzip.compress(text)), (cut, gzip.compress(text)[:-8]):
+            with open(path, "wb") as file:
+                file.write(data)
+        line = 'set -o pipefail; zcat "$2" | "$1" check --deck d --top T -'
+        for path, status in (packed, 0), (cut, 1):
+            ended = subprocess.run(["bash", "-c", line, "bash", self.file("bin", "mpw"), path], stdout=subprocess.PIPE, stderr=subprocess.PIPE, timeout=60)
+            self.assertEqual((ended.returncode, ended.stdout), (status, b"mpw-check check --deck d --top T -\n" + text), ended.stderr)
 
     def test_other_ways(self):
         """A link, a folder that is a link, and a search in PATH lead to the same programs."""
