@@ -183,7 +183,7 @@ def remove(root, before):
     need("the store is gone", os.path.isfile(f"{root}/var/lib/mpw/desk.db"))
     shutil.rmtree(f"{root}/var/lib/mpw")
     run("chroot", root, "userdel", "mpw")
-    for name in "root/token", "tmp/bars.lyrdb", "tmp/bars.html":
+    for name in "var/tmp/token", "var/tmp/bars.lyrdb", "var/tmp/bars.html":
         os.remove(f"{root}/{name}")
     after = fresh_root.snapshot(root)
     need(f"left: {sorted(path for path in after.keys() | before.keys() if after.get(path) != before.get(path))}", after == before)
