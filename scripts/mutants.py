@@ -14,7 +14,7 @@ FOLDERS = ("must-fail", "audit")
 # The most mutants of a batch: a function that is refused takes longer than one that is proved.
 MOST = 12
 # What rt says of a function.
-SAID = re.compile(r"^fn \w+::(\S+?): (proved|no proof)", re.M)
+SAID = re.compile(r"^fn \w+::(\S+?): (proved|no proof|not proved)", re.M)
 FUNCTION = re.compile(r"^( *)(?:pub(?:\([\w:]+\))? )?(?:const )?(?:unsafe )?fn (\w+)", re.M)
 IMPL = re.compile(r"^impl(?:<.*?>)? (?:(?P<trait>[\w:]+)(?:<(?P<of>[^>]*)>)? for )?(?P<type>\w+)", re.M)
 
@@ -177,4 +177,5 @@ def tried_together(tree, batch, seconds):
             with open(file, "w", encoding="utf-8") as old:
                 old.write(text)
     said = dict(SAID.findall(ran.stdout)) if ran else {}
-    return {mutant.key: f"refused by `{function.split('::')[-1]}`" for function, mutant in batch.items() if said.get(function) == "no proof"}
+    return {mutant.key: f"refused by `{function.split('::')[-1]}`" for function, mutant in batch.items()
+            if said.get(function) in ("no proof", "not proved")}
