@@ -61,7 +61,7 @@ use Rattle.mpw_events.specs.declared.event.Event.TheVariants as event
 use Rattle.mpw_events.specs.declared.event.Response.{Response}
 use Rattle.mpw_events.specs.Step.{Outcome, State, event_outcome, identity_lines, no_change, not_kept_response, outcome_of, query_outcome, response_of, step, trail_outcome}
 use Rattle.mpw_desk.specs.Steps.{IsAnswer}
-use Rattle.mpw_desk.proofs.Endings.{IsTold, EndsFair, IsFairReply, IsFairResponse, ended-fair, row-fair, by_test-fair, permitted-fair, session-fair, needed-fair, refused-fair, policy-fair, layout-fair}
+use Rattle.mpw_desk.proofs.Endings.{IsTold, EndsFair, IsFairReply, IsFairResponse, fair-reply, ended-fair, row-fair, by_test-fair, permitted-fair, session-fair, needed-fair, refused-fair, policy-fair, layout-fair}
 
 -- ---- the wafer
 
@@ -355,7 +355,7 @@ is_answer : (s : State) (connection : ℕ) (request : Request) (kept : Bool) (an
     → IsAnswer (event.Ask connection request) answered
 is_answer s connection request kept answered is =
     let fair = subst IsFairResponse (sym is) (step-fair s connection request kept) in
-    (λ e. subst IsFairResponse e fair, λ e. subst IsFairResponse e fair)
+    (λ e. subst IsFairResponse e fair, λ e. subst IsFairResponse e fair, fair-reply answered fair)
 
 -- what the step answers an event is an answer
 pub step-answers : (s : State) (e : Event) (kept : Bool) (answered : Response)

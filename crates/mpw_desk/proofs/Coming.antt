@@ -9,13 +9,13 @@ use Rattle.mpw_events.specs.Step.{Outcome, State, after, event_outcome, no_chang
 use Rattle.mpw_desk.specs.Steps.{IsAnswer, call_of}
 use Rattle.mpw_desk.proofs.Answering.{step-answers}
 
-state_after-on : (s : State) (first more : List Call)
+pub state_after-on : (s : State) (first more : List Call)
     → state_after s (first ++ more) ≡ state_after (state_after s first) more
 state_after-on s [] more = refl
 state_after-on s (c ∷ cs) more = state_after-on (after s c.event c.kept) cs more
 
 -- what changes nothing is the same step whether it counts as kept or not
-step-normal : (s : State) (e : Event) (kept : Bool)
+pub step-normal : (s : State) (e : Event) (kept : Bool)
     → step s e (kept || not (event_outcome s e).changes) ≡ step s e kept
 unfolding step
 step-normal s e kept = go kept (event_outcome s e).changes
@@ -63,7 +63,7 @@ came_of d d' e r is =
         ∙ ap (λ (o : Outcome). with_trail s e o) (step-normal s e is.0))
 
 -- a desk with a call more is another one
-longer : (d : Desk) (e : Event) (kept : Bool) (r : Response) → with_call d e kept r ≡ d → ⊥
+pub longer : (d : Desk) (e : Event) (kept : Bool) (r : Response) → with_call d e kept r ≡ d → ⊥
 longer d e kept r is =
     omega (
       arith,

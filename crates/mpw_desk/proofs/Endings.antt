@@ -1,5 +1,5 @@
 -- What ends a row of tests, and the rows of the policy and of the shelf: none is ended with the code of a closed desk or of a full history.
-use Rattle.std.proofs.Common.{ℕ, Bool, true, false, List, [], ◌∷◌, Option, None, Some, Result, Ok, Err}
+use Rattle.std.proofs.Common.{◌≡◌, ℕ, Bool, true, false, List, [], ◌∷◌, Option, None, Some, Result, Ok, Err, refl}
 use Rattle.std.specs.Prelude.{⊤, ◌^◌, not, is_some, map, if◌then◌else◌}
 use Rattle.std.specs.List.{flat_map}
 use Rattle.mpw_structures.specs.declared.structures.Structure.{Structure}
@@ -86,10 +86,18 @@ IsFairReply (reply.Refused c) = IsTold c
 
 abbrev pub IsFairResponse : Response → Type 0
 IsFairResponse (response.Told r) = IsFairReply r
-IsFairResponse (response.Run r) = ⊤
-IsFairResponse response.Gone = ⊤
-IsFairResponse response.Restarted = ⊤
-IsFairResponse response.Ended = ⊤
+IsFairResponse (response.Run r) = ⊥
+IsFairResponse response.Gone = ⊥
+IsFairResponse response.Restarted = ⊥
+IsFairResponse response.Ended = ⊥
+
+-- it is a reply
+pub fair-reply : (x : Response) → IsFairResponse x → (r : Reply) × (x ≡ response.Told r)
+fair-reply (response.Told r) fair = (r, refl)
+fair-reply (response.Run r) fair = absurd fair
+fair-reply response.Gone fair = absurd fair
+fair-reply response.Restarted fair = absurd fair
+fair-reply response.Ended fair = absurd fair
 
 pub ended-fair : (e : Ending) → IsFair e → IsFairReply (ended_by e)
 ended-fair (ending.Denied why) fair = tt

@@ -4,6 +4,7 @@ pub mod Coming
 pub mod Endings
 pub mod Growing
 pub mod Hinting
+pub mod Legality
 pub mod Locking
 pub mod Numbering
 pub mod Parting

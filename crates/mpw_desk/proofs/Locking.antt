@@ -7,6 +7,7 @@ use Rattle.mpw_events.specs.GoingOn.{GoesOnTo}
 use Rattle.mpw_events.specs.History.{Desk, KeptDesk, IsHandled, with_call}
 use Rattle.mpw_desk.specs.Locked.{IsLocked}
 use Rattle.mpw_desk.specs.Steps.{call_of}
+use Rattle.mpw_desk.proofs.Legality.{legally-left, legally-on}
 
 module _ (handled : (d left : KeptDesk) (event : Event) (response : Response)
     → IsHandled d event response left → GoesOnTo d left)
@@ -26,6 +27,8 @@ module _ (handled : (d left : KeptDesk) (event : Event) (response : Response)
         goes = on begun old new locked.goes (handled old new event response is);
         calls = ap (λ (d : Desk). d.history) desk ∙ ap (λ l. l ++ call ∷ []) locked.calls
             ∙ append_assoc begun.desk.history calls (call ∷ []);
+        legal = legally-on begun old new calls event response kept locked.goes locked.calls
+            locked.legal is desk;
         counted = omega (arith, locked.counted, length-append calls (call ∷ []));
         parts = locked.parts;
         idle = locked.idle;
@@ -43,6 +46,7 @@ module _ (handled : (d left : KeptDesk) (event : Event) (response : Response)
         base = locked.base;
         goes = on begun old new locked.goes (handled old new event response is);
         calls = ap (λ (d : Desk). d.history) desk ∙ locked.calls;
+        legal = legally-left begun old new calls event response locked.legal is desk;
         counted = locked.counted;
         parts = locked.parts;
         idle = locked.idle;

@@ -1,6 +1,7 @@
 pub mod Finished
 pub mod Hints
 pub mod Internal
+pub mod Legal
 pub mod Locked
 pub mod Numbers
 pub mod Passes

@@ -3,15 +3,17 @@ use Rattle.std.specs.Prelude.{◌≡◌, ◌≤◌, ◌+◌, ℕ, List, ◌++◌
 use Rattle.mpw_events.specs.declared.event.Call.{Call}
 use Rattle.mpw_events.specs.GoingOn.{GoesOnTo}
 use Rattle.mpw_events.specs.History.{KeptDesk}
+use Rattle.mpw_desk.specs.Legal.{GoesLegally}
 use Rattle.mpw_desk.specs.Numbers.{AreBelow}
 
--- the desk went on from where it was shared by just the registered calls, and its keeper has their changes; as many calls are counted; and
--- each pass has a part of the ledger and a number of its own
+-- the desk went on from where it was shared by just the registered calls, each a legal one, and its keeper has their changes; as many calls are
+-- counted; and each pass has a part of the ledger and a number of its own
 pub record IsLocked (begun kept : KeptDesk) (since : List Call) (begins total all left amount made : ℕ) :
     Type 0 where
   pub base : begins ≡ length begun.desk.history
   pub goes : GoesOnTo begun kept
   pub calls : kept.desk.history ≡ begun.desk.history ++ since
+  pub legal : GoesLegally begun kept since
   pub counted : total ≡ length since
   pub parts : left + made ≡ all
   pub idle : amount ≡ 0

@@ -1,11 +1,14 @@
 -- What one critical section does: to the desk, and to the pass that handed an event in.
-use Rattle.std.specs.Prelude.{◌≡◌, ◌≢◌, ◌⊎◌, ◌+◌, ⊤, ℕ, Bool, List, [], ◌∷◌, ◌++◌}
+use Rattle.std.specs.Prelude.{◌≡◌, ◌≢◌, ◌⊎◌, ◌+◌, ⊤, ℕ, Bool, false, List, [], ◌∷◌, ◌++◌, if◌then◌else◌}
 use Rattle.mpw_events.specs.declared.event.Call.{Call}
 use Rattle.mpw_events.specs.declared.event.Event.{Event}
 use Rattle.mpw_events.specs.declared.event.Event.TheVariants as event
 use Rattle.mpw_events.specs.declared.event.Response.{Response}
+use Rattle.mpw_events.specs.declared.event.Response.TheVariants as response
 use Rattle.mpw_events.specs.GoingOn.{IsEnded}
 use Rattle.mpw_events.specs.History.{IsHandled, closed_response, limit_response, with_call}
+use Rattle.mpw_events.specs.Step.{not_kept_response}
+use Rattle.mpw_replies.specs.declared.reply.Reply.{Reply}
 use Rattle.mpw_desk.specs.Values.{LockedDesk, PassView}
 
 -- what a pass may hand in: a request and an end of its own connection, and what is nobody's; never a restart
@@ -38,21 +41,35 @@ with_own receipts call (event.Cut answer) = receipts
 with_own receipts call (event.Tile answer) = receipts
 with_own receipts call event.Restart = receipts
 
--- an answer that the history has: a request that is told that the desk is closed or its history full is no call of it. Each other event may be
--- told `Ended` there, where its change could not be kept
+-- an answer that the history has: that of a request is a reply, and neither that the desk is closed nor that its history is full. Each other
+-- event may be told `Ended` there, where its change could not be kept
 abbrev pub IsAnswer : Event → Response → Type 0
-IsAnswer (event.Ask connection request) response =
-    (response ≢ closed_response (event.Ask connection request))
-    × (response ≢ limit_response (event.Ask connection request))
-IsAnswer (event.Gone connection) response = ⊤
-IsAnswer (event.Take worker) response = ⊤
-IsAnswer (event.Cut answer) response = ⊤
-IsAnswer (event.Tile answer) response = ⊤
-IsAnswer event.Restart response = ⊤
+IsAnswer (event.Ask connection request) answered =
+    (answered ≢ closed_response (event.Ask connection request))
+    × (answered ≢ limit_response (event.Ask connection request))
+    × ((reply : Reply) × (answered ≡ response.Told reply))
+IsAnswer (event.Gone connection) answered = ⊤
+IsAnswer (event.Take worker) answered = ⊤
+IsAnswer (event.Cut answer) answered = ⊤
+IsAnswer (event.Tile answer) answered = ⊤
+IsAnswer event.Restart answered = ⊤
+
+-- what a connection's call was answered, if its change was kept or not: a request that was not kept is told so, and an end is told `Gone` just if
+-- it was kept
+abbrev pub IsToldAs : Event → Response → Bool → Type 0
+IsToldAs (event.Ask connection request) answered kept =
+    kept ≡ false → answered ≡ not_kept_response (event.Ask connection request)
+IsToldAs (event.Gone connection) answered kept =
+    answered ≡ (if kept then response.Gone else response.Ended)
+IsToldAs (event.Take worker) answered kept = ⊤
+IsToldAs (event.Cut answer) answered kept = ⊤
+IsToldAs (event.Tile answer) answered kept = ⊤
+IsToldAs event.Restart answered kept = ⊤
 
 -- the call is recorded: the pass counts one more, and its receipts have it where it is a connection's
 pub record Records (event : Event) (response : Response) (kept : Bool) (p p' : PassView) : Type 0 where
   pub answer : IsAnswer event response
+  pub told : IsToldAs event response kept
   pub receipts : p'.receipts ≡ with_own p.receipts (call_of event response kept) event
   pub count : p'.count ≡ p.count + 1
   pub connection : p'.connection ≡ p.connection

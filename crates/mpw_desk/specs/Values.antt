@@ -4,11 +4,12 @@ use Rattle.atomic_table.specs.Seated.{TableId}
 use Rattle.mpw_events.specs.declared.event.Call.{Call}
 use Rattle.mpw_events.specs.History.{KeptDesk, kept_desk, new_desk}
 
--- the desk with its keeper, the calls since it was shared, the number of the next pass's connection, how many passes were made, and whether
--- its workers are to end
+-- the desk with its keeper, the calls since it was shared, how many were counted, the number of the next pass's connection, how many passes were
+-- made, and whether its workers are to end
 pub record LockedDesk : Type 0 where
   pub kept : KeptDesk
   pub calls : List Call
+  pub total : ℕ
   pub next : ℕ
   pub made : ℕ
   pub is_stopped : Bool

@@ -1,6 +1,7 @@
 //! What lies under the lock, and the critical section itself, as functions that wait for nobody.
-ghost use Rattle.std.specs.Prelude.{◌≡◌, ◌+◌, ◌≤◌, ◌<◌, ℕ, [], true, false, length, IfOk, OnErr};
+ghost use Rattle.std.specs.Prelude.{◌≡◌, ◌+◌, ◌++◌, ◌≤◌, ◌<◌, ℕ, [], true, false, length, IfOk, OnErr};
 ghost use Rattle.mpw_desk.specs.Finished.{IsFinished};
+ghost use Rattle.mpw_desk.specs.Legal.{GoesLegally, WentLegally};
 ghost use Rattle.mpw_desk.specs.Numbers.{AreBelow};
 ghost use Rattle.mpw_desk.specs.Passes.{Admits};
 ghost use Rattle.mpw_desk.specs.Steps.{MayHandIn, MayHandInBesides, Steps};
@@ -26,8 +27,8 @@ use std::sync::ledger::{Book, Share};
 pub const MOST_PASSES: u32 = 1 << 20;
 
 /// The core with its keeper, the register of the calls since the desk was shared, the ledger's book, and the parts for passes to
-/// come. Contracts see the desk with its keeper, the calls since it was shared, the number of the next connection, how many passes were made,
-/// and whether the workers are to end.
+/// come. Contracts see the desk with its keeper, the calls since it was shared, how many were counted, the number of the next connection, how
+/// many passes were made, and whether the workers are to end.
 pub struct Locked<H: Handler + Drop, K: Keeper + Drop, N: Room> {
     core: Box<H>,
     keeper: K,
@@ -71,7 +72,7 @@ impl<H: Handler + Drop, K: Keeper + Drop, N: Room> Model for Locked<H, K, N> {
 
     ghost Value = { LockedDesk };
 
-    ghost view = { λ l. record { kept = kept_desk (H.desk l.core.value) (K.kept l.keeper) (K.failures l.keeper); calls = l.register.calls; next = l.register.next; made = l.made; is_stopped = l.hints.is_stopped } };
+    ghost view = { λ l. record { kept = kept_desk (H.desk l.core.value) (K.kept l.keeper) (K.failures l.keeper); calls = l.register.calls; total = l.book.total; next = l.register.next; made = l.made; is_stopped = l.hints.is_stopped } };
 
     ghost invariant = { λ l. IsNumbered N.begun N.first l.register.next l.next × IsLocked N.begun (kept_desk (H.desk l.core.value) (K.kept l.keeper) (K.failures l.keeper)) l.register.calls l.base l.book.total N.all l.rest.parts l.rest.amount l.made × Fit l.hints (state_of (H.desk l.core.value)).run };
 }
@@ -79,6 +80,7 @@ impl<H: Handler + Drop, K: Keeper + Drop, N: Room> Model for Locked<H, K, N> {
 impl<H: Handler + Drop, K: Keeper + Drop, N: Room> Locked<H, K, N> {
     /// A desk that is shared from now on, under its name. The next connection has that number, which is greater than that of each connection
     /// before. It takes no memory, and costs as many steps as numbers are skipped.
+    #[tactic(auto, using(crate::proofs::Legality::none_since))]
     pub fn new(core: Box<H>, keeper: K, blank: Blank, first: u32) -> Locked<H, K, N>
         requires begun { N.begun ≡ kept_desk (H.desk core.value) (K.kept keeper) (K.failures keeper) }
         requires name { blank.name ≡ N.name }
@@ -142,10 +144,14 @@ impl<H: Handler + Drop, K: Keeper + Drop, N: Room> Locked<H, K, N> {
         &self.core
     }
 
-    /// The number of calls of the desk's history. Constant time.
+    /// The number of calls of the desk's history: those of before, and then those since it was shared. These are legal, and were counted.
+    /// Constant time.
     pub fn calls(&self) -> usize
         ensures counted { result ≡ length self.now.kept.desk.history }
         ensures goes { GoesOnTo N.begun self.now.kept }
+        ensures since { self.now.kept.desk.history ≡ N.begun.desk.history ++ self.now.calls }
+        ensures legal { GoesLegally N.begun self.now.kept self.now.calls }
+        ensures total { self.now.total ≡ length self.now.calls }
     {
         self.core.calls().len()
     }
@@ -227,12 +233,14 @@ impl<H: Handler + Drop, K: Keeper + Drop, N: Room> Locked<H, K, N> {
         count + calls
     }
 
-    /// The core with its keeper, where these passes made all the calls since the desk was shared. It costs the passes.
+    /// The core with its keeper, if these passes counted all the calls since the desk was shared. These are legal, and the keeper failed just at
+    /// those that were not kept. It costs the passes.
     ///
     /// # Errors
     /// Where they made another number of calls, as where a pass was kept back.
     pub fn finish(mut self, passes: Vec<Pass<N>>) -> Result<(Box<H>, K), Mismatch>
-        ensures { IfOk result (λ left. IsFinished N.begun (kept_desk (H.desk left.0.value) (K.kept left.1) (K.failures left.1)) passes.items) }
+        ensures legal { IfOk result (λ left. WentLegally N.begun (kept_desk (H.desk left.0.value) (K.kept left.1) (K.failures left.1))) }
+        ensures finished { IfOk result (λ left. IsFinished N.begun (kept_desk (H.desk left.0.value) (K.kept left.1) (K.failures left.1)) passes.items) }
     {
         let mut all = self.rest.empty();
         let most = self.len();

@@ -1,6 +1,6 @@
 //! A pass: what whoever asks has of the desk.
 ghost use Rattle.std.specs.Prelude.{◌≡◌, ◌+◌, ◌≤◌, [], ◌∷◌, ◌++◌};
-ghost use Rattle.mpw_desk.specs.Steps.{IsAnswer, MayHandIn, Records, with_own};
+ghost use Rattle.mpw_desk.specs.Steps.{IsAnswer, IsToldAs, MayHandIn, Records, with_own};
 ghost use Rattle.mpw_receipts.specs.Calls.{calls_of};
 ghost use Rattle.mpw_receipts.specs.Owner.{owner_of};
 
@@ -101,6 +101,7 @@ impl<N: Room> Pass<N> {
         requires own { MayHandIn self.old.connection call.now.event }
         requires made { book.old.total + 1 ≤ made }
         requires answer { IsAnswer call.now.event call.now.response }
+        requires told { IsToldAs call.now.event call.now.response call.now.kept }
         ensures calls { register.new.calls ≡ register.old.calls ++ call.now ∷ [] }
         ensures next { register.new.next ≡ register.old.next }
         ensures total { book.new.total ≡ book.old.total + 1 }

@@ -1,6 +1,7 @@
 //! The desk that threads share, and its end.
 ghost use Rattle.std.specs.Prelude.{◌≡◌, ◌≤◌, ◌<◌, [], IfOk, IfSome, OnErr};
 ghost use Rattle.mpw_desk.specs.Finished.{IsFinished};
+ghost use Rattle.mpw_desk.specs.Legal.{WentLegally};
 ghost use Rattle.mpw_desk.specs.Numbers.{AreBelow};
 ghost use Rattle.mpw_desk.specs.Passes.{Grows, HasAdmitted, HasCalls};
 ghost use Rattle.mpw_desk.specs.Serving.{IsParted};
@@ -134,13 +135,14 @@ impl<H: Handler + Drop, K: Keeper + Drop, N: Room> Shared<H, K, N> {
         }
     }
 
-    /// The core with its keeper, where these passes made all the calls since the desk was shared; their receipts are then the calls
-    /// of their connections. It costs the passes.
+    /// The core with its keeper, if these passes counted all the calls since the desk was shared; their receipts are then the calls
+    /// of their connections. The calls are legal, and the keeper failed just at those that were not kept. It costs the passes.
     ///
     /// # Errors
     /// Where they made another number of calls, as where a pass was kept back.
-    pub fn finish(self, passes: Vec<Pass<N>>) -> Result<(Box<H>, K), Mismatch>
-        ensures { IfOk result (λ left. IsFinished N.begun (kept_desk (H.desk left.0.value) (K.kept left.1) (K.failures left.1)) passes.items) }
+    pub fn conclude(self, passes: Vec<Pass<N>>) -> Result<(Box<H>, K), Mismatch>
+        ensures legal { IfOk result (λ left. WentLegally N.begun (kept_desk (H.desk left.0.value) (K.kept left.1) (K.failures left.1))) }
+        ensures finished { IfOk result (λ left. IsFinished N.begun (kept_desk (H.desk left.0.value) (K.kept left.1) (K.failures left.1)) passes.items) }
     {
         let Shared {
             locked,
@@ -150,5 +152,15 @@ impl<H: Handler + Drop, K: Keeper + Drop, N: Room> Shared<H, K, N> {
         drop(moved);
         drop(turns);
         locked.into_inner().finish(passes)
+    }
+
+    /// The same as [`Self::conclude`], for a caller who doesn't ask whether each call was kept.
+    ///
+    /// # Errors
+    /// As there.
+    pub fn finish(self, passes: Vec<Pass<N>>) -> Result<(Box<H>, K), Mismatch>
+        ensures { IfOk result (λ left. IsFinished N.begun (kept_desk (H.desk left.0.value) (K.kept left.1) (K.failures left.1)) passes.items) }
+    {
+        self.conclude(passes)
     }
 }

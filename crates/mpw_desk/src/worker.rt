@@ -248,6 +248,7 @@ impl<H: Handler + Drop, K: Keeper + Drop, N: Room> Shared<H, K, N> {
         ensures receipts { pass.new.receipts ≡ pass.old.receipts }
         ensures connection { pass.new.connection ≡ pass.old.connection }
         ensures last { IsLast result }
+        ensures grows { pass.old.count ≤ pass.new.count }
         ensures count { result ≡ no_job → pass.old.count < pass.new.count }
     {
         let mut is_eager = true;

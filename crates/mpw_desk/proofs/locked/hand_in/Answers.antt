@@ -5,11 +5,12 @@ use Rattle.mpw_events.specs.History.{Desk, IsHandled, kept_desk, state_of, with_
 use Rattle.mpw_desk.specs.Hints.{Fit, noted}
 use Rattle.mpw_desk.specs.Internal.Adding.{AddsOrNot}
 use Rattle.mpw_desk.specs.Locked.{IsLocked}
-use Rattle.mpw_desk.specs.Steps.{IsAnswer, MayHandIn, Records, Steps, call_of}
+use Rattle.mpw_desk.specs.Steps.{IsAnswer, IsToldAs, MayHandIn, Records, Steps, call_of}
 use Rattle.mpw_desk.specs.Values.{LockedDesk}
 use Rattle.mpw_desk.specs.declared.hints.Hints.{Hints}
 use Rattle.mpw_desk.proofs.Coming.{added-answers}
 use Rattle.mpw_desk.proofs.Hinting.{handled-fits, noted-stays, same-fits}
+use Rattle.mpw_desk.proofs.Legality.{added-told}
 use Rattle.mpw_desk.proofs.Locking.{counted-within, locked-adds, locked-stays}
 use Rattle.mpw_desk.proofs.locked.hand_in.Goals as goal
 
@@ -113,6 +114,31 @@ record-requires-clause-answer g c =
     subst (λ (k : Call). IsAnswer k.event k.response) (sym is)
     (added-answers old new event response added.0 handled added.1)
 
+pub record-requires-clause-told : goal.record-requires-clause-told
+record-requires-clause-told g c =
+    let l = c.locked.inside in
+    let event = c.args.event in
+    let response = c.in_ok-response.response in
+    let kept = g.K.Keeper.kept l.keeper in
+    let failures = g.K.Keeper.failures l.keeper in
+    let old = kept_desk (g.H.Handler.desk l.core.value) kept failures in
+    let new = kept_desk (g.H.Handler.desk c.step.new.core) (g.K.Keeper.kept c.step.new.keeper)
+    (g.K.Keeper.failures c.step.new.keeper) in
+    let same = c.deref_mut-core.ensures.value in
+    let handled : IsHandled old event response new = subst (λ core. IsHandled (kept_desk
+    (g.H.Handler.desk core) kept failures) event response new) same c.in_ok-response.ensures.handled
+    in
+    let added : (was : Bool) × (new.desk ≡ with_call old.desk event was response) =
+    subst (λ b. AddsOrNot b old.desk event response new.desk) c.if-not-is_added.false
+    (subst (λ core. AddsOrNot c.in_ok-response.is_added (g.H.Handler.desk core) event response
+    new.desk) same c.in_ok-response.ensures.added) in
+    let grown = ap (λ (d : Desk). d.history) added.1 in
+    let call = call_of event response added.0 in
+    let is : c.last_call-call.result.now ≡ call = c.last_call-call.ensures old.desk.history call
+    grown in
+    subst (λ (k : Call). IsToldAs k.event k.response k.kept) (sym is)
+    (added-told old new event response added.0 handled added.1)
+
 pub record-requires-clause-made : goal.record-requires-clause-made
 record-requires-clause-made g c =
     let l = c.locked.inside in
@@ -207,6 +233,7 @@ returns-clause-ok g c =
     let after : LockedDesk = record {
       kept = new;
       calls = c.record.new.register.calls;
+      total = c.record.new.book.total;
       next = c.record.new.register.next;
       made = l.made;
       is_stopped = c.noted.result.is_stopped;
@@ -214,6 +241,7 @@ returns-clause-ok g c =
     let steps : Steps event response (record {
       kept = old;
       calls = l.register.calls;
+      total = l.book.total;
       next = l.register.next;
       made = l.made;
       is_stopped = l.hints.is_stopped;
