@@ -24,7 +24,7 @@ telling_of text words =
     else None
 
 unfoldable pub version_text : List ℕ → List ℕ
-version_text command = command ++ codes " 1\n"
+version_text command = command ++ codes " 0.9.0\n"
 
 -- The version's text is this one; the help's is what the library of command lines makes of a command's form.
 abbrev pub IsToldBy : List ℕ → Telling → List ℕ → Type 0

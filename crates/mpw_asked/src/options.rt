@@ -18,8 +18,8 @@ use mpw_geom::{Name, NameFault};
 use mpw_told::{FirmFault, misuse};
 use std::alloc::{AllocError, Global};
 
-/// The version that `--version` tells.
-pub const VERSION: &str = "1";
+/// The version that `--version` prints, as the file VERSION has it.
+pub const VERSION: &str = "0.9.0";
 
 /// A check that the command line asks for. A file `-` is the standard input.
 #[derive(Drop)]

@@ -6,6 +6,8 @@ pub mod Faulty
 pub mod Held
 pub mod Keys
 pub mod Ranges
+pub mod Room
 pub mod Shown
 pub mod Stitched
+pub mod Times
 pub mod Uses

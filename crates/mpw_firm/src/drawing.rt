@@ -1,5 +1,5 @@
 //! What is checked, of the texts of a deck and a library. `specs/Drawings.antt` has what contracts say of it.
-ghost use Rattle.std.specs.Prelude.{◌≡◌, ℕ, List, None, option_map, IfOk, IfErr};
+ghost use Rattle.std.specs.Prelude.{◌≡◌, ℕ, List, None, false, option_map, IfOk, IfErr};
 ghost use Rattle.std.specs.String.{string_bytes};
 ghost use Rattle.mpw_check.specs.Drawn.{IsDrawnFrom};
 ghost use Rattle.mpw_choices.specs.Tops.{only_top};
@@ -202,6 +202,7 @@ pub fn drawn_by<O: Outputs>(
 ) -> Result<Drawn, FirmFault>
     ensures read { IfOk result (λ drawn. (deck library : List ℕ) × IsReadBy options.now.top choices.now deck library drawn) }
     ensures kept { IfOk result (λ _. O.kept outputs.new ≡ O.kept outputs.old) }
+    ensures unfaulty { choices.now.faults ≡ false → O.kept outputs.new ≡ O.kept outputs.old }
 {
     let text = read_file(rt, options.deck.as_str(), Content::Deck)?;
     let library = read_library(rt, options.file.as_str())?;

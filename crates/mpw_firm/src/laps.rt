@@ -1,5 +1,9 @@
-//! How long each part of a check takes. A clock that can't be read leaves out what it would tell.
+//! How long each part of a check takes. A clock that can't be read leaves out what it would tell. `specs/Times.antt` has what contracts say of it.
+ghost use Rattle.std.specs.Prelude.{◌≡◌, ℕ, Option, None, IfOk};
+ghost use Rattle.std.specs.String.{string_bytes};
+ghost use Rattle.mpw_firm.specs.Times.{begun_by, cut_name, lap_text, stitch_name, taken_with, times_text, with_lap};
 
+use std::alloc::{AllocError, Global};
 use std::io;
 use std::time::Instant;
 
@@ -18,17 +22,53 @@ pub enum Lap {
     Write,
 }
 
-/// The milliseconds that the parts so far took, those that are known.
-#[derive(Drop)]
-pub struct Laps<'a> {
-    rt: &'a HostRuntime,
-    start: Option<Instant>,
-    last: Option<Instant>,
+/// The milliseconds that the parts took, those that are known.
+#[derive(Clone, Copy, Drop)]
+pub struct Taken {
     read: Option<u64>,
     cut: Option<u64>,
     check: Option<u64>,
     stitch: Option<u64>,
     write: Option<u64>,
+}
+
+impl Taken {
+    /// No part's time.
+    fn none() -> Taken
+        ensures { result ≡ record { read = None; cut = None; check = None; stitch = None; write = None } }
+    {
+        Taken {
+            read: None,
+            cut: None,
+            check: None,
+            stitch: None,
+            write: None,
+        }
+    }
+
+    /// The same with the time of a part.
+    fn with(self, lap: Lap, time: Option<u64>) -> Taken
+        ensures { result ≡ taken_with self lap time }
+    {
+        let mut taken = self;
+        match lap {
+            Lap::Read => taken.read = time,
+            Lap::Cut => taken.cut = time,
+            Lap::Check => taken.check = time,
+            Lap::Stitch => taken.stitch = time,
+            Lap::Write => taken.write = time,
+        }
+        taken
+    }
+}
+
+/// The times of the parts so far, and the clock.
+#[derive(Drop)]
+pub struct Laps<'a> {
+    rt: &'a HostRuntime,
+    start: Option<Instant>,
+    last: Option<Instant>,
+    taken: Taken,
 }
 
 /// The time now, if the clock can be read.
@@ -44,14 +84,65 @@ fn since(rt: &HostRuntime, then: Option<Instant>) -> Option<u64> {
     }
 }
 
-/// Tells how long a part took, behind a comma where one was told before; and whether one was.
-fn tell_lap(rt: &HostRuntime, told: bool, name: &str, taken: Option<u64>) -> io::Result<bool> {
-    let Some(taken) = taken else {
-        return Ok(told);
-    };
-    let before = if told { "," } else { "times:" };
-    eprint!(rt; "{before} {name} {taken} ms")?;
-    Ok(true)
+/// What stands before the next time.
+fn begun_by(text: &str) -> &'static str
+    ensures { result.now ≡ begun_by text.now }
+{
+    if text.is_empty() { "times:" } else { "," }
+}
+
+/// A part's time.
+#[tactic(auto, unfolding(crate::specs::Times::lap_text))]
+fn lap_text(alloc: Global, before: &str, name: &str, time: u64) -> Result<String, AllocError>
+    ensures { IfOk result (λ text. string_bytes text ≡ lap_text before.now name.now time) }
+{
+    format!(in alloc; "{before} {name} {time} ms")
+}
+
+/// Adds a part's time, if it is known.
+fn add_lap(
+    alloc: Global,
+    text: &mut String,
+    name: &str,
+    time: Option<u64>,
+) -> Result<(), AllocError>
+    ensures { IfOk result (λ _. string_bytes text.new ≡ with_lap (string_bytes text.old) name.now time) }
+{
+    match time {
+        Some(time) => {
+            let before = begun_by(text.as_str());
+            let lap = lap_text(alloc, before, name, time)?;
+            text.push_str(lap.as_str())
+        }
+        None => Ok(()),
+    }
+}
+
+/// What the part that cuts is called.
+fn cut_name(by_columns: bool) -> &'static str
+    ensures { result.now ≡ cut_name by_columns }
+{
+    if by_columns { "halve" } else { "cut" }
+}
+
+/// What the part that stitches is called.
+fn stitch_name(by_columns: bool) -> &'static str
+    ensures { result.now ≡ stitch_name by_columns }
+{
+    if by_columns { "join" } else { "stitch" }
+}
+
+/// How long each part took, as `times: read 3 ms, cut 1 ms`; nothing if none is known.
+fn times_text(alloc: Global, taken: &Taken, by_columns: bool) -> Result<String, AllocError>
+    ensures { IfOk result (λ text. string_bytes text ≡ times_text taken.now by_columns) }
+{
+    let mut text = String::new(alloc);
+    add_lap(alloc, &mut text, "read", taken.read)?;
+    add_lap(alloc, &mut text, cut_name(by_columns), taken.cut)?;
+    add_lap(alloc, &mut text, "check", taken.check)?;
+    add_lap(alloc, &mut text, stitch_name(by_columns), taken.stitch)?;
+    add_lap(alloc, &mut text, "write", taken.write)?;
+    Ok(text)
 }
 
 impl<'a> Laps<'a> {
@@ -62,24 +153,15 @@ impl<'a> Laps<'a> {
             rt,
             start,
             last: start,
-            read: None,
-            cut: None,
-            check: None,
-            stitch: None,
-            write: None,
+            taken: Taken::none(),
         }
     }
 
     /// Ends a part, and begins the next.
-    pub fn end(&mut self, lap: Lap) {
-        let taken = since(self.rt, self.last);
-        match lap {
-            Lap::Read => self.read = taken,
-            Lap::Cut => self.cut = taken,
-            Lap::Check => self.check = taken,
-            Lap::Stitch => self.stitch = taken,
-            Lap::Write => self.write = taken,
-        }
+    pub fn end(&mut self, lap: Lap)
+        ensures { (time : Option ℕ) × (self.new.taken ≡ taken_with self.old.taken lap time) }
+    {
+        self.taken = self.taken.with(lap, since(self.rt, self.last));
         self.last = now(self.rt);
     }
 
@@ -88,23 +170,15 @@ impl<'a> Laps<'a> {
         since(self.rt, self.start)
     }
 
-    /// Tells on the standard error how long each part took, as `times: read 3 ms, cut 1 ms`, or `halve` where columns were checked; nothing where
-    /// none is known.
+    /// Prints on the standard error how long each part took, as `times: read 3 ms, cut 1 ms`, or `halve` if columns were checked; nothing if
+    /// no time is known.
     ///
     /// # Errors
-    /// That of the standard error.
+    /// Out of memory, or that of the standard error.
     pub fn tell(&self, by_columns: bool) -> io::Result<()> {
-        let (apart, together) = if by_columns {
-            ("halve", "join")
-        } else {
-            ("cut", "stitch")
-        };
-        let read = tell_lap(self.rt, false, "read", self.read)?;
-        let cut = tell_lap(self.rt, read, apart, self.cut)?;
-        let check = tell_lap(self.rt, cut, "check", self.check)?;
-        let stitch = tell_lap(self.rt, check, together, self.stitch)?;
-        if tell_lap(self.rt, stitch, "write", self.write)? {
-            eprintln!(self.rt; "")?;
+        let times = times_text(self.rt.alloc(), &self.taken, by_columns)?;
+        if !times.is_empty() {
+            eprintln!(self.rt; "{}", times.as_str())?;
         }
         Ok(())
     }

@@ -2,7 +2,7 @@
 ghost use Rattle.std.specs.Prelude.{◌≡◌, ◌<◌, ◌≤◌, ◌+◌, ◌-◌, ◌*◌, ◌/◌};
 
 use crate::laps::{Lap, Laps};
-use crate::memory::{has_room, peak, reckoned};
+use crate::memory::{free_memory, has_room, peak, reckoned};
 use mpw_check::Progress;
 use mpw_tiles::Snapshot;
 use std::io::{self, IsTerminal};
@@ -148,6 +148,6 @@ impl Progress for Line<'_> {
     }
 
     fn has_room(&mut self, markers: usize) -> bool {
-        has_room(self.rt, markers)
+        has_room(markers, free_memory(self.rt, markers))
     }
 }

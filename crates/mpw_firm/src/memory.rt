@@ -1,4 +1,7 @@
-//! How much memory the process took, where the system tells it, how much a check is reckoned to take, and whether there is room for its markers.
+//! How much memory the process took, if the system says so, how much a check is estimated to take, and whether its markers have room.
+//! `specs/Room.antt` has what contracts say of it.
+ghost use Rattle.std.specs.Prelude.{◌≡◌};
+ghost use Rattle.mpw_firm.specs.Room.{fits, has_room};
 
 use mpw_check::checked_tiles;
 use mpw_cuts::is_placed;
@@ -45,16 +48,28 @@ pub fn peak(rt: &HostRuntime) -> Option<u64> {
     Some(told_in(status.as_str(), "VmHWM:")?.div_ceil(1024))
 }
 
-/// Whether the system has room for so many markers beside what there is; it has where it doesn't tell.
-pub fn has_room(rt: &HostRuntime, markers: usize) -> bool {
+/// The free memory in kB, if the system says so. It isn't asked for few markers, which always have room.
+pub fn free_memory(rt: &HostRuntime, markers: usize) -> Option<u64> {
     if markers <= FEW_MARKERS {
-        return true;
+        return None;
     }
-    let Ok(system) = fs::read_to_string(rt, "/proc/meminfo") else {
-        return true;
-    };
-    match told_in(system.as_str(), "MemAvailable:") {
-        Some(available) => (markers as u64).saturating_mul(FOR_A_MARKER) / 1024 <= available,
+    let system = fs::read_to_string(rt, "/proc/meminfo").ok()?;
+    told_in(system.as_str(), "MemAvailable:")
+}
+
+/// Whether so many markers have room in so many kB.
+fn fits(markers: usize, free: u64) -> bool
+    ensures { result ≡ fits markers free }
+{
+    (markers <= FEW_MARKERS) | ((markers as u64).saturating_mul(FOR_A_MARKER) / 1024 <= free)
+}
+
+/// Whether so many markers have room in the free memory, in kB; they have if that isn't known.
+pub fn has_room(markers: usize, free: Option<u64>) -> bool
+    ensures { result ≡ has_room markers free }
+{
+    match free {
+        Some(free) => fits(markers, free),
         None => true,
     }
 }

@@ -8,6 +8,7 @@ use crate::line::Line;
 use crate::memory::peak;
 use mpw_check::checked_tiles;
 use mpw_keys::ColumnKeys;
+use mpw_outputs::left_out_text;
 use mpw_parts::Part;
 use mpw_tiles::Snapshot;
 use std::io;
@@ -72,25 +73,15 @@ pub fn tell_summary(rt: &HostRuntime, checked: &Checked<'_>, line: &Line<'_>) ->
     tell_limit(rt, checked)
 }
 
-/// Tells of which rules markers are left out, and how many.
+/// Prints of which rules markers are left out, and how many.
 ///
 /// # Errors
-/// That of the standard error.
+/// Out of memory, or that of the standard error.
 pub fn tell_limit(rt: &HostRuntime, checked: &Checked<'_>) -> io::Result<()> {
-    let Some(limit) = checked.limit else {
-        return Ok(());
-    };
-    let (rules, most) = (checked.layout.deck().rules().as_slice(), limit as usize);
-    for (rule, count) in rules.iter().zip(checked.found.counts.iter()) {
-        if *count > most {
-            let left = *count - most;
-            eprintln!(rt;
-                "note: rule {}: {left} of {count} markers left out",
-                rule.name.as_str()
-            )?;
-        }
-    }
-    Ok(())
+    let rules = checked.layout.deck().rules().as_slice();
+    let counts = checked.found.counts.as_slice();
+    let notes = left_out_text(rt.alloc(), rules, counts, checked.limit)?;
+    eprint!(rt; "{}", notes.as_str())
 }
 
 /// How many markers the lists have together, up to 2^64 - 1.

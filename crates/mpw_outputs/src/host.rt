@@ -141,6 +141,17 @@ impl<'a> Host<'a> {
         self.draft_on(Device::New(made), Some(name), Some(file))
     }
 
+    /// Refuses a symbolic link whose file isn't there: a new file would take the place of the link.
+    fn refuse_link(self, file: &str) -> io::Result<()> {
+        match fs::symlink_metadata(self.rt, file) {
+            Ok(_) => Err(io::Error::new(
+                ErrorKind::NotFound,
+                "a symbolic link whose file isn't there",
+            )),
+            Err(_) => Ok(()),
+        }
+    }
+
     /// The draft of a text for the file of that name. A file that is there has to be one that may be written.
     fn draft_for(self, file: &str) -> io::Result<HostDraft<'a>>
         ensures { IfOk result (λ draft. option_map string_bytes draft.name.file ≡ Some file.now) }
@@ -150,6 +161,7 @@ impl<'a> Host<'a> {
         let found = match fs::metadata(self.rt, file) {
             Ok(found) => found,
             Err(error) if error.kind() == ErrorKind::NotFound => {
+                self.refuse_link(file)?;
                 return self.draft_beside(String::from_str(alloc, file)?, None, given);
             }
             Err(error) => return Err(error),

@@ -2,6 +2,7 @@
 ghost use Rattle.std.specs.Prelude.{◌≡◌, ◌==◌, ◌<◌, ◌+◌, ◌^◌, ◌++◌, ℕ, if◌then◌else◌, get_or, length, replicate, slice_index, IfOk};
 ghost use Rattle.std.specs.String.{string_bytes};
 ghost use Rattle.mpw_outputs.specs.Counted.{count_line, counts_text, rule_counts, rule_lines};
+ghost use Rattle.mpw_outputs.specs.LeftOut.{left_out_line, left_out_lines, left_out_note, left_out_text};
 ghost use Rattle.mpw_outputs.specs.Listed.{Lists};
 
 use itoa::Buffer;
@@ -96,6 +97,67 @@ fn counts_text(alloc: Global, rules: &[Rule], counts: &Counts<'_>) -> Result<Str
     let mut text = rule_lines(alloc, rules, counts.rules)?;
     add_line(&mut text, "all", counts.all)?;
     Ok(text)
+}
+
+/// The note of a rule of whose markers some are left out.
+#[tactic(auto, unfolding(crate::specs::LeftOut::left_out_line))]
+fn left_out_line(alloc: Global, name: &str, left: usize, count: usize) -> Result<String, AllocError>
+    ensures { IfOk result (λ text. string_bytes text ≡ left_out_line name.now left count) }
+{
+    format!(in alloc; "note: rule {name}: {left} of {count} markers left out\n")
+}
+
+/// Adds that of a rule with so many markers, if more are there than are listed.
+fn add_left_out(
+    alloc: Global,
+    text: &mut String,
+    name: &str,
+    count: usize,
+    most: usize,
+) -> Result<(), AllocError>
+    ensures { IfOk result (λ _. string_bytes text.new ≡ string_bytes text.old ++ left_out_note name.now count most) }
+{
+    if count > most {
+        let line = left_out_line(alloc, name, count - most, count)?;
+        text.push_str(line.as_str())
+    } else {
+        Ok(())
+    }
+}
+
+/// The notes of the rules of which more than so many markers are there.
+fn left_out_lines(
+    alloc: Global,
+    rules: &[Rule],
+    counts: &[usize],
+    most: usize,
+) -> Result<String, AllocError>
+    ensures { IfOk result (λ text. string_bytes text ≡ left_out_lines rules.now counts.now most) }
+{
+    let mut text = String::new(alloc);
+    for (place, rule) in rules.iter().enumerate() {
+        let count = number_at(counts, place);
+        add_left_out(alloc, &mut text, rule.name.as_str(), count, most)?;
+    }
+    Ok(text)
+}
+
+/// A line for each rule of which markers are left out by a limit, with how many these are, and how many there are. It takes the text's size.
+///
+/// # Errors
+/// Out of memory.
+pub fn left_out_text(
+    alloc: Global,
+    rules: &[Rule],
+    counts: &[usize],
+    limit: Option<u32>,
+) -> Result<String, AllocError>
+    ensures { IfOk result (λ text. string_bytes text ≡ left_out_text rules.now counts.now limit) }
+{
+    match limit {
+        Some(most) => left_out_lines(alloc, rules, counts, most as usize),
+        None => Ok(String::new(alloc)),
+    }
 }
 
 /// Writes a line for each rule of a deck, with its name and how many markers it has, and one for all. A rule without a number has 0. It takes

@@ -1,7 +1,8 @@
 //! The texts that a command writes.
-ghost use Rattle.std.specs.Prelude.{◌≡◌, false, IfOk, IsOk, OnOk};
+ghost use Rattle.std.specs.Prelude.{◌≡◌, false, IfOk, OnOk};
 ghost use Rattle.std.specs.Io.KnownBytes.{Appends};
 ghost use Rattle.mpw_outputs.specs.Texts.{text_of};
+ghost use Rattle.mpw_outputs.specs.Written.{fault_of, outcome_of};
 
 use crate::listing::write_markers;
 use crate::summary::{Counts, write_counts};
@@ -14,6 +15,7 @@ use mpw_picture::{Picture, write_picture};
 use mpw_report::{Report, write_full_report};
 use mpw_text::put;
 use mpw_tiles::Snapshot;
+use mpw_told::is_memory;
 use mpw_wire::{Sink, WireFault};
 use std::alloc::Global;
 use std::io::{self, ErrorKind, Write};
@@ -62,14 +64,24 @@ impl<S: Sink> Write for Writer<S> {
     }
 }
 
-/// What came of writing by std's means.
+/// The fault that an error of std's is: out of memory stays that, and every other is one of the sink.
+fn fault_of(error: io::Error) -> WireFault
+    ensures { result ≡ fault_of error }
+{
+    if is_memory(error.kind()) {
+        WireFault::Memory
+    } else {
+        WireFault::Write
+    }
+}
+
+/// The outcome of writing by std's means.
 fn outcome(written: io::Result<()>) -> Result<(), WireFault>
-    ensures { IfOk result (λ _. IsOk written) }
+    ensures { result ≡ outcome_of written }
 {
     match written {
         Ok(()) => Ok(()),
-        Err(error) if error.kind() == ErrorKind::OutOfMemory => Err(WireFault::Memory),
-        Err(_) => Err(WireFault::Write),
+        Err(error) => Err(fault_of(error)),
     }
 }
 

@@ -1,3 +1,5 @@
+pub mod FaultLines
+pub mod Fronts
 pub mod Looks
 pub mod Notes
 pub mod Seen

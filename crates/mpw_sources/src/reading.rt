@@ -4,122 +4,18 @@ ghost use Rattle.mpw_deck.specs.Reading.{deck_of};
 ghost use Rattle.mpw_told.specs.ToldFaults.{IsOfDeck};
 ghost use Rattle.mpw_told.specs.Told.{CannotBeRead, Refuses, great_text};
 
+use crate::front::{Content, Front, read_from};
+use crate::record::MOST_BYTES;
 use mpw_deck::{Deck, read_deck};
-use mpw_records::kind::ENDLIB;
 use mpw_told::{FirmFault, deck_fault, refusal, unread_by};
 use std::alloc::Global;
 use std::fs::File;
-use std::io::{self, Read};
-
-/// The bytes that are read first. A deck of the most rules has fewer, and a library's first record has at most half of them.
-const FIRST_BYTES: u64 = 1 << 17;
-
-/// The bytes that are read at once behind them, and how often.
-const MORE_BYTES: u64 = 1 << 20;
-
-const MOST_READS: usize = 1 << 12;
-
-/// How often they are where no record is looked at, as behind ENDLIB.
-const MOST_BEHIND: usize = 1 << 8;
+use std::io;
 
 /// The greatest library that a desk takes, in bytes.
 const DESK_BYTES: usize = 1 << 24;
 
-/// A file of more bytes isn't read to its end.
-const MOST_BYTES: usize = (1 << 32) - 1;
-
-/// What was read of a file.
-#[derive(Drop)]
-struct Front {
-    /// The bytes, as many as are needed of it.
-    bytes: Vec<u8>,
-    /// Whether it goes on behind them all the same, for longer than a file that is read may.
-    is_endless: bool,
-}
-
-/// What a file is read as.
-#[derive(Clone, Copy, Drop)]
-pub enum Content {
-    /// A deck.
-    Deck,
-    /// A GDSII library.
-    Library,
-    /// A part.
-    Part,
-}
-
-impl Content {
-    /// From which byte on the lengths of a text that begins so are looked at, where it is read on. A deck isn't: one that goes on has a
-    /// fault up to there. Nor is what doesn't begin as a library or a part does, as an endless file of zeros. A part has no lengths.
-    fn goes_on(self, first: &[u8]) -> Option<usize> {
-        match self {
-            Content::Deck => None,
-            Content::Library if first.starts_with(&[0, 6, 0, 2]) => Some(0),
-            Content::Part if first.starts_with("mpw-part-".as_bytes()) => Some(usize::MAX),
-            _ => None,
-        }
-    }
-}
-
-/// Where the first record begins that isn't whole in the bytes, from that one on; nothing where one before it has an unsound length. Behind ENDLIB
-/// none is looked at.
-fn reached(bytes: &[u8], from: usize) -> Option<usize> {
-    let mut at = from;
-    for _ in 0..bytes.len() {
-        let Some([high, low, kind, _, ..]) = bytes.get(at..) else {
-            return Some(at);
-        };
-        let told = usize::from(*high) * 256 + usize::from(*low);
-        if told < 4 || told % 2 == 1 {
-            return None;
-        }
-        if *kind == ENDLIB {
-            return Some(usize::MAX);
-        }
-        if bytes.len() - at < told {
-            return Some(at);
-        }
-        at += told;
-    }
-    Some(at)
-}
-
-/// Reads what a reader gives behind its first bytes: to its end; up to a record with an unsound length, behind which nothing is read; or
-/// somewhat more than the most that is, or than the most behind ENDLIB. Whether the reader goes on there.
-fn read_on<R: Read>(reader: &mut R, bytes: &mut Vec<u8>, from: usize) -> io::Result<bool> {
-    let (mut place, mut left) = (from, MOST_BEHIND);
-    for _ in 0..MOST_READS {
-        let before = bytes.len();
-        let Some(next) = reached(bytes, place) else {
-            return Ok(false);
-        };
-        reader.take(MORE_BYTES).read_to_end(bytes)?;
-        if bytes.len() == before {
-            return Ok(false);
-        }
-        if next == usize::MAX {
-            if left == 0 {
-                return Ok(true);
-            }
-            left -= 1;
-        }
-        place = next;
-    }
-    Ok(true)
-}
-
-/// What a reader gives, to its end or as far as is needed to refuse it.
-fn read_from<R: Read>(alloc: Global, reader: &mut R, content: Content) -> io::Result<Front> {
-    let mut bytes = Vec::new(alloc);
-    reader.take(FIRST_BYTES).read_to_end(&mut bytes)?;
-    let is_endless = match content.goes_on(&bytes) {
-        Some(from) => read_on(reader, &mut bytes, from)?,
-        None => false,
-    };
-    Ok(Front { bytes, is_endless })
-}
-
-/// The same of a file, or of the standard input where it is `-`.
+/// What is read of a file, or of the standard input where it is `-`.
 fn read_named(rt: &HostRuntime, file: &str, content: Content) -> io::Result<Front> {
     if file == "-" {
         read_from(rt.alloc(), &mut rt.stdin(), content)

@@ -28,7 +28,7 @@ pub struct SeenFault {
 }
 
 /// The structure of an element.
-fn structure_in(
+pub(crate) fn structure_in(
     alloc: Global,
     text: &[u8],
     element: &Option<ElementSpan>,

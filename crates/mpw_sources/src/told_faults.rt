@@ -1,158 +1,220 @@
-//! Faults of a library's elements, and what is left out of it, told on the standard error.
-ghost use Rattle.std.specs.Prelude.{◌≤◌};
+//! The faults of a library's elements, and what is left out of it, printed on the standard error. `specs/FaultLines.antt` has what contracts
+//! say of the lines.
+ghost use Rattle.std.specs.Prelude.{◌≡◌, ◌≤◌, IfOk};
+ghost use Rattle.std.specs.String.{string_bytes};
+ghost use Rattle.mpw_sources.specs.FaultLines.{cut_faults, cut_lines, element_lifted, fault_lines, is_cut, is_in, is_name, kept_lines, lifted_text, padded_for, point_text_in, read_of, top_text};
 
+use crate::fault_line::{add_line, line_of};
 use crate::seen::unit_or_one;
 use crate::source::{Source, padded};
-use mpw_faults::{FaultFound, Seen, all_faults, first_point, point_in_top, structure_of, unit_of};
+use mpw_faults::{FaultFound, Seen, all_faults, point_in_top, structure_of};
 use mpw_geom::{Name, Point};
-use mpw_records::ReadFault;
 use mpw_skipping::{Cut, ElementSpan, elements_of};
+use std::alloc::{AllocError, Global};
 use std::io;
 
-/// Tells where an element of a text stands.
-fn tell_element(rt: &HostRuntime, text: &[u8], span: &ElementSpan) -> io::Result<()> {
-    if let Some(name) = structure_of(rt.alloc(), text, span.structure)? {
-        eprint!(rt; " in {}", name.as_str())?;
-    }
-    if let (Some(layer), Some(datatype)) = (span.layer, span.datatype) {
-        eprint!(rt; ", layer {layer}/{datatype}")?;
-    }
-    if let Some(unit) = unit_of(text) {
-        if let Some(Point { x, y }) = first_point(unit, text, span.points) {
-            eprint!(rt; ", at {x},{y}")?;
-        }
-    }
-    Ok(())
+/// A text that is read, and the structure in whose coordinates points are printed, if there is one.
+#[derive(Clone, Copy, Drop)]
+struct Below<'a> {
+    seen: &'a Seen<'a>,
+    top: &'a Option<Name>,
 }
 
-/// Tells a fault, with its place in the file, of the element that stands in that text, without the line's end.
-fn tell_place(
-    rt: &HostRuntime,
-    file: &str,
-    text: &[u8],
-    fault: ReadFault,
-    element: &Option<ElementSpan>,
-) -> io::Result<()> {
-    eprint!(rt; "fault: {file}: {fault}")?;
-    if let Some(span) = element {
-        tell_element(rt, text, span)?;
-    }
-    Ok(())
-}
-
-/// The same as a line.
-fn tell_fault(
-    rt: &HostRuntime,
-    file: &str,
-    text: &[u8],
-    fault: ReadFault,
-    element: &Option<ElementSpan>,
-) -> io::Result<()> {
-    tell_place(rt, file, text, fault, element)?;
-    eprintln!(rt; "")
-}
-
-/// Whether an element stands in the structure of that name.
-fn is_in(rt: &HostRuntime, top: &Name, text: &[u8], element: &ElementSpan) -> io::Result<bool> {
-    match structure_of(rt.alloc(), text, element.structure)? {
-        Some(name) => Ok(name.as_bytes() == top.as_bytes()),
-        None => Ok(false),
-    }
-}
-
-/// Tells where the first point of an element below the top lies in the top's coordinates, where that is known.
-fn tell_in_top(
-    rt: &HostRuntime,
-    top: &Name,
-    seen: &Seen<'_>,
-    element: &Option<ElementSpan>,
-) -> io::Result<()>
-    requires { seen.now.unit ≤ 1000 }
+/// Whether a name is that of the top.
+fn is_name(name: &Option<Name>, top: &Name) -> bool
+    ensures { result ≡ is_name name.now top.now }
 {
-    let Some(element) = element else {
-        return Ok(());
-    };
-    if is_in(rt, top, seen.text, element)? {
-        return Ok(());
+    match name {
+        Some(name) => name.as_bytes() == top.as_bytes(),
+        None => false,
     }
-    if let Some(Point { x, y }) = point_in_top(rt.alloc(), seen, element)? {
-        eprint!(rt; ", in {} at {x},{y}", top.as_str())?;
-    }
-    Ok(())
 }
 
-/// Tells the faults of the elements of a source, where a structure of that name is the top.
-fn tell_below(
-    rt: &HostRuntime,
+/// A point in the coordinates of a top.
+#[tactic(auto, unfolding(crate::specs::FaultLines::top_text))]
+fn top_text(alloc: Global, top: &Name, point: Point) -> Result<String, AllocError>
+    ensures { IfOk result (λ text. string_bytes text ≡ top_text top.now point) }
+{
+    let Point { x, y } = point;
+    format!(in alloc; ", in {top} at {x},{y}")
+}
+
+/// The same, if the point is known.
+fn point_text_in(alloc: Global, top: &Name, point: Option<Point>) -> Result<String, AllocError>
+    ensures { IfOk result (λ text. string_bytes text ≡ point_text_in top.now point) }
+{
+    match point {
+        Some(point) => top_text(alloc, top, point),
+        None => Ok(String::new(alloc)),
+    }
+}
+
+/// Where the first point of an element lies in a top, if it isn't the top's own.
+fn element_lifted(
+    alloc: Global,
+    seen: &Seen<'_>,
+    top: &Name,
+    element: &ElementSpan,
+) -> Result<String, AllocError>
+    requires { seen.now.unit ≤ 1000 }
+    ensures { IfOk result (λ text. string_bytes text ≡ element_lifted (read_of seen.now) top.now element.now) }
+{
+    let structure = structure_of(alloc, seen.text, element.structure)?;
+    if is_name(&structure, top) {
+        return Ok(String::new(alloc));
+    }
+    let point = point_in_top(alloc, seen, element)?;
+    point_text_in(alloc, top, point)
+}
+
+/// The same, if there are a top and an element.
+fn lifted_text(
+    alloc: Global,
+    below: &Below<'_>,
+    element: &Option<ElementSpan>,
+) -> Result<String, AllocError>
+    requires { below.now.seen.now.unit ≤ 1000 }
+    ensures { IfOk result (λ text. string_bytes text ≡ lifted_text (read_of below.now.seen.now) below.now.top.now element.now) }
+{
+    match (below.top, element) {
+        (Some(top), Some(element)) => element_lifted(alloc, below.seen, top, element),
+        _ => Ok(String::new(alloc)),
+    }
+}
+
+/// The lines of faults of a library as it is read.
+fn kept_lines(
+    alloc: Global,
     file: &str,
     source: &Source<'_>,
-    top: &Name,
+    below: &Below<'_>,
     faults: &[FaultFound],
-) -> io::Result<()> {
+) -> Result<String, AllocError>
+    requires { below.now.seen.now.unit ≤ 1000 }
+    ensures { IfOk result (λ text. string_bytes text ≡ kept_lines file.now source.now (read_of below.now.seen.now) below.now.top.now faults.now) }
+{
+    let mut text = String::new(alloc);
+    for found in faults {
+        let fault = source.moved_fault(found.fault);
+        let line = line_of(alloc, below.seen.text, fault, &found.element)?;
+        let lifted = lifted_text(alloc, below, &found.element)?;
+        add_line(alloc, &mut text, file, &line, lifted.as_str())?;
+    }
+    Ok(text)
+}
+
+/// The name of a top as its record has it, if there is one.
+fn padded_for(alloc: Global, top: &Option<Name>) -> Result<Vec<u8>, AllocError>
+    ensures { IfOk result (λ bytes. bytes.items ≡ padded_for top.now) }
+{
+    match top {
+        Some(top) => padded(alloc, top),
+        None => Ok(Vec::new(alloc)),
+    }
+}
+
+/// A line for each fault of a library as it is read: the code, the byte in the file, and of the element its structure, its layer and its first
+/// point in nm, as far as these are known; and that point in the top's coordinates, if there is a top and the structure is placed just once. The
+/// first fault is the one for which the library is refused. It takes the text's size, and looks at each element once a fault and level.
+///
+/// # Errors
+/// Out of memory.
+pub fn fault_lines(
+    alloc: Global,
+    file: &str,
+    source: &Source<'_>,
+    top: &Option<Name>,
+) -> Result<String, AllocError>
+    ensures { IfOk result (λ text. string_bytes text ≡ fault_lines file.now source.now top.now) }
+{
     let text = source.kept();
-    let spans = elements_of(rt.alloc(), text)?;
-    let name = padded(rt.alloc(), top)?;
+    let faults = all_faults(alloc, text)?;
+    let spans = elements_of(alloc, text)?;
+    let name = padded_for(alloc, top)?;
     let seen = Seen {
         unit: unit_or_one(text),
         text,
         spans: spans.as_slice(),
         top: name.as_slice(),
     };
-    for found in faults {
-        let fault = source.moved_fault(found.fault);
-        tell_place(rt, file, text, fault, &found.element)?;
-        tell_in_top(rt, top, &seen, &found.element)?;
-        eprintln!(rt; "")?;
-    }
-    Ok(())
+    let below = Below { seen: &seen, top };
+    kept_lines(alloc, file, source, &below, faults.as_slice())
 }
 
-/// Tells on the standard error each fault of a library as it is read, a line each: the code, the byte in the file, and of the element its
-/// structure, its layer and its first point in nm, as far as these are known; and where the top is known, that point in the top's coordinates
-/// too, where the structure is placed just once. The first is the one that is told of the library.
+/// Prints these lines on the standard error.
 ///
 /// # Errors
-/// Want of memory, or that of the standard error.
+/// Out of memory, or that of the standard error.
 pub fn tell_faults(
     rt: &HostRuntime,
     file: &str,
     source: &Source<'_>,
     top: &Option<Name>,
 ) -> io::Result<()> {
-    let text = source.kept();
-    let faults = all_faults(rt.alloc(), text)?;
-    if let Some(top) = top {
-        return tell_below(rt, file, source, top, faults.as_slice());
-    }
-    for found in faults.as_slice() {
-        let fault = source.moved_fault(found.fault);
-        tell_fault(rt, file, text, fault, &found.element)?;
-    }
-    Ok(())
+    let lines = fault_lines(rt.alloc(), file, source, top)?;
+    eprint!(rt; "{}", lines.as_str())
 }
 
-/// Whether a fault stands in what is cut out.
-fn is_cut(cuts: &[Cut], found: &FaultFound) -> bool {
-    let at = found.fault.offset;
-    cuts.iter().any(|cut| cut.start <= at && at < cut.end)
+/// Whether a byte is cut out.
+fn is_in(at: usize, cut: &Cut) -> bool
+    ensures { result ≡ is_in at cut.now }
+{
+    (cut.start <= at) & (at < cut.end)
 }
 
-/// Tells the faults of the structures that are left out, and how many these are.
-fn tell_unreached_faults(rt: &HostRuntime, file: &str, source: &Source<'_>) -> io::Result<usize> {
-    let text = source.left();
-    let faults = all_faults(rt.alloc(), text)?;
-    let mut told = 0usize;
-    for found in faults.as_slice() {
-        if is_cut(source.structures(), found) {
-            let fault = source.left_fault(found.fault);
-            tell_fault(rt, file, text, fault, &found.element)?;
-            told = told.saturating_add(1);
+/// Whether a fault is in what is cut out.
+fn is_cut(cuts: &[Cut], found: &FaultFound) -> bool
+    ensures { result ≡ is_cut cuts.now found.now }
+{
+    for cut in cuts {
+        if is_in(found.fault.offset, cut) {
+            return true;
         }
     }
-    Ok(told)
+    false
 }
 
-/// Tells which structures are left out, and their faults.
+/// The faults of the structures that are left out.
+fn cut_faults(alloc: Global, source: &Source<'_>) -> Result<Vec<FaultFound>, AllocError>
+    ensures { IfOk result (λ found. found.items ≡ cut_faults source.now) }
+{
+    let faults = all_faults(alloc, source.left())?;
+    let mut found = Vec::new(alloc);
+    for fault in faults.as_slice() {
+        if is_cut(source.structures(), fault) {
+            found.push(*fault)?;
+        }
+    }
+    Ok(found)
+}
+
+/// The lines of faults of the structures that are left out.
+fn cut_lines(
+    alloc: Global,
+    file: &str,
+    source: &Source<'_>,
+    faults: &[FaultFound],
+) -> Result<String, AllocError>
+    ensures { IfOk result (λ text. string_bytes text ≡ cut_lines file.now source.now faults.now) }
+{
+    let mut text = String::new(alloc);
+    for found in faults {
+        let fault = source.left_fault(found.fault);
+        let line = line_of(alloc, source.left(), fault, &found.element)?;
+        add_line(alloc, &mut text, file, &line, "")?;
+    }
+    Ok(text)
+}
+
+/// Prints the faults of the structures that are left out, and says how many these are.
+fn tell_unreached_faults(rt: &HostRuntime, file: &str, source: &Source<'_>) -> io::Result<usize> {
+    let found = cut_faults(rt.alloc(), source)?;
+    let lines = cut_lines(rt.alloc(), file, source, found.as_slice())?;
+    eprint!(rt; "{}", lines.as_str())?;
+    Ok(found.len())
+}
+
+/// Prints which structures are left out, and their faults.
 fn tell_unreached(rt: &HostRuntime, file: &str, source: &Source<'_>) -> io::Result<()> {
     let left_out = source.structures().len();
     let faults = tell_unreached_faults(rt, file, source)?;
@@ -168,11 +230,11 @@ fn tell_unreached(rt: &HostRuntime, file: &str, source: &Source<'_>) -> io::Resu
     }
 }
 
-/// Tells on the standard error what is left out of a library: the number of the elements on skipped layers, and that of the structures that
+/// Prints on the standard error what is left out of a library: the number of the elements on skipped layers, and that of the structures that
 /// the checked one doesn't reach, with each fault of these.
 ///
 /// # Errors
-/// Want of memory, or that of the standard error.
+/// Out of memory, or that of the standard error.
 pub fn tell_left_out(rt: &HostRuntime, file: &str, source: &Source<'_>) -> io::Result<()> {
     source.layered().tell(rt, file)?;
     if source.structures().is_empty() {

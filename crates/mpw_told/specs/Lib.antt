@@ -1,6 +1,7 @@
 pub mod Causes
 pub mod Colons
 pub mod Places
+pub mod Said
 pub mod Sentences
 pub mod Status
 pub mod Told

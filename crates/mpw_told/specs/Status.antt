@@ -1,10 +1,11 @@
 -- The exit status of a check.
-use Rattle.std.specs.Prelude.{ℕ, Result, Ok, Err, nat_lt, if◌then◌else◌}
+use Rattle.std.specs.Prelude.{ℕ, Bool, true, false, Result, Ok, Err, nat_lt, if◌then◌else◌}
+use Rattle.std.specs.declared.io.ErrorKind.{ErrorKind}
+use Rattle.std.specs.declared.io.ErrorKind.TheVariants.{OutOfMemory}
 use Rattle.mpw_told.specs.declared.fault.FirmFault.{FirmFault}
 use Rattle.mpw_told.specs.declared.fault.FirmFault.TheVariants.{Usage, Device, Refused, Memory}
 
--- 2 where the command line isn't one, 3 where a file or a device failed, 4 where the library or the deck has a fault, 5 where memory
--- was wanting
+-- 2 if the command line isn't one, 3 if a file or a device failed, 4 if the library or the deck has a fault, 5 if out of memory
 abbrev pub status_of : FirmFault → ℕ
 status_of (Usage text) = 2
 status_of (Device text) = 3
@@ -15,3 +16,8 @@ status_of Memory = 5
 abbrev pub exit_of : Result ℕ FirmFault → ℕ
 exit_of (Ok markers) = if nat_lt 0 markers then 1 else 0
 exit_of (Err fault) = status_of fault
+
+-- An error of the system's that means out of memory.
+abbrev pub is_memory : ErrorKind → Bool
+is_memory OutOfMemory = true
+is_memory kind = false

@@ -1,25 +1,24 @@
-//! Why a check ends without a listing.
-ghost use Rattle.std.specs.Prelude.{◌≡◌};
-ghost use Rattle.mpw_told.specs.Status.{exit_of, status_of};
+//! Why a check ends without a listing. `specs/Said.antt` has what is printed of it.
+ghost use Rattle.std.specs.Prelude.{◌≡◌, Some};
+ghost use Rattle.mpw_told.specs.Said.{said};
+ghost use Rattle.mpw_told.specs.Status.{exit_of, is_memory, status_of};
 ghost use Rattle.mpw_told.specs.declared.fault.FirmFault.TheVariants.{Memory};
 
 use std::alloc::AllocError;
-use thiserror::Error;
+use std::error::Error;
+use std::fmt;
+use std::io::ErrorKind;
 
-/// Why a check ends without a listing, with what is told of it.
-#[derive(Debug, Drop, Error)]
+/// Why a check ends without a listing, with its text. Its `Display` is the line that is printed.
+#[derive(Debug, Drop)]
 pub enum FirmFault {
     /// The command line isn't one.
-    #[error("{0}")]
     Usage(String),
     /// A file or a device failed.
-    #[error("error: {0}")]
     Device(String),
     /// The library or the deck has a fault.
-    #[error("error: {0}")]
     Refused(String),
-    /// There is no room.
-    #[error("error: out of memory: --summary and --limit hold fewer markers, and --tiles a share of them; or take a larger machine")]
+    /// Out of memory.
     Memory,
 }
 
@@ -37,6 +36,13 @@ impl FirmFault {
     }
 }
 
+/// Whether an error of that kind means out of memory.
+pub fn is_memory(kind: ErrorKind) -> bool
+    ensures { result ≡ is_memory kind }
+{
+    matches!(kind, ErrorKind::OutOfMemory)
+}
+
 /// The exit status of a check that found so many markers: 0 without, 1 with some; else the fault's.
 pub fn exit_status(ended: &Result<usize, FirmFault>) -> u8
     ensures { result ≡ exit_of ended.now }
@@ -46,6 +52,25 @@ pub fn exit_status(ended: &Result<usize, FirmFault>) -> u8
         Err(fault) => fault.status(),
     }
 }
+
+impl fmt::Display for FirmFault {
+    ghost output = { λ fault. Some (said fault) };
+
+    #[tactic(auto, unfolding(crate::specs::Said::said))]
+    fn fmt<W: fmt::Write>(&self, f: &mut fmt::Formatter<W>) -> fmt::Result {
+        match self {
+            FirmFault::Usage(text) => f.write_str(text.as_str()),
+            FirmFault::Device(text) => write!(f, "error: {text}"),
+            FirmFault::Refused(text) => write!(f, "error: {text}"),
+            FirmFault::Memory => f.write_str(
+                "error: out of memory: --summary and --limit hold fewer markers, and --tiles a share of \
+                them; or take a larger machine",
+            ),
+        }
+    }
+}
+
+impl Error for FirmFault {}
 
 impl From<AllocError> for FirmFault {
     ghost from_gives = { λ _ fault. fault ≡ Memory };

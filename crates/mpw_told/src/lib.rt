@@ -13,7 +13,7 @@ mod sentences;
 mod told;
 mod told_parts;
 
-pub use fault::{FirmFault, exit_status};
+pub use fault::{FirmFault, exit_status, is_memory};
 pub use told::{
     check_fault, deck_fault, library_fault, misuse, output_fault, refusal, unread_by, unwritten,
     unwritten_by,

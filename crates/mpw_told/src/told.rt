@@ -1,12 +1,15 @@
 //! What is told on the standard error. `specs/Told.antt` and `specs/ToldFaults.antt` have what contracts say of it.
-ghost use Rattle.std.specs.Prelude.{◌≡◌, ℕ, List, IfOk};
+ghost use Rattle.std.specs.Prelude.{◌≡◌, ℕ, List, true, false, IfOk};
+ghost use Rattle.std.specs.IoError.{error_kind};
 ghost use Rattle.std.specs.String.{string_bytes};
 ghost use Rattle.mpw_records.specs.Words.{fault_text};
+ghost use Rattle.mpw_told.specs.Status.{is_memory};
 ghost use Rattle.mpw_told.specs.Told.{CannotBeRead, CannotBeWritten, Fails, Misuses, Refuses, Tells, output_text, unread_text, unwritten_text};
+ghost use Rattle.mpw_told.specs.declared.fault.FirmFault.TheVariants.{Memory};
 ghost use Rattle.mpw_told.specs.ToldFaults.{check_told, deck_text, deck_told, library_text, line_sentence, named_text, outside_text, record_text, spaced, structure_text};
 
 use crate::colon::is_of_colon;
-use crate::fault::FirmFault;
+use crate::fault::{FirmFault, is_memory};
 use crate::place::structure_at;
 use crate::sentences::{of_colon, of_deck, of_library, of_structure};
 use mpw_check::CheckFault;
@@ -15,7 +18,7 @@ use mpw_geom::{Name, Names};
 use mpw_hier::HierFault;
 use mpw_records::ReadFault;
 use std::alloc::{AllocError, Global};
-use std::io::{self, ErrorKind};
+use std::io;
 
 /// A fault of a library, a deck or parts that was told, or want of memory.
 pub fn refusal(text: Result<String, AllocError>) -> FirmFault
@@ -182,27 +185,33 @@ pub fn unwritten(alloc: Global, file: &str, reason: &str) -> FirmFault
     failure(format!(in alloc; "{file}: can't be written: {reason}"))
 }
 
-/// What is told of a file or a device that can't be read, with what the system says of it.
-pub fn unread_by(alloc: Global, file: &str, error: io::Error) -> FirmFault
-    ensures { CannotBeRead file.now result }
+/// What the system says of an error. That memory is out has no text of its own.
+fn reason_of(alloc: Global, error: io::Error) -> Result<String, AllocError>
+    ensures { IfOk result (λ _. is_memory (error_kind error) ≡ false) }
 {
-    if error.kind() == ErrorKind::OutOfMemory {
-        return FirmFault::Memory;
+    if is_memory(error.kind()) {
+        return Err(AllocError);
     }
-    match error.to_string(alloc) {
+    Ok(error.to_string(alloc)?)
+}
+
+/// The fault of a file or a device that can't be read, with what the system says of it. Out of memory stays that.
+pub fn unread_by(alloc: Global, file: &str, error: io::Error) -> FirmFault
+    ensures read { CannotBeRead file.now result }
+    ensures memory { is_memory (error_kind error) ≡ true → result ≡ Memory }
+{
+    match reason_of(alloc, error) {
         Ok(reason) => unread(alloc, file, reason.as_str()),
         Err(_) => FirmFault::Memory,
     }
 }
 
-/// What is told of a file that can't be written, with what the system says of it.
+/// The fault of a file that can't be written, with what the system says of it. Out of memory stays that.
 pub fn unwritten_by(alloc: Global, file: &str, error: io::Error) -> FirmFault
-    ensures { CannotBeWritten file.now result }
+    ensures written { CannotBeWritten file.now result }
+    ensures memory { is_memory (error_kind error) ≡ true → result ≡ Memory }
 {
-    if error.kind() == ErrorKind::OutOfMemory {
-        return FirmFault::Memory;
-    }
-    match error.to_string(alloc) {
+    match reason_of(alloc, error) {
         Ok(reason) => unwritten(alloc, file, reason.as_str()),
         Err(_) => FirmFault::Memory,
     }

@@ -1,0 +1,9 @@
+use Rattle.std.proofs.Common.{◌≡◌, take}
+use Rattle.std.specs.List.{flat_map, enumerate_from}
+use Rattle.std.specs.String.{string_bytes}
+use Rattle.mpw_outputs.specs.LeftOut.{left_out_row}
+use Rattle.mpw_outputs.proofs.summary.left_out_lines.Given as goal
+
+abbrev pub invariant-loop-place : goal.invariant-loop-place
+invariant-loop-place l = string_bytes l.text
+    ≡ flat_map (left_out_row l.counts l.most) (take l.place (enumerate_from 0 l.rules))
