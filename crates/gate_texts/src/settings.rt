@@ -1,10 +1,10 @@
 //! What command lines give.
 //!
-//! Each line of the standard input is repeated, with the settings that its words give below, or the first line of what is told of
+//! Each line of the standard input is repeated, with the settings that its words give below, or the first line of the fault that is reported of
 //! them. The word `ROOT` stands for `--officer root --digest` and the SHA-256 of `abc`. A line that begins with `#`, and an empty one, says
 //! nothing.
 use anyhow::Result;
-use mpw_settings::{Log, Officer, Service, Settings, SettingsFault, read_settings};
+use mpw_settings::{Log, Officer, Service, Settings, SettingsFault, Store, read_settings};
 use std::alloc::Global;
 
 /// What the word `ROOT` stands for.
@@ -44,16 +44,36 @@ fn print_officer(rt: &(impl Print + AllocGlobal), officer: &Officer) -> Result<(
     Ok(())
 }
 
-/// Prints where changes are kept, on a line of its own, if they are.
-fn print_store(rt: &impl Print, store: Option<&String>) -> Result<()> {
-    if let Some(file) = store {
-        let file = file.as_str();
-        println!(rt; "    store '{file}'")?;
+/// A flag's word after a comma, if the flag is set.
+fn flag_word(is_set: bool, word: &str) -> &str {
+    if is_set { word } else { "" }
+}
+
+/// Prints where changes are stored, on a line of its own, if they are, and the flags of the file.
+fn print_store(rt: &impl Print, store: Option<&Store>) -> Result<()> {
+    if let Some(store) = store {
+        let file = store.path.as_str();
+        let existing = flag_word(store.is_existing, ", existing");
+        let new = flag_word(store.is_new, ", new");
+        let private = flag_word(store.is_private, ", private");
+        println!(rt; "    store '{file}'{existing}{new}{private}")?;
     }
     Ok(())
 }
 
-/// Prints a service, its log, its store and its officer on a line each.
+/// Prints the limits of strangers, on a line of their own, if there are any, and whether a run is held, on another one.
+fn print_conduct(rt: &impl Print, service: &Service) -> Result<()> {
+    if let Some(strangers) = service.strangers {
+        let (memory, rate, login) = (strangers.memory, strangers.rate, strangers.login);
+        println!(rt; "    strangers: {memory} bytes, {rate} lines a second, {login} s")?;
+    }
+    if service.holds_run {
+        println!(rt; "    an unfinished run is held")?;
+    }
+    Ok(())
+}
+
+/// Prints a service, its log, its limits, its store and its officer on a line each.
 fn print_service(rt: &(impl Print + AllocGlobal), service: &Service) -> Result<()> {
     let listen = service.listen.as_str();
     let (connections, workers, idle) = (service.connections, service.workers, service.idle);
@@ -70,6 +90,7 @@ fn print_service(rt: &(impl Print + AllocGlobal), service: &Service) -> Result<(
         Log::StandardError => println!(rt; "    log to the standard error")?,
         Log::File(file) => println!(rt; "    log to the file {file}")?,
     }
+    print_conduct(rt, service)?;
     print_store(rt, service.store.as_ref())?;
     print_officer(rt, &service.officer)
 }

@@ -39,7 +39,7 @@ static DENIALS: [Entry; 8] = [
     Entry {
         word: "ssd",
         form: "DENIED ssd set",
-        meaning: "somebody would be authorized for as many roles of that static set as it forbids",
+        meaning: "a user would have too many roles of that static set, inherited ones too",
         detail: Detail::Denial {
             remedy: "assign another user, or take one of the set's roles back before",
         },
@@ -47,7 +47,7 @@ static DENIALS: [Entry; 8] = [
     Entry {
         word: "dsd",
         form: "DENIED dsd set",
-        meaning: "as many roles of that dynamic set as it forbids would act in one session",
+        meaning: "a session would have too many roles of that dynamic set active, inherited ones too",
         detail: Detail::Denial {
             remedy: "drop one of them before, or open another session",
         },

@@ -163,7 +163,7 @@ static STATES: [Entry; 9] = [
         meaning: "there is no deck",
         detail: Detail::Refusal {
             number: "38",
-            remedy: "bring one (deck)",
+            remedy: "upload one (deck)",
         },
     },
     Entry {
@@ -218,8 +218,8 @@ static LINES: [Entry; 9] = [
         meaning: "no run is finished",
         detail: Detail::Refusal {
             number: "43",
-            remedy: "while a run goes on, ask status, or wait for it, as mpw-ask --wait does; else run; with mpw script \
-                cancel before",
+            remedy: "ask status; if a run goes on, wait, as mpw-ask --wait does; if it is idle, ask run; in \
+                mpw script ask cancel and then run",
         },
     },
     Entry {
@@ -246,7 +246,8 @@ static LINES: [Entry; 9] = [
         meaning: "the history holds 2^20 calls",
         detail: Detail::Refusal {
             number: "46",
-            remedy: "begin a new desk",
+            remedy: "with a store, start the program again; without one, or with nearly 2^20 rows, begin a new \
+                desk",
         },
     },
     Entry {

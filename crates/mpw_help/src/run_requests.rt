@@ -133,7 +133,7 @@ static RUNS: [Entry; 9] = [
         meaning: "asks for a waiver of a marker; the key is the first word of the marker's line",
         detail: Detail::Request {
             tests: "a session (DENIED session); the permission waive on the desk (DENIED \
-                permission waive desk); the run is finished (43 notfinished); the book has a \
+                permission waive desk); the run is finished (43 notfinished); the run has a \
                 marker of that key, which the session sees in full (44 marker); no waiver of it \
                 was asked for (33 known)",
             reply: "OK 0",
@@ -145,7 +145,7 @@ static RUNS: [Entry; 9] = [
         meaning: "signs the waiver of a marker",
         detail: Detail::Request {
             tests: "a session (DENIED session); the permission sign on the desk (DENIED permission \
-                sign desk); the run is finished (43 notfinished); the book has a marker of that \
+                sign desk); the run is finished (43 notfinished); the run has a marker of that \
                 key, which the session sees in full (44 marker); a waiver of it was asked for (45 \
                 nowaiver); it isn't signed (33 known); the user submitted nothing that the marker \
                 touches (DENIED submitter cell); the user didn't ask for the waiver (DENIED asker)",

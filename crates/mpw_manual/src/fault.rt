@@ -1,4 +1,4 @@
-//! Why nothing is told.
+//! Why nothing is printed.
 ghost use Rattle.std.specs.Prelude.{◌≡◌};
 ghost use Rattle.mpw_manual.specs.Status.{exit_of, status_of};
 ghost use Rattle.mpw_manual.specs.declared.fault.HelpFault.TheVariants.{Memory};
@@ -6,19 +6,19 @@ ghost use Rattle.mpw_manual.specs.declared.fault.HelpFault.TheVariants.{Memory};
 use std::alloc::AllocError;
 use thiserror::Error;
 
-/// Why nothing is told.
+/// Why nothing is printed.
 #[derive(Debug, Drop, Error)]
 pub enum HelpFault {
-    /// The command line isn't one.
+    /// The command line is wrong.
     #[error("error: mpw help takes a request, a code or a line that the desk tells, or nothing")]
     Usage,
-    /// There is nothing of that word.
+    /// Nothing has that word.
     #[error("error: no request, denial, code or command is '{0}'; mpw help lists them")]
     Unknown(String),
     /// The output failed.
     #[error("error: the standard output failed")]
     Output,
-    /// There is no room.
+    /// Memory ran out.
     #[error("error: out of memory")]
     Memory,
 }
@@ -36,7 +36,7 @@ impl HelpFault {
     }
 }
 
-/// The exit status: 0 where it was told; else the fault's.
+/// The exit status: 0 if the help was printed, else the fault's.
 pub fn exit_status(ended: &Result<(), HelpFault>) -> u8
     ensures { result ≡ exit_of ended.now }
 {

@@ -18,15 +18,14 @@ fn words(rt: &HostRuntime) -> Result<Vec<String>, HelpFault> {
     }
 }
 
-/// Reads the command line, and tells what it asks for.
+/// Reads the command line, and prints what it asks for.
 fn run(rt: &HostRuntime) -> Result<(), HelpFault> {
     let words = words(rt)?;
     let words: Vec<&str> = words.iter().map(|word| word.as_str()).collect(rt.alloc())?;
     tell(rt, words.as_slice())
 }
 
-/// Exits with 0 where it was told, 2 where there is nothing of the word, 3 where the output failed, and 5 where memory was
-/// wanting.
+/// Exits with 0 if the help was printed, 2 if nothing has the word, 3 if the output failed, and 5 if memory ran out.
 fn main(rt: HostRuntime) -> ExitCode {
     let ended = run(&rt);
     if let Err(fault) = &ended {

@@ -1,16 +1,16 @@
-//! What the words of a command line ask for, told.
+//! Prints what the words of a command line ask for.
 
 use crate::fault::HelpFault;
 use mpw_help::{Table, has_word, tables, write_help, write_words};
 use std::alloc::{AllocError, Global};
 use std::io::{self, BufWriter, Write};
 
-/// Whether a word stands in some of these tables.
+/// Whether one of these tables has the word.
 fn is_in(tables: &[Table], word: &str) -> bool {
     tables.iter().any(|table| has_word(table.entries, word))
 }
 
-/// Writes the words of a table that stand in none before it, each once.
+/// Writes the words of a table that no table before it has, each once.
 fn list_table<W: Write>(writer: &mut W, before: &[Table], table: &Table) -> io::Result<()> {
     write!(writer, "{}:", table.title)?;
     for place in 0..table.entries.len() {
@@ -24,7 +24,7 @@ fn list_table<W: Write>(writer: &mut W, before: &[Table], table: &Table) -> io::
     writeln!(writer)
 }
 
-/// Writes the words of all tables, each once, a line a table.
+/// Writes the words of all tables, each once, with a line for each table.
 fn list<W: Write>(writer: &mut W) -> io::Result<()> {
     let tables = tables();
     for place in 0..tables.len() {
@@ -41,7 +41,7 @@ fn is_known(word: &str) -> bool {
     tables().iter().any(|table| has_word(table.entries, word))
 }
 
-/// Writes what is told of a word.
+/// Writes what a word means.
 fn explain<W: Write>(writer: &mut W, word: &str) -> io::Result<()> {
     for table in tables().iter() {
         write_help(writer, table.entries, word)?;
@@ -49,7 +49,7 @@ fn explain<W: Write>(writer: &mut W, word: &str) -> io::Result<()> {
     writer.flush()
 }
 
-/// Tells what a word means.
+/// Prints what a word means.
 fn tell_word(rt: &HostRuntime, word: &str) -> Result<(), HelpFault> {
     if !is_known(word) {
         return Err(HelpFault::Unknown(String::from_str(rt.alloc(), word)?));
@@ -60,7 +60,7 @@ fn tell_word(rt: &HostRuntime, word: &str) -> Result<(), HelpFault> {
     explain(&mut output, word).map_err(|_| HelpFault::Output)
 }
 
-/// Tells which words there are.
+/// Prints the words that there are.
 fn tell_words(rt: &HostRuntime) -> Result<(), HelpFault> {
     let Ok(mut output) = BufWriter::new(rt.alloc(), rt.stdout()) else {
         return Err(HelpFault::Memory);
@@ -68,7 +68,7 @@ fn tell_words(rt: &HostRuntime) -> Result<(), HelpFault> {
     list(&mut output).map_err(|_| HelpFault::Output)
 }
 
-/// The words of arguments, each parted at its blanks.
+/// The words of arguments, each split at its blanks.
 fn parts_of<'a>(alloc: Global, words: &[&'a str]) -> Result<Vec<&'a str>, AllocError> {
     let mut parts = Vec::new(alloc);
     for word in words {
@@ -79,8 +79,8 @@ fn parts_of<'a>(alloc: Global, words: &[&'a str]) -> Result<Vec<&'a str>, AllocE
     Ok(parts)
 }
 
-/// The word that is asked for. A line of a desk may be given whole, as `REFUSED 40 form`, or from its second word on, as `40 form`: its
-/// number is asked for, or what is denied.
+/// The word that is asked for. A line of a desk may be given whole, as `REFUSED 40 form`, or from its second word on, as `40 form`. Then
+/// the word is its number, or what is denied.
 fn asked<'a>(parts: &[&'a str]) -> Option<&'a str> {
     match parts {
         [first, word, ..] if *first == "REFUSED" || *first == "DENIED" => Some(*word),
@@ -89,10 +89,10 @@ fn asked<'a>(parts: &[&'a str]) -> Option<&'a str> {
     }
 }
 
-/// Tells what the words of a command line ask for, the program's name first.
+/// Prints what the words of a command line ask for. The first word is the program's name.
 ///
 /// # Errors
-/// `Usage` and `Unknown` for another command line, `Output` and `Memory`.
+/// `Usage` for another command line, `Unknown` for an unknown word, `Output` if the output failed, `Memory` if out of memory.
 pub fn tell(rt: &HostRuntime, words: &[&str]) -> Result<(), HelpFault> {
     let [_, given @ ..] = words else {
         return tell_words(rt);

@@ -1,6 +1,6 @@
 -- What a parse found, by name, and what gives no settings.
 use Rattle.std.proofs.Common.{◌≡◌, ◌∙◌, inl, inr, sym, subst, ℕ, length, codes, Bool, true, false, List, [], ◌∷◌, Option, Some, None, refl, ap, map, find, option_map, option_and_then, Result, Ok, Err, slice_get, if◌then◌else◌}
-use Rattle.std.specs.Prelude.{◌≢◌, IfErr}
+use Rattle.std.specs.Prelude.{◌≢◌, IfErr, is_some}
 use Rattle.std.specs.Result.{IsErrAnd}
 use Rattle.std.specs.Str.{bytes_eq}
 use Rattle.std.specs.Borrow.{Bor}
@@ -14,7 +14,7 @@ use Rattle.clap.specs.Walk.{row_of}
 use Rattle.clap.specs.Words.{HasKind, IsAmong, Kinds, Row, Text, fault_of, first_of, first_value, kind_of, rows_of, subcommand_of}
 use Rattle.mpw_requests.specs.Digest.{Spells}
 use Rattle.mpw_settings.specs.Forms.{program_app}
-use Rattle.mpw_settings.specs.Settings.{AreGiven, AreOf, GiveNone, GivesAddress, GivesNone, GivesOfficer, IsFaultOf}
+use Rattle.mpw_settings.specs.Settings.{AreGiven, AreOf, GiveNone, GivesAddress, GivesFlag, GivesNone, GivesNumber, GivesNumberOr, GivesOfficer, GivesService, GivesStrangers, IsFaultOf, are_limited}
 use Rattle.mpw_settings.specs.declared.fault.SettingsFault.{SettingsFault}
 use Rattle.mpw_settings.specs.declared.settings.Settings.{Settings}
 use Rattle.mpw_settings.specs.declared.settings.Settings.TheVariants.{Script, Serve, Help}
@@ -86,6 +86,52 @@ pub passed-on : {X : Type 0} (result : Result X SettingsFault) (fault : Settings
 passed-on (Ok x) fault first second is more told = tt
 passed-on (Err told) fault first second is more of =
     subst (IsFaultOf second) (sym is) (told-more first second fault more of)
+
+-- a flag is set or isn't
+pub flag_same : (name : Text) (rows : List Row) (a b : Bool) → GivesFlag name rows a
+    → GivesFlag name rows b → a ≡ b
+flag_same name rows true true one other = refl
+flag_same name rows false false one other = refl
+flag_same name rows true false one other = sym (other.1 (one.0 refl))
+flag_same name rows false true one other = one.1 (other.0 refl)
+
+-- an option with a value doesn't stand for its default
+pub number_else : (default : ℕ) (name : Text) (least most : ℕ) (rows : List Row)
+    → is_some (first_of name rows) ≡ true → GivesNone (GivesNumber name least most rows)
+    → GivesNone (GivesNumberOr default name least most rows)
+number_else default name least most rows some none number (inl given) = none number given
+number_else default name least most rows some none number (inr (lacks, is)) =
+    let e : false ≡ true = sym (ap is_some lacks) ∙ some in cc
+
+limited : (is_ongoing : Bool) (rows : List Row) → are_limited is_ongoing rows ≡ true
+    → are_limited is_ongoing rows ≡ false → ⊥
+limited is_ongoing rows is other = let e : true ≡ false = sym is ∙ other in cc
+
+pub no_memory : (is_ongoing : Bool) (rows : List Row) → are_limited is_ongoing rows ≡ true
+    → GivesNone (GivesNumberOr 64 (codes "stranger-memory") 1 4096 rows)
+    → GivesNone (GivesStrangers is_ongoing rows)
+no_memory is_ongoing rows is none None given = limited is_ongoing rows is given
+no_memory is_ongoing rows is none (Some s) given = none given.1.megabytes given.1.memory
+
+pub no_rate : (is_ongoing : Bool) (rows : List Row) → are_limited is_ongoing rows ≡ true
+    → GivesNone (GivesNumberOr 20 (codes "stranger-rate") 1 10000 rows)
+    → GivesNone (GivesStrangers is_ongoing rows)
+no_rate is_ongoing rows is none None given = limited is_ongoing rows is given
+no_rate is_ongoing rows is none (Some s) given = none s.rate given.1.rate
+
+pub no_login : (is_ongoing : Bool) (rows : List Row) → are_limited is_ongoing rows ≡ true
+    → GivesNone (GivesNumberOr 120 (codes "login-limit") 10 3600 rows)
+    → GivesNone (GivesStrangers is_ongoing rows)
+no_login is_ongoing rows is none None given = limited is_ongoing rows is given
+no_login is_ongoing rows is none (Some s) given = none s.login given.1.login
+
+-- a service with limits that aren't given
+pub unlimited : (rows : List Row) (is_ongoing : Bool) → GivesFlag (codes "ongoing") rows is_ongoing
+    → GivesNone (GivesStrangers is_ongoing rows) → GivesNone (GivesService rows)
+unlimited rows is_ongoing set none service given = none service.strangers
+    (subst (λ o. GivesStrangers o rows service.strangers)
+    (flag_same (codes "ongoing") rows service.is_ongoing is_ongoing given.ongoing set)
+    given.strangers)
 
 -- ---- the whole command line
 

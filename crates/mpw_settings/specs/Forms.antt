@@ -16,10 +16,9 @@ free_option name = record (new_rule name) { long = Some name; value_names = 1; a
 abbrev pub required_option : Text → Rule
 required_option name = record (free_option name) { required = true }
 
--- the flag `--ongoing`
-abbrev pub ongoing_option : Rule
-ongoing_option =
-    record (new_rule (codes "ongoing")) { long = Some (codes "ongoing"); action = Some SetTrue }
+-- an option without a value
+abbrev pub flag : Text → Rule
+flag name = record (new_rule name) { long = Some name; action = Some SetTrue }
 
 -- the option `--idle`, with its default
 abbrev pub idle_option : Rule
@@ -36,9 +35,12 @@ abbrev pub with_officer : App → App
 with_officer app = with_rule (with_rule app (required_option (codes "officer")))
     (required_option (codes "digest"))
 
--- a subcommand with the option of a store
+-- a subcommand with the options of a store
 abbrev pub with_store : App → App
-with_store app = with_rule app (free_option (codes "store"))
+with_store app = with_rule
+    (with_rule
+    (with_rule (with_rule app (free_option (codes "store"))) (flag (codes "existing")))
+    (flag (codes "new"))) (flag (codes "private"))
 
 abbrev pub script_app : App
 script_app = with_store (with_officer (new_app (codes "script")))
@@ -50,11 +52,21 @@ with_required app = with_officer
     (with_rule (with_rule app (required_option (codes "listen")))
     (required_option (codes "connections"))) (required_option (codes "workers")))
 
+-- a subcommand with the options that a service may be given, but for those of strangers and of a store
+abbrev pub with_further : App → App
+with_further app = with_rule
+    (with_rule (with_rule (with_rule app (flag (codes "ongoing"))) idle_option)
+    (free_option (codes "log"))) (flag (codes "hold-run"))
+
+-- a subcommand with the options of what strangers may use
+abbrev pub with_strangers : App → App
+with_strangers app = with_rule
+    (with_rule (with_rule app (free_option (codes "stranger-memory")))
+    (free_option (codes "stranger-rate"))) (free_option (codes "login-limit"))
+
 abbrev pub serve_app : App
-serve_app = with_store
-    (with_rule
-    (with_rule (with_rule (with_required (new_app (codes "serve"))) ongoing_option) idle_option)
-    (free_option (codes "log")))
+serve_app =
+    with_store (with_strangers (with_further (with_required (new_app (codes "serve")))))
 
 -- the subcommand has that form, and no option that another shares
 abbrev pub HasForm : App → Command → Type 0

@@ -1,7 +1,6 @@
 -- What the words of a command line give.
-use Rattle.std.specs.Prelude.{◌≡◌, ◌≢◌, ◌⊎◌, ◌↔◌, ℕ, Bool, IsTrue, List, [], ◌∷◌, codes, length, Option, None, Some, String, option_map}
+use Rattle.std.specs.Prelude.{◌≡◌, ◌≢◌, ◌⊎◌, ◌↔◌, ◌*◌, ◌||◌, ℕ, Bool, true, false, IsTrue, List, [], ◌∷◌, codes, length, Option, None, Some, is_some}
 use Rattle.std.specs.String.{string_bytes}
-use Rattle.std.specs.declared.alloc.Global.{Global}
 use Rattle.std.specs.declared.net.socket_addr.SocketAddr.{SocketAddr}
 use Rattle.std.specs.Net.Grammar.{IsSocketText}
 use Rattle.clap.specs.declared.error.kind.ErrorKind.TheVariants.{DisplayHelp}
@@ -17,8 +16,10 @@ use Rattle.mpw_settings.specs.declared.script.Script.{Script as ScriptGiven}
 use Rattle.mpw_settings.specs.declared.service.Log.{Log}
 use Rattle.mpw_settings.specs.declared.service.Log.TheVariants.{Nowhere, StandardError, File}
 use Rattle.mpw_settings.specs.declared.service.Service.{Service}
+use Rattle.mpw_settings.specs.declared.service.Strangers.{Strangers}
 use Rattle.mpw_settings.specs.declared.settings.Settings.{Settings}
 use Rattle.mpw_settings.specs.declared.settings.Settings.TheVariants.{Script, Serve, Help}
+use Rattle.mpw_settings.specs.declared.store.Store.{Store}
 
 -- ---- what the row of an option gives
 
@@ -30,6 +31,11 @@ Gives name rows text = first_of name rows ≡ Some text
 abbrev pub GivesNumber : Text → ℕ → ℕ → List Row → ℕ → Type 0
 GivesNumber name least most rows number =
     (text : Text) × Gives name rows text × (number_of least most text ≡ Some number)
+
+-- so it does, or the option has no value and the number is its default
+abbrev pub GivesNumberOr : ℕ → Text → ℕ → ℕ → List Row → ℕ → Type 0
+GivesNumberOr default name least most rows number =
+    GivesNumber name least most rows number ⊎ ((first_of name rows ≡ None) × (number ≡ default))
 
 -- its value writes a socket address: `IPV4:PORT` or `[IPV6]:PORT`, no host's name
 abbrev pub GivesAddress : List Row → Text → Type 0
@@ -54,9 +60,39 @@ GivesLog rows StandardError = Gives (codes "log") rows (codes "-")
 GivesLog rows (File file) =
     Gives (codes "log") rows (string_bytes file) × (string_bytes file ≢ codes "-")
 
--- the name of a file where one is given, and else none
-abbrev pub GivesStore : List Row → Option (String Global) → Type 0
-GivesStore rows store = first_of (codes "store") rows ≡ option_map string_bytes store
+-- the flags of a store's file are set so
+pub record GivesTerms (rows : List Row) (is_existing is_new is_private : Bool) : Type 0 where
+  pub existing : GivesFlag (codes "existing") rows is_existing
+  pub new : GivesFlag (codes "new") rows is_new
+  pub private : GivesFlag (codes "private") rows is_private
+
+-- without a file there is no flag; and a file isn't both an existing and a new one
+abbrev pub GivesStore : List Row → Option Store → Type 0
+GivesStore rows None = (first_of (codes "store") rows ≡ None) × GivesTerms rows false false false
+GivesStore rows (Some store) =
+    Gives (codes "store") rows (string_bytes store.path)
+    × GivesTerms rows store.is_existing store.is_new store.is_private
+    × (IsTrue store.is_existing → IsTrue store.is_new → ⊥)
+
+-- strangers are limited if the service goes on, or if one of their options is given
+abbrev pub are_limited : Bool → List Row → Bool
+are_limited is_ongoing rows =
+    is_ongoing || (is_some (first_of (codes "stranger-memory") rows)
+    || (is_some (first_of (codes "stranger-rate") rows)
+    || is_some (first_of (codes "login-limit") rows)))
+
+-- the limits of strangers, each by its option or its default; a megabyte has 2 ^ 20 bytes
+pub record GivesLimits (rows : List Row) (strangers : Strangers) : Type 0 where
+  pub megabytes : ℕ
+  pub memory : GivesNumberOr 64 (codes "stranger-memory") 1 4096 rows megabytes
+  pub bytes : strangers.memory ≡ megabytes * 1048576
+  pub rate : GivesNumberOr 20 (codes "stranger-rate") 1 10000 rows strangers.rate
+  pub login : GivesNumberOr 120 (codes "login-limit") 10 3600 rows strangers.login
+
+abbrev pub GivesStrangers : Bool → List Row → Option Strangers → Type 0
+GivesStrangers is_ongoing rows None = are_limited is_ongoing rows ≡ false
+GivesStrangers is_ongoing rows (Some strangers) =
+    (are_limited is_ongoing rows ≡ true) × GivesLimits rows strangers
 
 pub record GivesScript (rows : List Row) (script : ScriptGiven) : Type 0 where
   pub officer : GivesOfficer rows script.officer
@@ -71,6 +107,8 @@ pub record GivesService (rows : List Row) (service : Service) : Type 0 where
   pub log : GivesLog rows service.log
   pub officer : GivesOfficer rows service.officer
   pub store : GivesStore rows service.store
+  pub strangers : GivesStrangers service.is_ongoing rows service.strangers
+  pub holds_run : GivesFlag (codes "hold-run") rows service.holds_run
 
 -- nothing is given
 abbrev pub GivesNone : {X : Type 0} → (X → Type 0) → Type 0

@@ -12,9 +12,12 @@ mod service;
 mod service_options;
 mod settings;
 mod store;
+mod strangers;
 
 pub use fault::SettingsFault;
 pub use officer::Officer;
 pub use script::Script;
-pub use service::{Log, MAX_CONNECTIONS, MAX_IDLE, MAX_WORKERS, Service};
+pub use service::{Log, MAX_CONNECTIONS, MAX_IDLE, MAX_WORKERS, Service, Strangers};
 pub use settings::{Settings, read_settings};
+pub use store::Store;
+pub use strangers::{MAX_LOGIN, MAX_STRANGER_MEMORY, MAX_STRANGER_RATE, MEGABYTE, MIN_LOGIN};

@@ -1,8 +1,8 @@
 //! The options of a subcommand: their forms, and their values.
-ghost use Rattle.std.specs.Prelude.{◌≡◌, ◌≤◌, IfOk, IfErr, None, option_map};
+ghost use Rattle.std.specs.Prelude.{◌≡◌, ◌≤◌, IfOk, IfErr, None, is_some, option_map};
 ghost use Rattle.clap.specs.Words.{App, Rule, first_of, found_of, new_app, rows_of, with_rule};
-ghost use Rattle.mpw_settings.specs.Forms.{HasForm, IsOption, free_option, required_option};
-ghost use Rattle.mpw_settings.specs.Settings.{Gives, GivesFlag, GivesNone, GivesNumber, IsFaultOf};
+ghost use Rattle.mpw_settings.specs.Forms.{HasForm, IsOption, flag, free_option, required_option};
+ghost use Rattle.mpw_settings.specs.Settings.{Gives, GivesFlag, GivesNone, GivesNumber, GivesNumberOr, IsFaultOf};
 
 use crate::fault::SettingsFault;
 use clap::{Arg, ArgAction, ArgMatches, Command};
@@ -34,6 +34,16 @@ pub fn required_option<'a>(alloc: Global, name: &'a str, value: &'a str, help: &
     free_option(alloc, name, value, help).required(true)
 }
 
+/// An option without a value.
+pub fn flag<'a>(alloc: Global, name: &'a str, help: &'a str) -> Arg<'a>
+    ensures { IsOption (flag name.entry.now) result }
+{
+    Arg::new(alloc, name)
+        .long(name)
+        .action(ArgAction::SetTrue)
+        .help(help)
+}
+
 /// The subcommand with one more option.
 ///
 /// # Errors
@@ -57,6 +67,13 @@ pub fn given<'a>(options: &ArgMatches<'a>, name: &str) -> Option<&'a str>
     ensures { option_map (λ text. text.now) result ≡ first_of name.now (rows_of (found_of options.now)) }
 {
     options.get_str(name)
+}
+
+/// Whether an option has a value.
+pub fn has_value(options: &ArgMatches<'_>, name: &str) -> bool
+    ensures { result ≡ is_some (first_of name.now (rows_of (found_of options.now))) }
+{
+    given(options, name).is_some()
 }
 
 /// The value of an option that has to be given.
@@ -99,6 +116,30 @@ pub fn number_of(
         None => Err(usage(format!(in alloc;
             "error: --{name} takes a number from {least} to {most}"
         ))),
+    }
+}
+
+/// The number that is given for an option, or else another one of its range.
+///
+/// # Errors
+/// `Usage` if the option has a text that is no number from `range.0` to `range.1`, and `Memory`.
+pub fn number_or(
+    alloc: Global,
+    options: &ArgMatches<'_>,
+    name: &str,
+    range: (u32, u32),
+    default: u32,
+) -> Result<u32, SettingsFault>
+    requires least { range.0 ≤ default }
+    requires most { default ≤ range.1 }
+    ensures within { IfOk result (λ number. (range.0 ≤ number) × (number ≤ range.1)) }
+    ensures ok { IfOk result (GivesNumberOr default name.now range.0 range.1 (rows_of (found_of options.now))) }
+    ensures refused { IfErr result (IsFaultOf (GivesNone (GivesNumberOr default name.now range.0 range.1 (rows_of (found_of options.now))))) }
+{
+    if has_value(options, name) {
+        number_of(alloc, options, name, range.0, range.1)
+    } else {
+        Ok(default)
     }
 }
 

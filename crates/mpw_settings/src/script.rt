@@ -1,4 +1,4 @@
-//! What a script is to do, and the options that tell it.
+//! What a script is to do, and the options that say it.
 ghost use Rattle.std.specs.Prelude.{IfOk, IfErr};
 ghost use Rattle.clap.specs.Words.{found_of, rows_of};
 ghost use Rattle.mpw_settings.specs.Forms.{HasForm, script_app};
@@ -7,7 +7,7 @@ ghost use Rattle.mpw_settings.specs.Settings.{GivesNone, GivesScript, IsFaultOf}
 use crate::fault::SettingsFault;
 use crate::officer::{Officer, read_officer, with_officer};
 use crate::options::new_command;
-use crate::store::{read_store, with_store};
+use crate::store::{Store, read_store, with_store};
 use clap::{ArgMatches, Command};
 use std::alloc::{AllocError, Global};
 
@@ -16,14 +16,14 @@ use std::alloc::{AllocError, Global};
 pub struct Script {
     /// The first user of its desk.
     pub officer: Officer,
-    /// The file in which its desk's changes are kept; none where they aren't.
-    pub store: Option<String>,
+    /// The file in which its desk's changes are stored, if they are.
+    pub store: Option<Store>,
 }
 
 /// The subcommand `script`.
 ///
 /// # Errors
-/// Where there is no room for it.
+/// If there is no room for it.
 pub fn script_command<'a>(alloc: Global) -> Result<Command<'a>, AllocError>
     ensures { IfOk result (HasForm script_app) }
 {
@@ -34,7 +34,7 @@ pub fn script_command<'a>(alloc: Global) -> Result<Command<'a>, AllocError>
 /// The script that the options give.
 ///
 /// # Errors
-/// `Usage` where they give none, and `Memory`.
+/// `Usage` if they give none, and `Memory`.
 pub fn read_script(alloc: Global, options: &ArgMatches<'_>) -> Result<Script, SettingsFault>
     ensures ok { IfOk result (GivesScript (rows_of (found_of options.now))) }
     ensures refused { IfErr result (IsFaultOf (GivesNone (GivesScript (rows_of (found_of options.now))))) }

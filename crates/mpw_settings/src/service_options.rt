@@ -2,30 +2,21 @@
 ghost use Rattle.std.specs.Prelude.{IfOk, IfErr};
 ghost use Rattle.std.specs.String.{string_bytes};
 ghost use Rattle.clap.specs.Words.{App, found_of, rows_of};
-ghost use Rattle.mpw_settings.specs.Forms.{HasForm, IsOption, idle_option, ongoing_option, serve_app, with_required};
+ghost use Rattle.mpw_settings.specs.Forms.{HasForm, IsOption, idle_option, serve_app, with_further, with_required};
 ghost use Rattle.mpw_settings.specs.Settings.{GivesAddress, GivesLog, GivesNone, GivesService, IsFaultOf};
 
 use crate::fault::SettingsFault;
 use crate::officer::{read_officer, with_officer};
 use crate::options::{
-    free_option, given, is_given, new_command, number_of, required_option, usage, value_of,
+    flag, free_option, given, is_given, new_command, number_of, required_option, usage, value_of,
     with_option,
 };
 use crate::service::{Log, MAX_CONNECTIONS, MAX_IDLE, MAX_WORKERS, Service};
 use crate::store::{read_store, with_store};
-use clap::{Arg, ArgAction, ArgMatches, Command};
+use crate::strangers::{read_strangers, with_strangers};
+use clap::{Arg, ArgMatches, Command};
 use std::alloc::{AllocError, Global};
 use std::net::SocketAddr;
-
-/// The flag of a service that goes on.
-fn ongoing_option<'a>(alloc: Global) -> Arg<'a>
-    ensures { IsOption ongoing_option result }
-{
-    Arg::new(alloc, "ongoing")
-        .long("ongoing")
-        .action(ArgAction::SetTrue)
-        .help("Goes on when connections end; N is then how many there are at a time")
-}
 
 /// The option of the time in which a connection may send nothing.
 fn idle_option<'a>(alloc: Global) -> Arg<'a>
@@ -54,7 +45,7 @@ fn with_required<'a>(alloc: Global, command: Command<'a>) -> Result<Command<'a>,
         alloc,
         "connections",
         "N",
-        "How many connections are served in all, 1 to 64",
+        "How many connections are served, 1 to 64: in all, or with --ongoing at a time",
     );
     let workers = required_option(
         alloc,
@@ -66,26 +57,43 @@ fn with_required<'a>(alloc: Global, command: Command<'a>) -> Result<Command<'a>,
     with_officer(alloc, with_option(command, workers)?)
 }
 
-/// The subcommand `serve`.
-///
-/// # Errors
-/// Where there is no room for it.
-pub fn serve_command<'a>(alloc: Global) -> Result<Command<'a>, AllocError>
-    ensures { IfOk result (HasForm serve_app) }
+/// The subcommand with the options that a service may be given, but for those of strangers and of a store.
+fn with_further<'a>(alloc: Global, command: Command<'a>) -> Result<Command<'a>, AllocError>
+    ensures { IfOk result (λ with. (app : App) → HasForm app command.entry → HasForm (with_further app) with) }
 {
+    let ongoing = flag(
+        alloc,
+        "ongoing",
+        "Goes on when connections end; N is then how many there are at a time",
+    );
     let log = free_option(
         alloc,
         "log",
         "FILE",
         "Logs to a file, or with - to the standard error",
     );
-    let command = new_command(alloc, "serve", "Serves connections that share a desk");
-    let command = with_option(with_required(alloc, command)?, ongoing_option(alloc))?;
-    let command = with_option(with_option(command, idle_option(alloc))?, log)?;
-    with_store(alloc, command)
+    let hold = flag(
+        alloc,
+        "hold-run",
+        "Checks no tile of an unfinished run until an officer requests 'cancel' or 'run'",
+    );
+    let command = with_option(with_option(command, ongoing)?, idle_option(alloc))?;
+    with_option(with_option(command, log)?, hold)
 }
 
-/// What is said of a text that writes no socket address.
+/// The subcommand `serve`.
+///
+/// # Errors
+/// If there is no room for it.
+pub fn serve_command<'a>(alloc: Global) -> Result<Command<'a>, AllocError>
+    ensures { IfOk result (HasForm serve_app) }
+{
+    let command = new_command(alloc, "serve", "Serves connections that share a desk");
+    let command = with_further(alloc, with_required(alloc, command)?)?;
+    with_store(alloc, with_strangers(alloc, command)?)
+}
+
+/// The fault of a text that writes no socket address.
 fn no_address(alloc: Global) -> SettingsFault {
     usage(String::from_str(
         alloc,
@@ -119,15 +127,17 @@ fn read_log(alloc: Global, options: &ArgMatches<'_>) -> Result<Log, AllocError>
 /// The service that the options give.
 ///
 /// # Errors
-/// `Usage` where they give none, and `Memory`.
+/// `Usage` if they give none, and `Memory`.
 pub fn read_service(alloc: Global, options: &ArgMatches<'_>) -> Result<Service, SettingsFault>
     ensures ok { IfOk result (GivesService (rows_of (found_of options.now))) }
     ensures refused { IfErr result (IsFaultOf (GivesNone (GivesService (rows_of (found_of options.now))))) }
 {
-    let listen = read_listen(alloc, options)?;
     let connections = number_of(alloc, options, "connections", 1, MAX_CONNECTIONS)?;
     let workers = number_of(alloc, options, "workers", 1, MAX_WORKERS)?;
     let idle = number_of(alloc, options, "idle", 1, MAX_IDLE)?;
+    let is_ongoing = is_given(options, "ongoing");
+    let strangers = read_strangers(alloc, options, is_ongoing)?;
+    let listen = read_listen(alloc, options)?;
     let log = read_log(alloc, options)?;
     let store = read_store(alloc, options)?;
     let officer = read_officer(alloc, options)?;
@@ -135,10 +145,12 @@ pub fn read_service(alloc: Global, options: &ArgMatches<'_>) -> Result<Service, 
         listen,
         connections,
         workers,
-        is_ongoing: is_given(options, "ongoing"),
+        is_ongoing,
         idle: u64::from(idle),
         log,
         officer,
         store,
+        strangers,
+        holds_run: is_given(options, "hold-run"),
     })
 }
