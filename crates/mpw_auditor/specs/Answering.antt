@@ -59,6 +59,10 @@ checked fault = if is_unsound fault then audit.Unsound fault else audit.Store fa
 abbrev pub unopened : FileFault → AuditFault
 unopened (file.Store fault) = checked fault
 unopened file.Missing = audit.File file.Missing
+unopened file.Empty = audit.File file.Empty
+unopened file.Taken = audit.File file.Taken
+unopened file.Shared = audit.File file.Shared
+unopened file.BareLog = audit.File file.BareLog
 unopened file.NoFile = audit.File file.NoFile
 unopened file.Linked = audit.File file.Linked
 unopened file.Unmade = audit.File file.Unmade

@@ -1,4 +1,4 @@
--- Sessions that are ended one after the other: where each connection that has one is among them, none is left.
+-- Sessions that are ended one after another: if each connection that has one is among them, none is left.
 use Rattle.std.proofs.Common.{◌≡◌, ◌∙◌, ℕ, zero, suc, ◌==◌, Bool, true, false, cond, not, List, [], ◌∷◌, Some, refl, sym, ap, arith}
 use Rattle.std.specs.Prelude.{Contains, is_some}
 use Rattle.std.proofs.lemmas.Bool.{true≢false, eqb-true, eq-eqb}
@@ -16,7 +16,7 @@ found_at es key = is_some (value_at (λ a b. a == b) es key)
 abbrev less : Sessions → ℕ → Sessions
 less es key = without_key (λ a b. a == b) es key
 
--- what is found without a key is found with it, at another one
+-- what is found without a key is found with it, at another key
 abbrev IsOther : Sessions → ℕ → ℕ → Type 0
 IsOther es gone key = (key ≡ gone → ⊥) × (found_at es key ≡ true)
 

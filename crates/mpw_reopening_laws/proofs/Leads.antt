@@ -1,4 +1,4 @@
--- Rows that can be reopened, and those that are added behind them.
+-- Rows that can be reopened, and those that are added after them.
 use Rattle.std.proofs.Common.{◌≡◌, ◌∙◌, ◌<◌, ◌≤◌, ◌^◌, ℕ, suc, ◌+◌, Bool, true, false, List, [], ◌∷◌, ◌++◌, length, Some, refl, sym, ap, subst, arith, append-nil, append_assoc, length-append}
 use Rattle.std.specs.Prelude.{All, AllPairs, is_some, if◌then◌else◌}
 use Rattle.std.specs.Option.{option_to_list}
@@ -43,7 +43,7 @@ use Rattle.mpw_reopening_laws.proofs.Sound.{IsSoundRun, answer_right, number_on,
 use Rattle.mpw_reopening_laws.proofs.Storing.{Stores, stores}
 use Rattle.mpw_reopening_laws.proofs.Working.{finished_state, last_state}
 
--- the laws that these rest on
+-- the laws that the proofs use
 pub record Laws : Type 0 where
   pub layout : AnswersMakeTheLayout
   pub computes : StitchedComputes
@@ -78,7 +78,7 @@ module _ (officer : Name) (digest : List ℕ) where
       → trail ≡ trail' → Leads entries s trail → Leads entries s trail'
   lead_trail entries s trail trail' same h = subst (λ l. Leads entries s l) same h
 
-  -- ---- one row more
+  -- ---- one more row
 
   same_number : (n : ℕ) → n ≤ n + 1
   same_number n = omega arith
@@ -137,7 +137,7 @@ module _ (officer : Name) (digest : List ℕ) where
       (λ same. omega (arith, same, apart 0 (suc k) d (omega arith) (omega arith)))
       (All-tail (λ x. is_some (session_of s.policy x) ≡ true) c connections have k d within)))
 
-  -- ---- one call more
+  -- ---- one more call
 
   abbrev own_changes : State → Call → List KeptChange
   own_changes s call =

@@ -75,7 +75,7 @@ twice (Cutting planned) = refl
 twice (Checking c) = refl
 twice (Finished f) = refl
 
--- what rows lead to is what they lead to again
+-- rows that are reopened lead to the same state again
 stored_twice : (s : State) (trail : List Noted)
     → stored_state (stored_state s trail) trail ≡ stored_state s trail
 stored_twice s trail =
@@ -185,7 +185,7 @@ never_bad db officer digest entries s trail place h has are within (CantGoOn.sto
 never_bad db officer digest entries s trail place h has are within
     (CantGoOn.full found whole closing finds leads open_ones full at) = at
 
--- ---- what comes of reopening
+-- ---- the result of reopening
 
 -- a table has one list of rows
 one_list : (db : Trees) (a b : List Entry) → HasRows db a → HasRows db b → a ≡ b

@@ -1,4 +1,4 @@
--- Rows, one after the other.
+-- Rows, one after another.
 use Rattle.std.proofs.Common.{◌≡◌, ◌∙◌, ℕ, suc, ◌+◌, List, [], ◌∷◌, ◌++◌, drop, get_or, length, refl, sym, ap, subst, arith, append_assoc, length-append}
 use Rattle.mpw_events.specs.History.{Desk}
 use Rattle.mpw_events.specs.declared.keeper.KeptChange.{KeptChange}
@@ -21,7 +21,7 @@ folds_part d [] more last f = (d, refl, f)
 folds_part d (e ∷ first) more last (near, restores, f) =
     let p = folds_part near first more last f in (p.0, (near, restores, p.1), p.2)
 
--- ---- one row more
+-- ---- one more row
 
 -- a row among the others, or the last one
 pub data Splits (entries : List Entry) (row : Entry) (first : List Entry) (next : Entry) : Type 0
@@ -69,7 +69,7 @@ rows_append place (kept ∷ first) more =
     ap (λ l. row_of place kept ∷ l) (rows_append (place + 1) first more
     ∙ ap (λ p. rows_from (place + 1) first ++ rows_from p more) (omega arith))
 
--- rows behind others, whose changes come behind those of these
+-- rows after others, whose changes come after those of these
 pub rows_behind : (entries : List Entry) (first more : List KeptChange)
     → (entries ++ rows_from (length entries + 1) first)
     ++ rows_from (length (entries ++ rows_from (length entries + 1) first) + 1) more
@@ -81,7 +81,7 @@ rows_behind entries first more =
     (omega (arith, length-append entries rows, length_rows (length entries + 1) first))
     ∙ ap (λ l. entries ++ l) (sym (rows_append (length entries + 1) first more))
 
--- the end of one connection, and behind it those of others
+-- the end of one connection, and after it those of others
 pub ends_behind : (entries : List Entry) (c : ℕ) (connections : List ℕ)
     → (entries ++ gone_row (length entries + 1) c ∷ [])
     ++ gone_rows (length (entries ++ gone_row (length entries + 1) c ∷ []) + 1) connections

@@ -1,4 +1,4 @@
--- A row that is stored of a call leads on, from the state that the rows of before lead to.
+-- A row that is stored for a call leads on, from the state that the earlier rows lead to.
 use Rattle.std.proofs.Common.{◌≡◌, ◌∙◌, ◌<◌, ◌≤◌, ◌^◌, ℕ, zero, suc, ◌+◌, true, false, List, [], ◌∷◌, ◌++◌, map, get_or, Some, refl, sym, ap, subst, arith}
 use Rattle.std.specs.Prelude.{All, is_some}
 use Rattle.std.specs.Fmt.{decimal}
@@ -43,7 +43,7 @@ use Rattle.mpw_reopening_laws.specs.Leading.{stored_state}
 use Rattle.mpw_reopening_laws.proofs.StoredOutcomes.{Same, request_same, stored_outcome}
 use Rattle.mpw_reopening_laws.proofs.Working.{IsDone, cutting_run, finished_state, work_done}
 
--- each desk whose state is that which rows lead to accepts the row, and then has the next such state
+-- each desk whose state is one that rows lead to accepts the row, and then has the next such state
 pub record RowLeads (s : State) (trail : List Noted) (row : Entry) (s' : State)
     (trail' : List Noted) : Type 0 where
   pub some : (d : Desk) → state_of d ≡ stored_state s trail → (near : Desk) × Restores d row near
@@ -76,7 +76,7 @@ state_behind d e near u desk is =
     ap state_of (desk ∙ behind_one d e) ∙ again_state d e
     ∙ ap (λ (x : State). with_trail x e (event_outcome x e)) is
 
--- the plan of a run that is checked, as the rows of before have it
+-- the plan of a run in `Checking`, as the earlier rows have it
 pub plan_stored : (s : State) (trail : List Noted) (d : Desk) (c : Checks)
     → state_of d ≡ stored_state s trail → s.run.phase ≡ Checking c
     → plan_for c.planned.snapshot ≡ Some c.planned.plan
@@ -213,7 +213,8 @@ module _ (s : State) (trail : List Noted) (place connection : ℕ)
 
 -- ---- finished runs
 
--- the run of the state checks its tiles, each of which has an answer now, and the book is of the layout
+-- the run of the state is in `Checking`, each of its tiles has an answer now, and the book is that of the
+-- layout
 pub record Finishes (s : State) (c : Checks) (book : List Marker) : Type 0 where
   pub phase : s.run.phase ≡ Checking c
   pub snapshot : IsSnapshot c.planned.snapshot
@@ -300,7 +301,7 @@ module _ (law : AnswersMakeTheLayout) (computes : StitchedComputes)
           desk = refl;
         }
 
-    -- whoever works it off
+    -- whatever computes its answers
     finished_left : (d near : Desk) (a : CutWindows) (others : List FoundMarkers)
         (kept : KeptChange) → state_of d ≡ stored_state s trail → AreFound a others
         → changes_by d (event.Cut a ∷ map event.Tile others) ≡ kept ∷ []

@@ -40,7 +40,7 @@ pub sound_phase : (r : Run) (c : Checks) → r.phase ≡ Checking c → IsSoundR
     → AreSound r.number c
 sound_phase r c is h = subst (IsSound r.number) is h
 
--- the windows of a snapshot came
+-- the windows of a snapshot are handed in
 pub sound_begins : (number : ℕ) (planned : Planned) (a : CutWindows) → IsSnapshot planned.snapshot
     → IsCutAnswer a → a.job.snapshot ≡ planned.snapshot
     → IsSound number (Checking (let c : Checks = record {
@@ -59,7 +59,7 @@ pub answer_right : (r : Run) (f : FoundMarkers) (c : Checks) (x : Tile) → IsAs
 answer_right r f c x asked right =
     subst (λ (j : TileJob). Answers j f.markers) asked.job right
 
--- the markers of a tile that isn't the last came
+-- the markers of a tile that isn't the last are handed in
 pub sound_more : (r : Run) (f : FoundMarkers) (c : Checks) (x : Tile) → IsAsked r f c x
     → IsTileAnswer f → (answered (tiles_with c f x) ≡ tiles c.planned.plan → ⊥)
     → AreSound r.number c → AreSound r.number (with_tiles c (tiles_with c f x))
@@ -121,7 +121,7 @@ sound_on s call s' (Does.answered f o ev told g r (Answered.last c x asked reply
 number_is : {r q : Run} → r ≡ q → r.number ≡ q.number
 number_is is = ap (λ (r : Run). r.number) is
 
--- one more at most
+-- at most one more
 pub number_on : (s : State) (call : Call) (s' : State) → Does s call s'
     → s'.run.number ≤ s.run.number + 1
 number_on s call s' (Does.begun p began stood planned e) = omega (arith, number_is e)

@@ -1,4 +1,5 @@
--- What a request comes to in a state that rows lead to: if it changes the state of the desk that stored them, it changes this one alike.
+-- The outcome of a request in a state that rows lead to: if it changes the state of the desk that stored
+-- them, it changes this one in the same way.
 use Rattle.std.proofs.Common.{◌≡◌, ℕ, true, false, List, Option, Result, Ok, Err, refl, sym, ap, subst}
 use Rattle.mpw_rbac.specs.Policy.{Policy}
 use Rattle.mpw_rbac.specs.Rows as rows
@@ -50,13 +51,13 @@ stored_outcome o trail = record {
   changes = true;
 }
 
--- a request changes nothing, or changes both states alike
+-- a request changes nothing, or changes both states in the same way
 pub data Same (s : State) (trail : List Noted) (o other : Outcome) : Type 0 where
   stays : o.changes ≡ false → stored_state o.state trail ≡ stored_state s trail
       → Same s trail o other
   moves : o.changes ≡ true → other ≡ stored_outcome o trail → Same s trail o other
 
--- ---- what asks of the run
+-- ---- tests of the run
 
 rest_same : (phase : Phase)
     → checking.at_rest (run.restarted_phase phase) ≡ checking.at_rest phase
@@ -124,7 +125,7 @@ sign_row_same s connection name =
     Ok (signing.by_user s.policy connection n))
     (found_same s.run.phase)
 
--- ---- each row
+-- ---- each decision table
 
 policy_same : (s : State) (trail : List Noted) (row : Result Policy Refusal)
     → Same s trail (policy_outcome s row) (policy_outcome (stored_state s trail) row)

@@ -1,4 +1,4 @@
--- A call leaves the state that rows lead to, or it is as the step of a change that was stored.
+-- A call leaves the state that rows lead to unchanged, or is the step of a change that was stored.
 use Rattle.std.proofs.Common.{◌≡◌, ◌∙◌, ℕ, Bool, true, false, List, refl, sym, ap}
 use Rattle.std.proofs.lemmas.Bool.{true≢false}
 use Rattle.mpw_rbac.specs.Policy.{Policy}
@@ -20,7 +20,7 @@ use Rattle.mpw_reopening_laws.proofs.Working.{unfinished_state}
 
 -- ---- what changes nothing that is stored
 
--- an outcome that is no change leaves the state that rows lead to
+-- an outcome that is no change leaves the state that rows lead to unchanged
 abbrev IsQuiet : State → List Noted → Outcome → Type 0
 IsQuiet s trail o = o.changes ≡ false → stored_state o.state trail ≡ stored_state s trail
 
@@ -37,7 +37,7 @@ run_quiet s trail o same none =
     ∙ ap (λ (r : run.Run). (let x : State = record (stored_state s trail) { run = r } in x))
     (same none)
 
--- what a run looks at, by its phase
+-- what a run checks, by its phase
 again : (r : run.Run) (phase : Phase) → r.phase ≡ phase
     → (let q : run.Run = record { number = r.number; phase = run.restarted_phase phase } in q)
     ≡ run.restarted r

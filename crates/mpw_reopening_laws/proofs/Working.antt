@@ -1,5 +1,5 @@
--- A run that is worked off again: the windows of its snapshot and the markers of tiles come, and it is finished or isn't yet. Its book is that of the
--- flat layout, whoever computed the windows and the markers.
+-- A run that is executed again: the windows of its snapshot and the markers of tiles are handed in, and it is
+-- finished or isn't yet. Its book is that of the flat layout, whoever computed the windows and the markers.
 use Rattle.std.proofs.Common.{◌≡◌, ◌∙◌, ℕ, Bool, true, false, List, [], ◌∷◌, ◌++◌, map, length, Some, refl, sym, ap, subst}
 use Rattle.std.specs.Prelude.{All, if◌then◌else◌}
 use Rattle.std.proofs.lemmas.List.Elements.{All-head, All-tail}
@@ -48,14 +48,14 @@ finished_state s planned book = record s {
   waivers = none_asked (length book);
 }
 
--- the state but for its run, which looks at that and isn't finished
+-- the state without its run, which checks that and isn't finished
 pub record GoesOn (first : State) (planned : Planned) (t : State) : Type 0 where
   pub now : run.Run
   pub state : t ≡ with_run first now
   pub back : run.restarted now ≡ cutting_run first.run.number planned
   pub sound : IsSoundRun now
 
--- or that is finished
+-- or which is finished
 pub record IsDone (first : State) (planned : Planned) (t : State) : Type 0 where
   pub book : List Marker
   pub layout : AreLayoutMarkers planned.snapshot book
@@ -69,7 +69,7 @@ data Comes (first : State) (planned : Planned) (d : Desk) (e : Event) : Type 0 w
 cutting_is : (p q : Planned) → Cutting p ≡ Cutting q → p ≡ q
 cutting_is p q e = cc
 
--- what is looked at, by the phase
+-- what is checked, by the phase
 looks_at : (number : ℕ) (r : run.Run) (phase : Phase) (planned : Planned) → r.phase ≡ phase
     → run.restarted r ≡ cutting_run number planned
     → run.restarted_phase phase ≡ Cutting planned
@@ -93,7 +93,7 @@ next_state : (d : Desk) (e : Event) (u : State) → state_of d ≡ u
 next_state d e u is =
     again_state d e ∙ ap (λ (x : State). with_trail x e (event_outcome x e)) is
 
--- an event of the run that doesn't finish it leaves the state but for the run
+-- an event of the run that doesn't finish it changes nothing but the run
 pub unfinished_state : (u : State) (o : run.Outcome) → finishes o.reply ≡ false
     → (of_run u o).state ≡ with_run u o.run
 unfinished_state u o none =
@@ -118,7 +118,7 @@ last_state u o number planned book last is =
       waivers = none_asked (run.book_size q.phase);
     } in x)) is
 
--- an event of a run tells the trail nothing
+-- an event of a run adds nothing to the trail
 abbrev IsOfRun : Event → State → run.Outcome → Type 0
 IsOfRun e u o = with_trail u e (event_outcome u e) ≡ (of_run u o).state
 
@@ -242,7 +242,7 @@ tile_comes law computes first planned d f snapshot plan right g = by (answers g.
     by (Answered.last c x asked told same all) =
         Comes.ends (last c x asked (ap finishes told) same all)
 
--- a run that is finished stays so
+-- a finished run stays so
 done_on : (first : State) (planned : Planned) (d : Desk) (f : FoundMarkers)
     → IsDone first planned (state_of d)
     → IsDone first planned (state_of (answering d (event.Tile f) true).desk)
@@ -310,7 +310,8 @@ tiles_end law computes first planned d (f ∷ found) snapshot plan right g =
     by (Comes.goes far none) rest = on none (rest far)
     by (Comes.ends end) rest = Ended.done (done_all first planned near found end)
 
--- the windows of a run that is cutting and the markers of its tiles leave it finished, where something had to be kept
+-- the windows and the markers of the tiles of a run in `Cutting` leave it finished, if something had to be
+-- stored
 pub work_done : AnswersMakeTheLayout → StitchedComputes → (d : Desk) (planned : Planned)
     (a : CutWindows) (found : List FoundMarkers) (kept : KeptChange)
     → (state_of d).run.phase ≡ Cutting planned → IsSnapshot planned.snapshot

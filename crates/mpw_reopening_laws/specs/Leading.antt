@@ -1,5 +1,6 @@
--- What the rows of a store lead to: the state of the desk that stored them. A run whose tiles were checked is back where it is cut, as
--- after a restart, and the trail has just the requests that were stored.
+-- What the rows of a store lead to: the state of the desk that stored them. A run whose tiles were being
+-- checked is back at its cutting, as after a restart, and the trail has exactly the requests that were
+-- stored.
 use Rattle.std.specs.Prelude.{◌≡◌, ◌≤◌, ℕ, false, List, [], ◌∷◌, ◌++◌, length, if◌then◌else◌}
 use Rattle.mpw_roles.specs.Hierarchy.{Name}
 use Rattle.mpw_rbac.specs.Rows.{end_sessions}
@@ -16,7 +17,7 @@ use Rattle.mpw_restoring.specs.Restoring.{Folds, Restores}
 
 -- ---- calls between two restarts
 
--- a request is one by its type; and a restart isn't among these calls
+-- a request is valid by its type; and a restart isn't among these calls
 abbrev pub IsStorable : Event → Type 0
 IsStorable (event.Ask connection request) = IsRequest request
 IsStorable (event.Gone connection) = Unit {0}
@@ -31,11 +32,11 @@ AreStorable (call ∷ calls) = IsStorable call.event × AreStorable calls
 
 -- ---- states
 
--- the state that rows lead to, where the desk that stored them had this state: with this trail, and open
+-- the state that rows lead to, by the state of the desk that stored them: with this trail, and open
 abbrev pub stored_state : State → List Noted → State
 stored_state s trail = record s { run = restarted s.run; trail = trail; closed = false }
 
--- the state of the desk that is reopened, once it is restarted: no session is open
+-- the state of the reopened desk, after its restart: no session is open
 abbrev pub reopened_state : State → List Noted → State
 reopened_state s trail = record s {
   policy = end_sessions s.policy;
@@ -44,7 +45,7 @@ reopened_state s trail = record s {
   closed = false;
 }
 
--- what the trail keeps of a call, if its change was stored
+-- what the trail has of a call, if its change was stored
 abbrev pub entries_stored : State → Call → List Noted
 entries_stored s call = if (step s call.event call.kept).changes
     then entries_of s.policy (step s call.event call.kept).state.policy call.event
@@ -58,8 +59,9 @@ trail_stored s (call ∷ calls) =
 
 -- ---- rows
 
--- The rows can be reopened, and then lead to the state: whatever desk the first of them led to, it accepts the next, and each desk that
--- all of them lead to has the state. No more runs were accepted than there are rows.
+-- The rows can be reopened, and then lead to the state: whatever desk the first of them led to, it accepts
+-- the next, and each desk that all of them lead to has the state. At most as many runs were accepted as there
+-- are rows.
 pub record LeadTo (officer : Name) (digest : List ℕ) (entries : List Entry) (s : State)
     (trail : List Noted) : Type 0 where
   pub accepted : (first : List Entry) (next : Entry) (others : List Entry) (d : Desk)

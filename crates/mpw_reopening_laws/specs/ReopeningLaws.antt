@@ -20,7 +20,7 @@ use Rattle.mpw_stored_rows.specs.Rows.{Entry}
 use Rattle.mpw_stored_rows.specs.declared.row.TheConstants.{MAX_ROWS}
 use Rattle.mpw_reopening_laws.specs.Leading.{AreStorable, LeadTo, reopened_state, trail_stored}
 
--- the rows of the changes that a legal history had kept lead to its state
+-- the rows of the stored changes of a legal history lead to its state
 abbrev pub HistoriesCanBeReopened : Type 0
 HistoriesCanBeReopened = (officer : Name) (digest : List ℕ) (calls : List Call)
     → IsRightHistory (new_state officer digest) calls → AreStorable calls
@@ -28,8 +28,9 @@ HistoriesCanBeReopened = (officer : Name) (digest : List ℕ) (calls : List Call
     → LeadTo officer digest (rows_from 1 (changes_of (new_state officer digest) calls))
     (state_after (new_state officer digest) calls) (trail_stored (new_state officer digest) calls)
 
--- A store whose rows can be reopened is reopened: a desk is made from its rows, the ends of the open sessions are stored, and the desk is restarted and
--- goes on. Then the rows of all changes that are known, with those of the desk that goes on, can be reopened again, and lead to that desk's state
+-- A store whose rows can be reopened is reopened: a desk is made from its rows, the ends of the open sessions
+-- are stored, and the desk is restarted and goes on. Then the rows of all changes that are known, with those
+-- of the desk that goes on, can be reopened again, and lead to that desk's state
 abbrev pub StoresCanBeReopenedAgain : Type 0
 StoresCanBeReopenedAgain = (officer : Name) (digest : List ℕ) (found : List Entry) (s : State)
     (trail : List Noted) (whole : Desk) (closing : List ℕ) (known : List KeptChange)
@@ -43,7 +44,7 @@ StoresCanBeReopenedAgain = (officer : Name) (digest : List ℕ) (found : List En
     → LeadTo officer digest (rows_from 1 (known ++ changes_of again calls))
     (state_after again calls) (trail ++ trail_stored again calls)
 
--- reopening a store that has such rows gives a desk of that state, but that its sessions are ended
+-- reopening a store with such rows gives a desk of that state, except that its sessions are ended
 abbrev pub ReopenedDesksHaveTheState : sql.State → sql.State → Type 0
 ReopenedDesksHaveTheState before later = (officer : Name) (digest : List ℕ)
     (entries : List Entry) (s : State) (trail : List Noted) (d : Desk) (count : ℕ)

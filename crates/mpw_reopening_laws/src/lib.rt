@@ -1,6 +1,6 @@
-//! What a desk stores can be reopened: laws over the definitions of the desk, of the rows of a store, and of reopening.
+//! What a desk stores can be reopened: laws of the definitions of the desk, of the rows of a store, and of reopening.
 //!
-//! The functions do nothing: their contracts are the laws. No program links this crate.
+//! The functions do nothing. Their contracts are the laws. No program links this crate.
 #![tactic(auto)]
 
 mod reopening;

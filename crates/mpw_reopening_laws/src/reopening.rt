@@ -7,9 +7,9 @@ use mpw_run::stitched_computes;
 use mpw_stored_text::stored_requests_are_read;
 use sqlite::{Alter, Connection};
 
-/// The changes that a legal history had stored, as rows, are accepted one after the other by a new desk of the same officer. Whatever the runs are
-/// computed by, it then has the history's state: the policy with its sessions, the submissions, the wafer, the run, its markers and the waivers. A run whose
-/// tiles were checked is back where it is cut, and the trail has the requests that were stored.
+/// A new desk of the same officer accepts the stored changes of a legal history, as rows, one after another. Whatever computes the runs, it
+/// then has the history's state: the policy with its sessions, the submissions, the wafer, the run, its markers and the waivers. A run
+/// whose tiles were being checked is back at its cutting, and the trail has the requests that were stored.
 pub fn histories_can_be_reopened()
     ensures { HistoriesCanBeReopened }
 {
@@ -19,8 +19,8 @@ pub fn histories_can_be_reopened()
     stored_requests_are_read();
 }
 
-/// So can a store that was reopened: with the ends of the sessions that were open, and the changes of the desk that went on, its rows lead to that desk's
-/// state. Thus the rows of before lead to the same state at each later reopening.
+/// A store that was reopened can be reopened again: with the ends of the open sessions, and the changes of the desk that went on, its rows
+/// lead to that desk's state. So the earlier rows lead to the same state at each later reopening.
 pub fn stores_can_be_reopened_again()
     ensures { StoresCanBeReopenedAgain }
 {
@@ -30,12 +30,13 @@ pub fn stores_can_be_reopened_again()
     stored_requests_are_read();
 }
 
-/// Such rows are never reported as bad, in any store. One that has them is refused with a place only if it has no room for the ends of the open sessions.
+/// Such rows are never reported as bad, in any store. A store that has them is refused with a place only if it has no room for the ends of
+/// the open sessions.
 pub fn rows_are_never_bad<S: Alter>(_store: &Connection<S>)
     ensures { RowsAreNeverBad (state S.Store _store.now) }
 {}
 
-/// Reopening any store that has such rows gives a desk with the state of the one that stored them, but for its sessions, which are ended.
+/// Reopening any store with such rows gives a desk with the state of the one that stored them, except that its sessions are ended.
 pub fn reopened_desks_have_the_state<S: Alter>(_before: &Connection<S>, _later: &Connection<S>)
     ensures { ReopenedDesksHaveTheState (state S.Store _before.now) (state S.Store _later.now) }
 {}

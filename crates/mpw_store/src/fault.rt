@@ -10,13 +10,13 @@ use thiserror::Error;
 /// Why a store could not be opened, read or added to.
 #[derive(Clone, Copy, Debug, PartialEq, Eq, Error)]
 pub enum StoreFault {
-    /// The database failed, and tells why.
+    /// The database failed. It says why.
     #[error("{0}")]
     Sql(SqlError),
-    /// The row at that place is none that can stand there.
+    /// The row at that place isn't one that can be there.
     #[error("row {0} is no change that the desk accepts there")]
     Rows(u32),
-    /// There was no room.
+    /// Memory ran out.
     #[error("out of memory")]
     Memory,
     /// The database has something else than the table of changes.

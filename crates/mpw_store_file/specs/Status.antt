@@ -5,7 +5,7 @@ use Rattle.mpw_store.specs.declared.fault.StoreFault.TheVariants as store
 use Rattle.mpw_store_file.specs.declared.fault.FileFault.{FileFault}
 use Rattle.mpw_store_file.specs.declared.fault.FileFault.TheVariants as file
 
--- 5 where memory was wanting, else 3
+-- 5 if memory ran out, else 3
 abbrev pub status_of_store : StoreFault → ℕ
 status_of_store (store.Sql error) = 3
 status_of_store (store.Rows place) = 3
@@ -14,6 +14,10 @@ status_of_store store.Other = 3
 
 abbrev pub status_of : FileFault → ℕ
 status_of file.Missing = 3
+status_of file.Empty = 3
+status_of file.Taken = 3
+status_of file.Shared = 3
+status_of file.BareLog = 3
 status_of file.NoFile = 3
 status_of file.Linked = 3
 status_of file.Unmade = 3

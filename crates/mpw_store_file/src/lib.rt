@@ -1,11 +1,18 @@
-//! The file of a store: where it has to be, and who may hold it.
+//! The file of a store: under which conditions it is opened, and a copy of it that is only read.
 //!
-//! A file is opened for one process at a time. One that isn't there is made, so that its owner alone may read it: it holds the digests
-//! of all tokens. A file with two names is refused, since the database's log lies beside one of them.
+//! A file is opened for one process at a time. One that isn't there is made, so that its owner alone may read it: it has the digests
+//! of all tokens. A file with two names is refused, since the database's log is next to one of them. What is found under the name is looked at
+//! first (`found`), and one function decides by it (`terms`), so that nothing is made or written next to what is refused.
 #![tactic(auto)]
 
+mod copy;
 mod fault;
 mod file;
+mod found;
+mod terms;
 
+pub use copy::{StoreCopy, read_store};
 pub use fault::{FileFault, status_of_store};
-pub use file::{FileConnection, open_file, open_or_make};
+pub use file::{FileConnection, Opened, open_store};
+pub use found::{EMPTY_LOG, Found, Kind};
+pub use terms::{Terms, opening, reading};

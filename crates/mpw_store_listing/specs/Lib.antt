@@ -1,3 +1,4 @@
 pub mod Listing
 pub mod Checking
+pub mod Failing
 pub mod Payload

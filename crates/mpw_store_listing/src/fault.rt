@@ -1,4 +1,4 @@
-//! Why rows aren't listed.
+//! Why rows can't be listed.
 ghost use Rattle.std.specs.Prelude.{◌≡◌};
 ghost use Rattle.mpw_store_listing.specs.declared.fault.ListingFault.TheVariants as told;
 
@@ -6,7 +6,7 @@ use mpw_store::StoreFault;
 use mpw_wire::WireFault;
 use thiserror::Error;
 
-/// Why rows aren't listed.
+/// Why rows can't be listed.
 #[derive(Clone, Copy, Debug, Error)]
 pub enum ListingFault {
     /// The store's rows can't be read.

@@ -1,7 +1,7 @@
-//! What a store holds, for who audits it: its rows as a table, a row's payload, and whether every row is one.
+//! The contents of a store, for an audit: its rows as a table, a row's payload, and whether every row is valid.
 //!
-//! No desk is made of the rows: who reads them needs no officer, and learns what was accepted, by which connection, in which order. That a desk
-//! accepts them is told by whoever reopens the store.
+//! No desk is made from the rows. So an auditor needs no officer, and learns what was accepted, by which connection, in which order. Only
+//! reopening the store shows that a desk accepts the rows.
 #![tactic(auto)]
 
 mod checked;

@@ -1,7 +1,8 @@
 -- What a keeper begins with over a store that was reopened.
-use Rattle.std.proofs.Common.{◌≡◌, ◌∙◌, ℕ, ◌+◌, List, [], ◌∷◌, ◌++◌, length, map, Option, None, Some, option_map, inl, inr, refl, sym, ap, subst, length-append}
-use Rattle.std.specs.Prelude.{IfSome}
+use Rattle.std.proofs.Common.{◌≡◌, ◌∙◌, arith, ℕ, ◌+◌, List, [], ◌∷◌, ◌++◌, length, map, Option, None, Some, option_map, true, false, inl, inr, refl, sym, ap, subst, length-append}
+use Rattle.std.specs.Prelude.{◌==◌, IfSome}
 use Rattle.std.proofs.lemmas.Bool.{cases_Bool}
+use Rattle.std.proofs.lemmas.Bool.Decides.{nat_tests}
 use Rattle.sqlite.specs.State.{State, HasCleanDisk, Opens}
 use Rattle.sqlite.specs.View.{doubt}
 use Rattle.mpw_events.specs.History.{Desk, new_desk}
@@ -21,9 +22,8 @@ use Rattle.mpw_reopen.proofs.ClosingLemmas.{rows-length}
 use Rattle.mpw_settings.specs.declared.officer.Officer.{Officer}
 use Rattle.mpw_store.specs.declared.fault.StoreFault.{StoreFault}
 use Rattle.mpw_store.specs.declared.fault.StoreFault.TheVariants as store
-use Rattle.mpw_store_file.specs.declared.fault.FileFault.TheVariants as file
 use Rattle.mpw_stored_script.specs.Serving.{BeginsWith, IsUnopened}
-use Rattle.mpw_stored_script.specs.declared.fault.StoredFault.TheVariants.{File}
+use Rattle.mpw_stored_script.specs.Status.{refused_as}
 
 pub known_clean : (s : State) (count : ℕ) (known : List KeptChange) → kept_in s count ≡ Some known
     → HasCleanDisk s
@@ -115,11 +115,26 @@ pub idle_of : (s : State) → Opens s → IsIdle s
 idle_of s opens =
     record { is_open = opens.is_open; alone = opens.autocommit; settled = sym opens.clean }
 
+rows_refused : (officer : Officer) (s s' : State) (place : ℕ)
+    → (HasCleanDisk s' → CantGoOn officer.name officer.digest s place)
+    → IsUnopened officer s s' (refused_as (store.Rows place))
+rows_refused officer s s' place bad = elim (cases_Bool (place == 1)) [
+  | inl first ↦ rw first (λ clean. subst (CantGoOn officer.name officer.digest s) (is_first place first) (bad clean))
+  | inr later ↦ rw later (is_later place later, bad)
+]
+  where
+    is_first : (place : ℕ) → (place == 1) ≡ true → place ≡ 1
+    is_first place first = grind (arith, nat_tests)
+
+    is_later : (place : ℕ) → (place == 1) ≡ false → place ≡ 1 → ⊥
+    is_later place later same = let e : true ≡ false = subst (λ p. (p == 1) ≡ false) same later in cc
+
 pub unopened_by : (officer : Officer) (s s' : State) (fault : StoreFault)
     → (HasCleanDisk s' → (place : ℕ) → fault ≡ store.Rows place
     → CantGoOn officer.name officer.digest s place) → (fault ≡ store.Other → IsOther s)
-    → IsUnopened officer s s' (File (file.Store fault))
-unopened_by officer s s' (store.Rows place) bad other = λ clean. bad clean place refl
+    → IsUnopened officer s s' (refused_as fault)
+unopened_by officer s s' (store.Rows place) bad other =
+    rows_refused officer s s' place (λ clean. bad clean place refl)
 unopened_by officer s s' (store.Sql error) bad other = tt
 unopened_by officer s s' store.Memory bad other = tt
 unopened_by officer s s' store.Other bad other = other refl

@@ -13,7 +13,7 @@ use Rattle.mpw_store_file.specs.declared.fault.FileFault.{FileFault}
 use Rattle.mpw_stored_script.specs.Serving.{IsUnopened, ServesStore}
 use Rattle.mpw_stored_script.specs.Status.{end_told, exit_of}
 use Rattle.mpw_stored_script.specs.declared.fault.StoredFault.{StoredFault}
-use Rattle.mpw_stored_script.specs.declared.fault.StoredFault.TheVariants.{File, Full, Wire}
+use Rattle.mpw_stored_script.specs.declared.fault.StoredFault.TheVariants.{File, Stranger, Full, Wire}
 use Rattle.mpw_wire.specs.Reading.{read_failures}
 use Rattle.mpw_wire.specs.Writing.{fault_of}
 use Rattle.mpw_wire.specs.declared.fault.WireFault.TheVariants as wire
@@ -29,7 +29,7 @@ pub record EndsAsServed (officer : Officer) (s s' : State) (d d' : Devices)
   pub leaves : LeavesNothingPending (fault_of served.ended) d.pending d'.pending
   pub ends : ended ≡ end_told served.ended fault
 
--- so it was; or none is served over the store, which is told with its reason, and the devices are as before
+-- so it was; or none is served over the store, which is reported with its reason, and the devices are as before
 pub data EndsAs (officer : Officer) (s s' : State) (d d' : Devices) :
     Result End StoredFault → Type 0 where
   served : (ended : Result End StoredFault) → EndsAsServed officer s s' d d' ended
@@ -42,13 +42,18 @@ abbrev pub ExitsWith : Officer → State → State → Devices → Devices → �
 ExitsWith officer s s' d d' status =
     (ended : Result End StoredFault) × EndsAs officer s s' d d' ended × (status ≡ exit_of ended)
 
--- how a script over a file ends the program, and with which status: the file isn't opened, or its rows lead to no desk; there is no room to buffer
--- the devices; no number is left for the connection; or a connection is served between devices that had not failed, and the status is that of its
--- end, or of why a change could not be stored
+-- so it does between devices that began so
+abbrev pub EndsOver : Officer → State → State → Devices → ℕ → Type 0
+EndsOver officer s s' d status = (d' : Devices) × ExitsWith officer s s' d d' status
+
+-- how a script over a file ends the program, and with which status: the file isn't opened, or its rows lead to no desk; it is another officer's;
+-- there is no room to buffer the devices; no number is left for the connection; or a connection is served between devices that had not failed, and the
+-- status is that of its end, or of why a change could not be stored
 pub data EndsOverFile : ℕ → Type 0 where
   unopened : (fault : FileFault) (status : ℕ) → status ≡ exit_of (Err (File fault))
       → EndsOverFile status
   unbuffered : (status : ℕ) → status ≡ exit_of (Err (Wire wire.Memory)) → EndsOverFile status
+  strange : (status : ℕ) → status ≡ exit_of (Err Stranger) → EndsOverFile status
   unnumbered : (status : ℕ) → status ≡ exit_of (Err Full) → EndsOverFile status
   served : (d d' : Devices) (connection : ℕ) (begun left : KeptDesk) (served : Served)
       (fault : Option StoreFault) (status : ℕ) → d.failed_reads ≡ 0 → d.failed_writes ≡ 0

@@ -1,3 +1,4 @@
 pub mod Ending
+pub mod Opening
 pub mod Serving
 pub mod Status

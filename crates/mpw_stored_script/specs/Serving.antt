@@ -1,5 +1,5 @@
 -- A connection over the desk of a store.
-use Rattle.std.specs.Prelude.{◌≡◌, ◌↔◌, ◌≤◌, ◌^◌, ℕ, ◌+◌, List, ◌++◌, length, Option, None, Some, true}
+use Rattle.std.specs.Prelude.{◌≡◌, ◌≢◌, ◌↔◌, ◌≤◌, ◌^◌, ℕ, ◌+◌, List, ◌++◌, length, Option, None, Some, true, IsTrue, ⊤}
 use Rattle.sqlite.specs.State.{HasCleanDisk, State}
 use Rattle.mpw_events.specs.History.{Desk, KeptDesk, answering, kept_desk, new_desk}
 use Rattle.mpw_events.specs.declared.event.Event.TheVariants as event
@@ -18,7 +18,7 @@ use Rattle.mpw_store.specs.declared.fault.StoreFault.{StoreFault}
 use Rattle.mpw_store.specs.declared.fault.StoreFault.TheVariants as store
 use Rattle.mpw_store_file.specs.declared.fault.FileFault.TheVariants as file
 use Rattle.mpw_stored_script.specs.declared.fault.StoredFault.{StoredFault}
-use Rattle.mpw_stored_script.specs.declared.fault.StoredFault.TheVariants.{File, Full, Wire, Closed}
+use Rattle.mpw_stored_script.specs.declared.fault.StoredFault.TheVariants.{File, Stranger, Full, Wire, Closed}
 
 -- the store's rows lead to this desk. These rows, with the ends of the sessions that they left, are just the rows of the changes that are
 -- kept, and each tells its change
@@ -34,8 +34,8 @@ pub record BeginsWith (officer : Officer) (s : State) (desk : Desk) (kept : List
   pub rows : found ++ gone_rows (length found + 1) closing ≡ rows_from 1 kept
   pub told : changes_in (rows_from 1 kept) ≡ Some kept
 
--- a connection of that number is served from a desk on with what its keeper has. There is a fault just where a change could not be kept,
--- and without one the store has just the changes that are kept, while its disk is clean
+-- a connection of that number is served from a desk on with what its store writer has. There is a fault just if a change could not be stored,
+-- and the store has just the changes that were, also after a fault, while its disk is clean and the database is open, as it is without a fault
 pub record ServesOver (connection : ℕ) (d : KeptDesk)
     (input input' output output' : Option (List ℕ)) (served : Served) (fault : Option StoreFault)
     (s' : State) : Type 0 where
@@ -43,7 +43,8 @@ pub record ServesOver (connection : ℕ) (d : KeptDesk)
   pub serves : Serves (IsAnswer connection) (IsGone connection) input input' output output' d left
       served
   pub told : (fault ≡ None) ↔ (left.failures ≡ 0)
-  pub stored : HasCleanDisk s' → fault ≡ None → IsKeptIn s' left.kept
+  pub stored : HasCleanDisk s' → IsTrue s'.is_open → IsKeptIn s' left.kept
+  pub is_open : HasCleanDisk s' → fault ≡ None → IsTrue s'.is_open
 
 -- a connection, whose number is above each before, is served over the store, from that desk on; and where the keeper's list is known it
 -- begins so
@@ -58,18 +59,24 @@ pub record ServesStore (officer : Officer) (s s' : State)
   pub over : ServesOver connection (kept_desk desk kept 0) input input' output output' served fault
       s'
 
--- why no connection is served over the store: a bad row is reported only if the rows can't be there, another database only if it is one, and
--- that no number is left only if the greatest one was given
+-- why no connection is served over the store: a bad row is reported only if the rows can't be there, and another officer or token only if that is the
+-- first row; another database only if it is one, and that no number is left only if the greatest one was given
 abbrev pub IsUnopened : Officer → State → State → StoredFault → Type 0
 IsUnopened officer s s' (File (file.Store (store.Rows place))) =
-    HasCleanDisk s' → CantGoOn officer.name officer.digest s place
-IsUnopened officer s s' (File (file.Store (store.Sql error))) = Unit {0}
-IsUnopened officer s s' (File (file.Store store.Memory)) = Unit {0}
+    (place ≢ 1) × (HasCleanDisk s' → CantGoOn officer.name officer.digest s place)
+IsUnopened officer s s' (File (file.Store (store.Sql error))) = ⊤
+IsUnopened officer s s' (File (file.Store store.Memory)) = ⊤
 IsUnopened officer s s' (File (file.Store store.Other)) = IsOther s
 IsUnopened officer s s' (File file.Missing) = ⊥
+IsUnopened officer s s' (File file.Empty) = ⊥
+IsUnopened officer s s' (File file.Taken) = ⊥
+IsUnopened officer s s' (File file.Shared) = ⊥
+IsUnopened officer s s' (File file.BareLog) = ⊥
 IsUnopened officer s s' (File file.NoFile) = ⊥
 IsUnopened officer s s' (File file.Linked) = ⊥
 IsUnopened officer s s' (File file.Unmade) = ⊥
+IsUnopened officer s s' Stranger =
+    HasCleanDisk s' → CantGoOn officer.name officer.digest s 1
 IsUnopened officer s s' Full =
     (desk : Desk) × (2 ^ 32 ≤ greatest_connection desk + 1)
     × (HasCleanDisk s' → (count : ℕ) × Reopens officer.name officer.digest s s' desk count)

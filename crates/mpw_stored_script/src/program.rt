@@ -1,27 +1,30 @@
 //! What the program does with a script over a store.
-ghost use Rattle.std.specs.Prelude.{◌≡◌, None};
+ghost use Rattle.std.specs.Prelude.{◌≡◌, Err, IfErr, IfOk, IsSome, IsSomeAnd};
 ghost use Rattle.std.specs.Process.{exit_status};
 ghost use Rattle.mpw_reopen.specs.Reopening.{IsIdle};
 ghost use Rattle.mpw_serve.specs.Status.{devices};
-ghost use Rattle.mpw_stored_script.specs.Ending.{EndsAs, EndsOverFile, ExitsWith};
+ghost use Rattle.mpw_stored_script.specs.Ending.{EndsAs, EndsOver, EndsOverFile, ExitsWith};
 ghost use Rattle.mpw_stored_script.specs.Status.{end_told, exit_of};
+ghost use Rattle.mpw_stored_script.specs.declared.fault.StoredFault.TheVariants as told;
 ghost use Rattle.sqlite.specs.Held.{state};
 ghost use Rattle.sqlite.specs.State.{HasCleanDisk};
 
 use crate::fault::{StoredFault, exit_status};
+use crate::opening::open_desk;
 use crate::serving::{Stopped, serve_store};
 use mpw_events::Handler;
 use mpw_serve::{End, Executor, Progress};
-use mpw_settings::Officer;
+use mpw_settings::{Officer, Store};
 use mpw_store::StoreFault;
-use mpw_store_file::{FileConnection, open_or_make};
+use mpw_store_file::{FileConnection, FileFault};
 use mpw_wire::{Counted, Sink, Source, WireFault};
 use sqlite::{Alter, Connection};
+use std::alloc::Global;
 use std::io::{BufReader, BufWriter, Read, Write};
 use std::process::ExitCode;
 use std::thread::Threads;
 
-/// How the program ends by what came of the connection and of the store.
+/// How the program ends by the outcome of the connection and of the store.
 fn end_told(ended: Result<End, WireFault>, fault: Option<StoreFault>) -> Result<End, StoredFault>
     ensures { result ≡ end_told ended fault }
 {
@@ -32,7 +35,7 @@ fn end_told(ended: Result<End, WireFault>, fault: Option<StoreFault>) -> Result<
     }
 }
 
-/// Serves the reader to the writer as a script over a store, which is given back.
+/// Serves the reader to the writer as a script over a store, which is returned.
 fn serve<S, H, T, P, R, W>(
     executor: Executor<'_, T, P>,
     conn: Connection<S>,
@@ -62,7 +65,7 @@ where
     }
 }
 
-/// The exit status of how the program ended, where a fault is told on the standard error.
+/// The exit status of how the program ended. A fault is printed on the standard error.
 fn exit(rt: &HostRuntime, ended: &Result<End, StoredFault>) -> ExitCode
     ensures { exit_status result ≡ exit_of ended.now }
 {
@@ -72,9 +75,9 @@ fn exit(rt: &HostRuntime, ended: &Result<End, StoredFault>) -> ExitCode
     ExitCode::from(exit_status(ended))
 }
 
-/// Serves the reader to the writer as a script of this officer over a store, which is given back. A fault is told on the standard error.
+/// Serves the reader to the writer as a script of this officer over a store, which is returned. A fault is printed on the standard error.
 ///
-/// The exit status is 0 where the connection ended and each change was kept, 5 where memory was wanting, and else 3.
+/// The exit status is 0 if the connection ended and each change was stored, 5 if memory ran out for something else than a change, else 3.
 pub fn run_script_over_store<S, H, T, P, R, W>(
     rt: &HostRuntime,
     executor: Executor<'_, T, P>,
@@ -97,7 +100,90 @@ where
     (exit(rt, &ended), conn)
 }
 
-/// Closes the file of a store. Where that fails, its rows stand in the log beside it, and the standard error is told.
+/// Serves the devices as [`run_script_over_store`] does, and drops them.
+fn run_between<S, H, T, P, R, W>(
+    rt: &HostRuntime,
+    executor: Executor<'_, T, P>,
+    conn: Connection<S>,
+    officer: Officer,
+    between: (R, W),
+) -> (ExitCode, Connection<S>)
+where
+    S: Alter + Drop,
+    H: Handler + Drop,
+    T: Threads + Sync,
+    P: Progress + Drop,
+    R: Source + Drop,
+    W: Sink + Drop,
+    requires { HasCleanDisk (state S.Store conn) → IsIdle (state S.Store conn) }
+    ensures { EndsOver officer (state S.Store conn) (state S.Store result.1) (devices R.remaining R.failures W.contents W.failures W.pending between.0 between.1) (exit_status result.0) }
+{
+    let (mut reader, mut writer) = between;
+    run_script_over_store::<S, H, T, P, R, W>(
+        rt,
+        executor,
+        (conn, officer),
+        &mut reader,
+        &mut writer,
+    )
+}
+
+/// Serves the devices as a script of this officer over a store, if it was opened and there was room for them. The store is returned. A fault is
+/// printed on the standard error, and the exit status is the fault's, or as of [`run_script_over_store`].
+pub fn run_opened<S, H, T, P, R, W>(
+    rt: &HostRuntime,
+    executor: Executor<'_, T, P>,
+    store: Result<Connection<S>, FileFault>,
+    officer: Officer,
+    io: Result<(R, W), WireFault>,
+) -> (ExitCode, Option<Connection<S>>)
+where
+    S: Alter + Drop,
+    H: Handler + Drop,
+    T: Threads + Sync,
+    P: Progress + Drop,
+    R: Source + Drop,
+    W: Sink + Drop,
+    requires { IfOk store (λ conn. HasCleanDisk (state S.Store conn) → IsIdle (state S.Store conn)) }
+    ensures unopened { IfErr store (λ fault. exit_status result.0 ≡ exit_of (Err (told.File fault))) }
+    ensures unbuffered { IfOk store (λ _. IfErr io (λ fault. exit_status result.0 ≡ exit_of (Err (told.Wire fault)))) }
+    ensures served { IfOk store (λ conn. IfOk io (λ d. IsSomeAnd result.1 (λ left. EndsOver officer (state S.Store conn) (state S.Store left) (devices R.remaining R.failures W.contents W.failures W.pending d.0 d.1) (exit_status result.0)))) }
+    ensures back { IfOk store (λ _. IsSome result.1) }
+{
+    match store {
+        Ok(conn) => match io {
+            Ok(between) => {
+                let (status, conn) = run_between::<S, H, T, P, R, W>(
+                    rt, executor, conn, officer, between,
+                );
+                (status, Some(conn))
+            }
+            Err(fault) => (exit(rt, &Err(StoredFault::Wire(fault))), Some(conn)),
+        },
+        Err(fault) => (exit(rt, &Err(StoredFault::File(fault))), None),
+    }
+}
+
+/// The input and the output, buffered and counted.
+fn buffered<R: Read + Drop, W: Write + Drop>(
+    alloc: Global,
+    input: R,
+    output: W,
+) -> Result<(Counted<BufReader<R>>, Counted<BufWriter<W>>), WireFault>
+    ensures reads { IfOk result (λ d. d.0.failures ≡ 0) }
+    ensures writes { IfOk result (λ d. d.1.failures ≡ 0) }
+    ensures memory { IfErr result (λ fault. fault ≡ WireFault.Memory) }
+{
+    let Ok(input) = BufReader::new(alloc, input) else {
+        return Err(WireFault::Memory);
+    };
+    let Ok(output) = BufWriter::new(alloc, output) else {
+        return Err(WireFault::Memory);
+    };
+    Ok((Counted::new(input), Counted::new(output)))
+}
+
+/// Closes the file of a store. If that fails, its rows are in the log next to it, and the standard error gets a warning.
 fn close(rt: &HostRuntime, conn: FileConnection) {
     if let Err(error) = conn.close() {
         let _ = eprintln!(rt;
@@ -106,12 +192,12 @@ fn close(rt: &HostRuntime, conn: FileConnection) {
     }
 }
 
-/// Opens the file of a store, or makes it, buffers the input and the output, and goes on as [`run_script_over_store`], whose exit status is told. The
+/// Opens the file of a store as the settings say, buffers the input and the output, and goes on as [`run_opened`], whose exit status is returned. The
 /// store is closed then.
 pub fn run_stored_script<H, T, P, R, W>(
     rt: &HostRuntime,
     executor: Executor<'_, T, P>,
-    store: (&str, Officer),
+    store: (&Store, Officer),
     input: R,
     output: W,
 ) -> ExitCode
@@ -123,24 +209,12 @@ where
     W: Write + Drop,
     ensures { EndsOverFile (exit_status result) }
 {
-    let (path, officer) = store;
-    let conn = match open_or_make(rt, path) {
-        Ok(conn) => conn,
-        Err(fault) => return exit(rt, &Err(StoredFault::File(fault))),
-    };
-    let Ok(input) = BufReader::new(rt.alloc(), input) else {
-        return exit(rt, &Err(StoredFault::Wire(WireFault::Memory)));
-    };
-    let Ok(output) = BufWriter::new(rt.alloc(), output) else {
-        return exit(rt, &Err(StoredFault::Wire(WireFault::Memory)));
-    };
-    let (status, conn) = run_script_over_store::<_, H, _, _, _, _>(
-        rt,
-        executor,
-        (conn, officer),
-        &mut Counted::new(input),
-        &mut Counted::new(output),
-    );
-    close(rt, conn);
+    let (settings, officer) = store;
+    let store = open_desk(rt, settings);
+    let io = buffered(rt.alloc(), input, output);
+    let (status, conn) = run_opened::<_, H, T, P, _, _>(rt, executor, store, officer, io);
+    if let Some(conn) = conn {
+        close(rt, conn);
+    }
     status
 }

@@ -17,22 +17,21 @@ use mpw_reopen::{Reopened, reopen};
 use mpw_serve::{Executor, OwnDesk, Progress, Served, serve_core};
 use mpw_settings::Officer;
 use mpw_store::StoreFault;
-use mpw_store_file::FileFault;
 use mpw_wire::{Sink, Source};
 use sqlite::{Alter, Connection};
 use std::thread::Threads;
 
-/// What came of a connection over the desk of a store.
+/// The outcome of a connection over the desk of a store.
 pub struct Stopped<S: Alter> {
     /// The store.
     pub conn: Connection<S>,
-    /// What came of the connection.
+    /// The outcome of the connection.
     pub served: Served,
-    /// Why a change could not be kept, which closed the desk.
+    /// Why a change could not be stored, which closed the desk.
     pub fault: Option<StoreFault>,
 }
 
-/// Serves a connection of that number over a desk that was reopened, whose store is kept by the connection.
+/// Serves a connection of that number over a desk that was reopened, and stores its changes.
 fn serve_on<S, H, T, P, R, W>(
     reopened: Reopened<'_, H, T, P>,
     conn: Connection<S>,
@@ -73,11 +72,11 @@ where
 }
 
 /// Reopens the desk of a store, and serves a connection over it, whose number is above that of each before. What is accepted is stored before its reply is
-/// written. Runs are worked off by the executor.
+/// written. The executor executes the runs.
 ///
 /// # Errors
-/// Where the store can't be opened, its rows lead to no desk, or no number is left for a connection. Nothing is read or written then, and the store is
-/// given back.
+/// If the rows of the store lead to no desk, or no number is left for a connection. Nothing is read or written then, and the store is
+/// returned.
 pub fn serve_store<S, H, T, P, R, W>(
     executor: Executor<'_, T, P>,
     conn: Connection<S>,
@@ -98,7 +97,7 @@ where
     ensures writer { IfOk result (λ stopped. W.failures writer.new ≡ write_failures (fault_of stopped.served.ended) (W.failures writer.old)) }
     ensures handed { IfOk result (λ stopped. LeavesNothingPending (fault_of stopped.served.ended) (W.pending writer.old) (W.pending writer.new)) }
 
-    // The store may be served again, where each change was kept.
+    // The store may be served again if each change was stored.
     ensures idle { IfOk result (λ stopped. HasCleanDisk (state S.Store stopped.conn) → stopped.fault ≡ None → IsIdle (state S.Store stopped.conn)) }
     ensures unopened { IfErr result (λ e. IsUnopened officer (state S.Store conn) (state S.Store e.1) e.0) }
     ensures untouched { IfErr result (λ _. (reader.new ≡ reader.old) × (writer.new ≡ writer.old)) }
@@ -107,7 +106,7 @@ where
     let Officer { name, digest } = officer;
     let reopened: Reopened<'_, H, T, P> = match reopen(executor, &mut conn, name, digest) {
         Ok(reopened) => reopened,
-        Err(fault) => return Err((StoredFault::from(FileFault::from(fault)), conn)),
+        Err(fault) => return Err((StoredFault::refused(fault), conn)),
     };
     match reopened.next {
         Some(connection) => Ok(serve_on(reopened, conn, connection, reader, writer)),

@@ -1,0 +1,4 @@
+use Rattle.mpw_stored_script.proofs.program.run_between.Goals as goal
+
+pub returns : goal.returns
+returns g c = (_, c.run_script_over_store.ensures)
