@@ -1,26 +1,25 @@
-//! A table of events of the core, each with what it is answered.
+//! A table of events of the core, each with its answer.
 //!
-//! Each line is repeated, with the answer below. A line that begins with `#`, and an empty one, says nothing.
+//! Each line is printed, with the answer below it. A line that begins with `#`, and an empty one, prints nothing.
 //! - `begin` begins with a new desk, whose officer is `root` with the token `abc`;
-//! - `script CONN NAME` asks the requests of the script of that name on a connection, executes each run that is accepted, and prints how many requests
-//!   there were, where each is answered as it is written there;
-//! - `new NAME` begins with a new desk, whose officer is `root`, asks what the lines of the data file of that name ask, each
-//!   on connection 1, and tells how many of them are accepted;
-//! - `ask CONN WORDS` asks a request on a connection and tells the reply. A library, in the notation of `gate_samples`, or
-//!   a deck's lines, with `; ` between them, stand behind a bar; what is placed lies as it is drawn;
-//! - `gone CONN` ends a connection, and `restart` starts the desk anew;
-//! - `take WORKER AS` calls for a job, tells which, does it, and keeps the answer under a name, in place of an earlier one;
-//! - `hand AS` hands a kept answer in, as often as it is said;
-//! - `cut AS RUN OF` does the job of cutting what another answer cut, as if it were of that run, and keeps the answer;
-//! - `tile AS RUN NUMBER CORE WINDOW RULES` does a job of that run and number with the core of one kept answer, the window of
-//!   another and the rules of a third, and keeps the answer;
-//! - `calls` tells how many calls the history has;
-//! - `replay` goes on with the desk that the events of the history give, and tells how many of its calls are answered
-//!   otherwise;
+//! - `script CONN NAME` asks the requests of the script of that name on a connection, executes each accepted run, and prints how many
+//!   requests there were, if each got the reply that the script has;
+//! - `new NAME` begins with a new desk, whose officer is `root`, asks the requests in the data file of that name, each on connection 1, and
+//!   prints how many of them are accepted;
+//! - `ask CONN WORDS` asks a request on a connection and prints the reply. After a bar comes a library, in the notation of `gate_samples`,
+//!   or the lines of a deck, with `; ` between them. A placed cell lies as it is drawn;
+//! - `gone CONN` ends a connection, and `restart` restarts the desk;
+//! - `take WORKER AS` calls for a job, prints which, does it, and stores the answer under a name, in place of an earlier one;
+//! - `hand AS` hands in a stored answer. It may be handed in more than once;
+//! - `cut AS RUN OF` does the job of cutting what another answer cut, as if it were of that run, and stores the answer;
+//! - `tile AS RUN NUMBER CORE WINDOW RULES` does a job of that run and number with the core of one stored answer, the window of another and
+//!   the rules of a third, and stores the answer;
+//! - `calls` prints how many calls the history has;
+//! - `replay` goes on with the desk that the events of the history give, and prints how many of its calls get another answer;
 //! - `fill CONN N` ends a connection until the history has room for N calls.
 //!
-//! What finds no memory is tried once more. An event that finds none has to leave the history as it was; that it left all else so is shown by what is
-//! answered behind it. So where a single allocation of the program is refused, whichever it is, the same is printed, or nothing at all.
+//! What runs out of memory is tried once more. An event that runs out of memory must leave the history unchanged. The later answers show
+//! that it left all else unchanged too. So if any single allocation of the program fails, the same is printed, or nothing at all.
 mod asking;
 mod table;
 
@@ -31,7 +30,7 @@ use gate_words::number;
 use mpw_requests::digest_of;
 use std::fs;
 
-/// Has a connection ask what a script asks.
+/// Asks the requests of a script on a connection.
 fn serve(rt: &HostRuntime, table: &mut Table, connection: u32, name: &str) -> Result<()> {
     let path = format!(in rt.alloc(); "{name}.txt")?;
     let text = fs::read_to_string(rt, path.as_str())?;
@@ -39,14 +38,14 @@ fn serve(rt: &HostRuntime, table: &mut Table, connection: u32, name: &str) -> Re
     table.serve(rt, connection, &script)
 }
 
-/// Begins with a new desk that is asked what a data file says.
+/// Begins with a new desk that is asked the requests of a data file.
 fn begin(rt: &HostRuntime, table: &mut Table, name: &str) -> Result<()> {
     let path = format!(in rt.alloc(); "{name}.txt")?;
     let text = fs::read_to_string(rt, path.as_str())?;
     table.begin(rt, text.as_str())
 }
 
-/// Lines over kept answers, and over the history.
+/// Answers a line about stored answers or the history.
 fn answer_more(rt: &HostRuntime, table: &mut Table, words: &[&str]) -> Result<()> {
     match words {
         ["hand", name] => table.hand(rt, name),
@@ -89,7 +88,7 @@ fn answer(rt: &HostRuntime, table: &mut Table, line: &str) -> Result<()> {
     }
 }
 
-/// Answers a line, once more where there was no memory for it before the desk was asked anything.
+/// Answers a line, and tries once more if memory ran out before the desk was asked anything.
 fn answer_again(rt: &HostRuntime, table: &mut Table, line: &str) -> Result<()> {
     let calls = table.calls();
     match answer(rt, table, line) {

@@ -1,4 +1,4 @@
-//! Shows what no clause says of the policy: rows of requests as a table, and the role masks beside a plain search.
+//! Shows what no clause says of the policy: a table of requests, and the role masks compared with a plain search.
 mod hierarchies;
 mod sessions;
 mod sets;
@@ -7,7 +7,7 @@ use mpw_geom::Name;
 use std::alloc::{AllocError, Global};
 use std::io;
 
-/// A name that is known to be one.
+/// The name of a text that is known to be one.
 fn name(alloc: Global, text: &str) -> Result<Name, AllocError> {
     match Name::read(alloc, text.as_bytes()) {
         Ok(name) => Ok(name),

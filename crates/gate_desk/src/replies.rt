@@ -1,8 +1,8 @@
-//! Replies of a text, counted.
+//! Counts the replies of a text.
 
 use std::str::from_utf8;
 
-/// How many lines stand behind a reply's first line.
+/// How many lines follow a reply's first line.
 pub fn lines_behind(first: &str) -> usize {
     match first.split_once(' ') {
         Some(("OK", count)) => count.parse::<usize>().unwrap_or(0),
@@ -10,7 +10,7 @@ pub fn lines_behind(first: &str) -> usize {
     }
 }
 
-/// How many lines of a text end.
+/// How many complete lines a text has.
 fn whole_lines(text: &[u8]) -> usize {
     let mut count = 0usize;
     for byte in text {
@@ -21,7 +21,7 @@ fn whole_lines(text: &[u8]) -> usize {
     count
 }
 
-/// How many replies a text has in whole.
+/// How many complete replies a text has.
 pub fn whole_replies(text: &[u8]) -> usize {
     let (mut count, mut behind) = (0usize, 0usize);
     for line in from_utf8(text)

@@ -1,12 +1,12 @@
-//! Serves stored scripts over new desks, and tells whether each is answered as it is written there.
+//! Serves stored scripts over new desks, and prints whether each gets the replies that it has.
 //!
-//! The standard input names a script a line, from the folder of data, with what the devices do:
+//! A line of the standard input names a script of the folder of data, with what the devices do:
 //! - `NAME`: they don't fail;
 //! - `NAME source N`, `NAME sink N`: the source fails before byte N, the sink after N bytes;
-//! - `NAME source each`, `NAME sink each`: so at each byte in turn;
-//! - `NAME keeper N`: the keeper fails from its Nth call on, and the script says how that is answered;
-//! - `NAME once N`: the same where it fails at its Nth call alone;
-//! - `NAME keeper each`: so at each call in turn, where the script says how all is answered that is kept.
+//! - `NAME source each`, `NAME sink each`: the same at each byte in turn;
+//! - `NAME keeper N`: the store writer fails from its Nth call on, and the script has the replies to that;
+//! - `NAME once N`: the same, but it fails at its Nth call alone;
+//! - `NAME keeper each`: the same at each call in turn; the script has the replies if all is stored.
 mod changes;
 mod devices;
 mod digests;
@@ -46,7 +46,7 @@ fn read_case(line: &str) -> Case {
     }
 }
 
-/// The devices of which one fails at a place.
+/// The devices, one of which fails at a place.
 fn failing(device: &str, place: usize) -> Devices {
     let mut devices = Devices {
         source: usize::MAX,
@@ -65,7 +65,7 @@ fn failing(device: &str, place: usize) -> Devices {
     devices
 }
 
-/// Where two texts differ first: the number of the line, counted from 1.
+/// The first difference of two texts: the number of the line, counted from 1.
 fn first_difference(told: &[u8], wanted: &[u8]) -> usize {
     let mut line = 1usize;
     for (a, b) in told.iter().zip(wanted) {
@@ -79,7 +79,7 @@ fn first_difference(told: &[u8], wanted: &[u8]) -> usize {
     line
 }
 
-/// Tells of a script that says how it is answered.
+/// Prints the result of a script that has its replies.
 fn tell(
     rt: &HostRuntime,
     threads: &(impl Threads + Sync),
@@ -105,7 +105,7 @@ fn tell(
     Ok(())
 }
 
-/// How often a script is told as closed, where its keeper fails at each of some calls in turn.
+/// How often a script ends with a closed desk, if its store writer fails at each of some calls in turn.
 fn closed_times(
     rt: &HostRuntime,
     threads: &(impl Threads + Sync),
@@ -127,7 +127,7 @@ fn closed_times(
     Ok(closed)
 }
 
-/// Tells of a script whose keeper fails at each call in turn.
+/// Prints the result of a script whose store writer fails at each call in turn.
 fn tell_closed(
     rt: &HostRuntime,
     threads: &(impl Threads + Sync),
@@ -148,7 +148,7 @@ fn tell_closed(
     Ok(())
 }
 
-/// Tells of a script over a device that fails at one place.
+/// Prints the result of a script with a device that fails at one place.
 fn tell_failing(
     rt: &HostRuntime,
     threads: &(impl Threads + Sync),
@@ -179,8 +179,8 @@ fn tell_failing(
     Ok(())
 }
 
-/// Whether the replies end in a front of those that are written, the fault is told, the desk was handed the end, and all that was accepted stays: of the
-/// requests that the front answers, and of the one whose reply could not be written.
+/// Whether the replies end in a front of those that the script has, the fault is returned, the desk was handed the end, and all that was
+/// accepted stays: of the requests that the front answers, and of the one whose reply could not be written.
 fn is_told(served: &Served, script: &Transcript, device: &str) -> bool {
     let is_source = device == "source";
     let fault = if is_source { "Read" } else { "Write" };
@@ -192,7 +192,7 @@ fn is_told(served: &Served, script: &Transcript, device: &str) -> bool {
         && served.kept == kept_after(script, answered)
 }
 
-/// Tells of a script over a device that fails at each byte in turn.
+/// Prints the result of a script with a device that fails at each byte in turn.
 fn tell_each(
     rt: &HostRuntime,
     threads: &(impl Threads + Sync),

@@ -1,22 +1,22 @@
-//! A desk that threads share, with a gate that workers pass before they work a tile.
+//! A desk that threads share, with a gate that workers pass before they do a tile's job.
 //!
-//! Each line is repeated, with what came of it below, which is the same however the threads take turns.
-//! - `NAME HOLD KEPT` is the day of the script of that name: its connections and its workers are threads of their own over one desk with
-//!   six tiles. The gate holds `each` pass of tile 0, or the `first` alone, until the flag `passing` is set. At the end all passes are
-//!   handed back, and one is kept where `KEPT` is `connection` or `worker`, and not `none`;
-//! - `session NAME` serves the script of that name, as `gate_events` has them, to a pass of a new desk without workers. With
-//!   `source N` behind it the source fails at that byte, with `sink N` the sink takes so many bytes and fails, and with `source each` and
-//!   `sink each` they fail so at each place in turn. A front is told where what was written is a front of the replies, the history has just
-//!   the requests that were read and the end, and all calls are the pass's. With `events` behind these words, but for `each`, the events of the
-//!   history are told too, or alone;
-//! - `loopback NAME` serves the script of that name to a client over loopback, by a service of one connection and one worker over a new desk, and prints each
-//!   event of the history but the worker's calls for a job;
+//! Each line is printed, with its result below, which is the same however the threads take turns.
+//! - `NAME HOLD KEPT` is the day of the script of that name: its connections and its workers are threads over one desk with six tiles. The
+//!   gate holds `each` pass of tile 0, or the `first` alone, until the flag `passing` is set. At the end all passes are handed back. One is
+//!   left out if `KEPT` is `connection` or `worker`, and none if it is `none`;
+//! - `session NAME` serves the script of that name, as `gate_events` has them, to a pass of a new desk without workers. After it, `source
+//!   N` makes the source fail at that byte, `sink N` makes the sink fail after that many bytes, and `source each` and `sink each` make them
+//!   fail at each place in turn. A front is reported if the written text is a front of the replies, the history has exactly the requests
+//!   that were read and the end, and all calls are the pass's. After these words, except `each`, or alone, `events` prints the events of
+//!   the history too;
+//! - `loopback NAME` serves the script of that name to a client over loopback, by a service with one connection and one worker over a new
+//!   desk, and prints each event of the history except the worker's calls for a job;
 //! - `passes N` takes passes, one after another, until there is none or there were N and one more.
 //!
-//! A connection's steps stand in lines below one another:
-//! - `tell REQUEST` asks, and tells the reply;
-//! - `until FRONT REQUEST` asks until a line of the reply begins so, and tells nothing;
-//! - `set FLAG` sets a flag, and `wait FLAG` waits for one. The flag `held` is set by the gate.
+//! A connection's steps are on consecutive lines:
+//! - `tell REQUEST` asks, and prints the reply;
+//! - `until FRONT REQUEST` asks until a line of the reply begins with that, and prints nothing;
+//! - `set FLAG` sets a flag, and `wait FLAG` waits for one. The gate sets the flag `held`.
 mod account;
 mod day;
 mod ending;
@@ -55,7 +55,7 @@ fn read_script(rt: &HostRuntime, name: &str) -> Result<String> {
     Ok(fs::read_to_string(rt, path.as_str())?)
 }
 
-/// Serves a script as the words behind its name say.
+/// Serves a script as the words after its name say.
 fn run_session(rt: &HostRuntime, waits: &impl Wait, name: &str, words: &[&str]) -> Result<()> {
     let text = read_script(rt, name)?;
     let script = read_transcript(rt.alloc(), text.as_str())?;

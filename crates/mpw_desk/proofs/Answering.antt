@@ -1,4 +1,5 @@
--- What an open desk whose history has room answers a request: never that it is closed or full. Each ending of each row is looked at.
+-- What an open desk whose history has room answers a request: never that it is closed or full. Each ending of
+-- each decision table is a case.
 use Rattle.std.proofs.Common.{◌≡◌, ℕ, Bool, true, false, List, [], ◌∷◌, Option, None, Some, Result, Ok, Err, subst, sym}
 use Rattle.std.specs.Prelude.{◌&&◌, not, if◌then◌else◌}
 use Rattle.mpw_geom.specs.declared.placing.Placing.{Placing}
@@ -357,7 +358,7 @@ is_answer s connection request kept answered is =
     let fair = subst IsFairResponse (sym is) (step-fair s connection request kept) in
     (λ e. subst IsFairResponse e fair, λ e. subst IsFairResponse e fair, fair-reply answered fair)
 
--- what the step answers an event is an answer
+-- the step's response to an event is an answer
 pub step-answers : (s : State) (e : Event) (kept : Bool) (answered : Response)
     → answered ≡ response_of s e kept → IsAnswer e answered
 step-answers s (event.Ask connection request) kept answered is =

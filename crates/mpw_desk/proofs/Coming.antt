@@ -1,4 +1,4 @@
--- What came of an event that is no restart: the desk was left, or the step was made.
+-- The result of an event that is no restart: the desk is unchanged, or the step was made.
 use Rattle.std.proofs.Common.{◌≡◌, ◌∙◌, Bool, true, false, List, [], ◌∷◌, ◌++◌, length, length-append, nat_lt, refl, sym, ap, arith}
 use Rattle.std.specs.Prelude.{◌||◌, ◌&&◌, not, if◌then◌else◌}
 use Rattle.mpw_events.specs.declared.event.Call.{Call}
@@ -14,7 +14,7 @@ pub state_after-on : (s : State) (first more : List Call)
 state_after-on s [] more = refl
 state_after-on s (c ∷ cs) more = state_after-on (after s c.event c.kept) cs more
 
--- what changes nothing is the same step whether it counts as kept or not
+-- an event that changes nothing has the same step whether it counts as stored or not
 pub step-normal : (s : State) (e : Event) (kept : Bool)
     → step s e (kept || not (event_outcome s e).changes) ≡ step s e kept
 unfolding step
@@ -30,7 +30,7 @@ step-normal s e kept = go kept (event_outcome s e).changes
     go false true = refl
     go false false = refl
 
--- the desk was left, and the event was told that it is closed or full; or the step was made
+-- the desk is unchanged, and the response is that it is closed or full; or the step was made
 pub data Came (d : Desk) (e : Event) (r : Response) (d' : Desk) : Type 0 where
   was_closed : d' ≡ d → r ≡ closed_response e → Came d e r d'
   was_full : d' ≡ d → r ≡ limit_response e → Came d e r d'
@@ -62,7 +62,7 @@ came_of d d' e r is =
         (ap state_of desk ∙ state_after-on _ d.desk.history _
         ∙ ap (λ (o : Outcome). with_trail s e o) (step-normal s e is.0))
 
--- a desk with a call more is another one
+-- a desk with one more call is another desk
 pub longer : (d : Desk) (e : Event) (kept : Bool) (r : Response) → with_call d e kept r ≡ d → ⊥
 longer d e kept r is =
     omega (
@@ -71,7 +71,7 @@ longer d e kept r is =
       length-append d.history (call_of e r kept ∷ []),
     )
 
--- what a call that was added was told is an answer
+-- the response of a call that was added is an answer
 pub added-answers : (d d' : KeptDesk) (e : Event) (r : Response) (was : Bool) → IsHandled d e r d'
     → d'.desk ≡ with_call d.desk e was r → IsAnswer e r
 added-answers d d' e r was is added = by (came_of d d' e r is)

@@ -1,4 +1,5 @@
--- What ends a row of tests, and the rows of the policy and of the shelf: none is ended with the code of a closed desk or of a full history.
+-- What ends a decision table, and the tables of the policy and of the layouts: none ends with the code of a
+-- closed desk or of a full history.
 use Rattle.std.proofs.Common.{◌≡◌, ℕ, Bool, true, false, List, [], ◌∷◌, Option, None, Some, Result, Ok, Err, refl}
 use Rattle.std.specs.Prelude.{⊤, ◌^◌, not, is_some, map, if◌then◌else◌}
 use Rattle.std.specs.List.{flat_map}
@@ -37,7 +38,7 @@ use Rattle.mpw_events.specs.declared.event.Response.{Response}
 use Rattle.mpw_events.specs.declared.event.Response.TheVariants as response
 use Rattle.mpw_events.specs.Step.{State, policy_outcome, reply_of}
 
--- ---- what ends a row
+-- ---- what ends a decision table
 
 -- a code of an answer
 abbrev pub IsTold : Code → Type 0
@@ -152,7 +153,7 @@ pub policy-fair : (s : State) (r : Result Policy Refusal) → IsFairResponse (po
 policy-fair s (Ok policy) = tt
 policy-fair s (Err r) = refused-fair r
 
--- ---- the shelf
+-- ---- the layouts
 
 read-fair : (r : Result (List Structure) ReadFault) → EndsFair (layouts.read r)
 read-fair (Ok library) = tt

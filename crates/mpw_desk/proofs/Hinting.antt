@@ -1,4 +1,4 @@
--- The hints fit the run after each event that they noted.
+-- The hints fit the run after each event that was noted in them.
 use Rattle.std.proofs.Common.{◌≡◌, ◌∙◌, ℕ, ◌+◌, ◌==◌, Bool, true, false, List, [], ◌∷◌, Option, None, Some, Result, Ok, Err, refl, sym, ap, subst}
 use Rattle.std.specs.Prelude.{zero, suc, ◌&&◌, not, nat_lt, slice_get, slice_set, if◌then◌else◌}
 use Rattle.mpw_tiles.specs.Plan.{tiles}
@@ -43,7 +43,7 @@ use Rattle.mpw_desk.specs.declared.hints.Hints.{Hints}
 use Rattle.mpw_desk.specs.Steps.{MayHandIn}
 use Rattle.mpw_desk.proofs.Coming.{Came, came_of}
 
--- ---- what is noted of an event that leaves the run
+-- ---- what is noted of an event that leaves the run unchanged
 
 noted-refused : (a : Asked) (c : Code) (hints : Hints)
     → noted a (response.Told (reply.Refused c)) hints ≡ hints
@@ -61,7 +61,7 @@ noted-refusal (event.Cut answer) c hints = refl
 noted-refusal (event.Tile answer) c hints = refl
 noted-refusal event.Restart c hints = refl
 
--- whether workers are to end stays
+-- the note leaves unchanged whether workers are to end
 pub noted-stays : (a : Asked) (r : Response) (hints : Hints)
     → (noted a r hints).is_stopped ≡ hints.is_stopped
 noted-stays asked.Run (response.Told (reply.Ok lines)) hints = refl
@@ -93,7 +93,7 @@ noted-stays asked.Else r hints = refl
 
 -- ---- a call for a job
 
--- a run in a phase has no job where that phase has none
+-- a run in a phase has no job if that phase has none
 no-job : (run : Run) (phase : Phase) → run.phase ≡ phase
     → (taken_in run phase).reply ≡ run_reply.NoJob → HasNoJob run
 no-job run phase is none = ap (λ p. (taken_in run p).reply) is ∙ none
@@ -144,7 +144,7 @@ cut_answered-fits : (hints : Hints) (run : Run) (answer : CutWindows) (same : Bo
 cut_answered-fits hints run answer true fit = cut-fits hints run answer run.phase refl fit
 cut_answered-fits hints run answer false fit = fit
 
--- where no tile is offered each is answered
+-- if no tile is offered, each is answered
 first-some : (offer : Offer) (others : Option Offer) → first_of offer others ≡ None → ⊥
 first-some offer None is = cc
 first-some offer (Some other) is = cc
@@ -319,7 +319,7 @@ step-fits hints s e was n may fit =
     settled-fits hints s e ((event_outcome s e).changes && not was) (event_outcome s e) fit
     (wanted-fits hints s e n may fit)
 
--- where nothing was added the hints are noted as they were
+-- if nothing was added, the hints still fit
 left-fits : (hints : Hints) (d d' : Desk) (e : Event) (r : Response) (c : Code) → d' ≡ d
     → r ≡ refused_with e c → Fit hints (state_of d).run
     → Fit (noted (asked_by e) r hints) (state_of d').run
@@ -344,12 +344,12 @@ handled-fits hints d d' e r n may is fit = by (came_of d d' e r is)
         (subst (λ (x : State). Fit (noted (asked_by e) (step s e was).response hints) x.run)
         (sym behind) (step-fits hints s e was n may fit))
 
--- the hints fit a run that was left
+-- the hints fit a run that is unchanged
 pub same-fits : (hints : Hints) (d d' : Desk) → d' ≡ d → Fit hints (state_of d).run
     → Fit hints (state_of d').run
 same-fits hints d d' same fit = subst (λ (x : Desk). Fit hints (state_of x).run) (sym same) fit
 
--- so do those with the same work
+-- so do hints with the same work
 pub as-fit : (hints other : Hints) (run : Run) → other.has_work ≡ hints.has_work → Fit hints run
     → Fit other run
 as-fit hints other run same fit = λ rests. fit (sym same ∙ rests)

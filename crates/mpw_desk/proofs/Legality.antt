@@ -1,4 +1,4 @@
--- A call that is added is legal, and the keeper failed just if it was not kept.
+-- A call that is added is legal, and the store writer failed exactly if it wasn't stored.
 use Rattle.std.proofs.Common.{◌≡◌, ◌∙◌, ◌==◌, ℕ, Bool, true, false, cond, List, [], ◌∷◌, ◌++◌, length, Option, None, Some, nat_lt, is_some, refl, sym, ap, subst}
 use Rattle.std.specs.Prelude.{⊤, ◌||◌, ◌&&◌, not, if◌then◌else◌}
 use Rattle.std.proofs.lemmas.List.{append_cancel_left}
@@ -23,7 +23,7 @@ use Rattle.mpw_desk.specs.Legal.{GoesLegally, failures_after}
 use Rattle.mpw_desk.specs.Steps.{IsToldAs, call_of}
 use Rattle.mpw_desk.proofs.Coming.{longer, state_after-on, step-normal}
 
--- ---- what an event changes has to be kept, whatever the event
+-- ---- an event's changes must be stored, whatever the event
 
 handing-goes-on : (r : run.Run) (c : Checks) (o : Option run.Offer)
     → finishes (run.handed r c o).reply ≡ false
@@ -106,7 +106,7 @@ same-kept d e r r' was kept is =
     ap (first-kept was) (append_cancel_left d.history (call_of e r was ∷ [])
     (call_of e r' kept ∷ []) (ap (λ (x : Desk). x.history) is))
 
--- it is legal, and the keeper failed just if it was not kept
+-- it is legal, and the store writer failed exactly if it wasn't stored
 pub record IsAdded (d d' : KeptDesk) (call : Call) : Type 0 where
   pub is : IsCall (state_of d.desk) call
   pub failures : d'.failures ≡ failed_after d.failures (not call.kept)
@@ -148,7 +148,7 @@ is_added d d' e r was is added =
               ∙ ap not (sym same));
         }
 
--- where nothing is added the keeper did not fail
+-- if nothing is added, the store writer did not fail
 pub left-failures : (d d' : KeptDesk) (e : Event) (r : Response) → IsHandled d e r d'
     → d'.desk ≡ d.desk → d'.failures ≡ d.failures
 unfolding handling answering
@@ -169,7 +169,7 @@ left-failures d d' e r is left =
         absurd (longer d.desk e (is.0 || not (event_outcome (state_of d.desk) e).changes)
         (step (state_of d.desk) e is.0).response (sym desk ∙ left))
 
--- ---- what it was told
+-- ---- its response
 
 abbrev IsFalse : Bool → Type 0
 IsFalse true = ⊥

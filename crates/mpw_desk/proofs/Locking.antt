@@ -1,4 +1,4 @@
--- What is true each time the lock is free stays true over a step.
+-- A step preserves what holds each time the lock is free.
 use Rattle.std.proofs.Common.{◌≡◌, ◌≤◌, ◌+◌, ◌∙◌, ℕ, Bool, List, [], ◌∷◌, ◌++◌, length, length-append, ap, append_assoc, arith}
 use Rattle.mpw_events.specs.declared.event.Call.{Call}
 use Rattle.mpw_events.specs.declared.event.Event.{Event}
@@ -53,7 +53,7 @@ module _ (handled : (d left : KeptDesk) (event : Event) (response : Response)
         enough = locked.enough;
       }
 
--- as many calls are counted as stand behind those of before
+-- the count is the number of calls after those before the desk was shared
 pub counted-within : (begun old new : KeptDesk) (calls : List Call)
     (base total all parts amount made count : ℕ) (event : Event) (response : Response)
     (kept : Bool)

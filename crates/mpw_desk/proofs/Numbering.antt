@@ -1,4 +1,4 @@
--- The calls before a desk was shared are none of its passes'.
+-- No call before a desk was shared belongs to one of its passes.
 use Rattle.std.proofs.Common.{◌≡◌, ◌∙◌, ◌≤◌, ℕ, false, cond, List, [], ◌∷◌, ◌++◌, Option, None, Some, refl, ap, arith}
 use Rattle.std.proofs.lemmas.Bool.Decides.{nat_tests}
 use Rattle.std.proofs.lemmas.List.Elements.{All-head, All-tail}

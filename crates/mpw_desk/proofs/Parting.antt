@@ -1,4 +1,4 @@
--- Whether a connection's end stands in the receipts, by how many calls the pass counts.
+-- Whether the receipts have a connection's end, by how many calls the pass counts.
 use Rattle.std.proofs.Common.{◌≡◌, ◌≢◌, ◌∙◌, ◌==◌, ℕ, Bool, true, false, Result, Ok, Err, refl, sym, ap, ⊎_elim, IfOk, arith}
 use Rattle.std.specs.Prelude.{not, OnErr}
 use Rattle.std.proofs.lemmas.Bool.Decides.{nat_tests}
@@ -10,7 +10,7 @@ use Rattle.mpw_desk.specs.Serving.{IsParted}
 use Rattle.mpw_desk.specs.Steps.{Records}
 use Rattle.mpw_desk.specs.Values.{PassView}
 
--- the counts differ just where the call was recorded
+-- the counts differ exactly if the call was recorded
 by-counts : (p p' : PassView) (response : Response) (m n : ℕ) → m ≡ p'.count → n ≡ p.count
     → Grows p (event.Gone p.connection) response p' → IsParted p (not (m == n)) p'
 by-counts p p' response m n behind before grows = go (m == n) refl

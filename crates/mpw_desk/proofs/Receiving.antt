@@ -19,7 +19,7 @@ receives-nothing p = record {
   connection = refl;
 }
 
--- what a pass has of lines, and where that leaves it
+-- what a pass has of lines, and its state after them
 pub record HasLines (p p' : PassView) (turns : List AnsweredLine) : Type 0 where
   pub calls : List Call
   pub of : AreCallsOf p.connection turns calls
@@ -28,7 +28,7 @@ pub record HasLines (p p' : PassView) (turns : List AnsweredLine) : Type 0 where
 same-pass : (p p' p'' : PassView) (calls : List Call) → p'' ≡ p' → Receives p p' calls → Receives p p'' calls
 same-pass p p' p'' calls is more = subst (λ q. Receives p q calls) (sym is) more
 
--- one call more
+-- one more call
 receives-call : (p p' p'' : PassView) (calls : List Call) (request : Request) (response : Response)
     (kept : Bool) → Receives p p' calls
     → Records (event.Ask p'.connection request) response kept p' p''

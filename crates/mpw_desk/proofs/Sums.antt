@@ -1,4 +1,4 @@
--- A pass more among those that were taken in.
+-- One more pass among those that were taken back.
 use Rattle.std.proofs.Common.{◌≡◌, ◌++◌, ℕ, List, [], refl, sym}
 use Rattle.std.specs.List.{sum_by}
 use Rattle.std.proofs.lemmas.List.Elements.{All-nil}
@@ -8,7 +8,8 @@ use Rattle.mpw_receipts.specs.Owner.{owner_of}
 use Rattle.mpw_desk.specs.Finished.{AreReceipts}
 use Rattle.mpw_desk.specs.Values.{PassView}
 
--- the passes at the end were taken in: they made so many calls, and their receipts are the calls of their connections
+-- the passes at the end were taken back: they made that many calls, and their receipts are the calls of their
+-- connections
 pub record AreTaken (calls : List Call) (all left : List PassView) (count : ℕ) : Type 0 where
   pub taken : List PassView
   pub whole : all ≡ left ++ taken

@@ -1,4 +1,4 @@
--- What a worker's events leave of its pass.
+-- A worker's events leave its pass with the same receipts.
 use Rattle.std.proofs.Common.{◌≡◌, ◌∙◌, ◌+◌, ◌++◌, ◌∷◌, [], Bool, refl, sym, subst, ⊎_elim, arith}
 use Rattle.mpw_events.specs.declared.event.Event.{Event}
 use Rattle.mpw_events.specs.declared.event.Event.TheVariants as event
@@ -13,7 +13,7 @@ use Rattle.mpw_desk.specs.Values.{LockedDesk, PassView}
 idle : (p : PassView) → Works p p
 idle p = record { receipts = refl; connection = refl; count = omega arith }
 
--- an event that is nobody's
+-- an event that belongs to no connection
 abbrev IsNobodys : Event → Type 0
 IsNobodys event = (p : PassView) (response : Response) (kept : Bool)
     → with_own p.receipts (call_of event response kept) event ≡ p.receipts

@@ -13,8 +13,8 @@ abbrev pub AreReceipts : List Call → List PassView → Type 0
 AreReceipts calls passes =
     All (λ p. p.receipts ≡ calls_of owner_of p.connection calls) passes
 
--- the calls since the desk was shared are as many as the passes made; the desk went on by them, and its keeper has their changes. Each pass
--- has just the calls of its connection that the whole history has
+-- the calls since the desk was shared are as many as the passes made; they lead to the desk's state, and its
+-- store writer has their changes. Each pass has exactly the calls of its connection in the whole history
 pub record IsFinished (begun left : KeptDesk) (passes : List PassView) : Type 0 where
   pub calls : List Call
   pub history : left.desk.history ≡ begun.desk.history ++ calls

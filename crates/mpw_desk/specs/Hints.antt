@@ -1,4 +1,4 @@
--- What workers know of the desk beside the model, and how that fits the run.
+-- What workers know of the desk apart from the model, and how that fits the run.
 use Rattle.std.specs.Prelude.{◌≡◌, ◌==◌, ◌&&◌, ℕ, Bool, true, false, Option, None, Some, is_none, if◌then◌else◌}
 use Rattle.mpw_requests.specs.declared.request.Request.{Request}
 use Rattle.mpw_requests.specs.declared.request.Request.TheVariants as ask
@@ -44,7 +44,7 @@ asked_by (event.Cut answer) = asked.Else
 asked_by (event.Tile answer) = asked.Else
 asked_by event.Restart = asked.Else
 
--- ---- what it was answered
+-- ---- how it was answered
 
 abbrev pub accepts : Reply → Bool
 accepts (reply.Ok lines) = true
@@ -68,7 +68,7 @@ has_none run_reply.Stranger = false
 has_none run_reply.Double = false
 has_none run_reply.OldRun = false
 
--- a call for a job was answered that there is none
+-- the answer to a call for a job is that there is none
 abbrev pub is_no_job : Response → Bool
 is_no_job (response.Told r) = false
 is_no_job (response.Run r) = has_none r
@@ -87,15 +87,15 @@ finishes run_reply.OldRun = false
 
 -- ---- the hints
 
--- a worker may find something to take
+-- a worker may find a job to take
 abbrev pub may_take : Hints → Bool
 may_take hints = hints.has_work && is_none hints.cutting
 
--- an accepted run has something to take, one that was cancelled has not, and neither is being cut
+-- an accepted run has a job to take, a cancelled one has none, and neither is being cut
 abbrev pub with_work : Bool → Hints → Hints
 with_work has_work hints = record hints { has_work = has_work; cutting = None }
 
--- the hints after an event that was answered so
+-- the hints after an event with that response
 abbrev pub noted : Asked → Response → Hints → Hints
 noted asked.Run answered hints = if is_accepted answered then with_work true hints else hints
 noted asked.Cancel answered hints = if is_accepted answered then with_work false hints else hints
@@ -103,22 +103,22 @@ noted asked.Take answered hints =
     if is_no_job answered then record hints { has_work = false } else hints
 noted asked.Else answered hints = hints
 
--- the run that is cut, unless it is that one
+-- the run that is being cut, unless it is that one
 abbrev pub without : ℕ → Option ℕ → Option ℕ
 without run None = None
 without run (Some other) = if other == run then None else Some other
 
--- a call for a job would be answered that there is none
+-- the answer to a call for a job would be that there is none
 abbrev pub HasNoJob : Run → Type 0
 HasNoJob run = (taken run).reply ≡ run_reply.NoJob
 
--- if no worker may find something to take, there is nothing, or one worker cuts the run
+-- if no worker may find a job to take, there is none, or one worker is cutting the run
 abbrev pub Fit : Hints → Run → Type 0
 Fit hints run = hints.has_work ≡ false → HasNoJob run
 
--- ---- whom it concerns
+-- ---- which workers it concerns
 
--- one worker cuts an accepted run, and all leave one that was cancelled
+-- one worker cuts an accepted run, and all leave a cancelled one
 abbrev pub woken_by : Asked → Bool → Waking
 woken_by asked.Run true = waking.OneWorker
 woken_by asked.Run false = waking.Nobody

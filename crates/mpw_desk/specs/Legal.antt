@@ -1,21 +1,22 @@
--- How a shared desk goes on: by which calls, and what its keeper made of them.
+-- How a shared desk changes: by which calls, and which of them its store writer stored.
 use Rattle.std.specs.Prelude.{◌≡◌, ℕ, List, [], ◌∷◌, ◌++◌, not}
 use Rattle.mpw_events.specs.declared.event.Call.{Call}
 use Rattle.mpw_events.specs.History.{IsLegal, KeptDesk, state_of}
 use Rattle.mpw_events.specs.Keeping.{failed_after}
 
--- how often a keeper has failed after calls: once more for each that was not kept
+-- how many failures a store writer has after calls: one more for each that wasn't stored
 abbrev pub failures_after : ℕ → List Call → ℕ
 failures_after failures [] = failures
 failures_after failures (call ∷ calls) =
     failures_after (failed_after failures (not call.kept)) calls
 
--- each of the calls since the desk was shared is legal, and the keeper failed just at those that were not kept
+-- each of the calls since the desk was shared is legal, and the store writer failed exactly at those that
+-- weren't stored
 pub record GoesLegally (begun kept : KeptDesk) (calls : List Call) : Type 0 where
   pub legal : IsLegal (state_of begun.desk) calls
   pub failures : kept.failures ≡ failures_after begun.failures calls
 
--- so it is of the calls by which the history is longer
+-- this holds of the calls that were added to the history
 pub record WentLegally (begun left : KeptDesk) : Type 0 where
   pub calls : List Call
   pub history : left.desk.history ≡ begun.desk.history ++ calls

@@ -1,4 +1,4 @@
--- What is true each time the lock is free.
+-- The invariant: what holds each time the lock is free.
 use Rattle.std.specs.Prelude.{◌≡◌, ◌≤◌, ◌+◌, ℕ, List, ◌++◌, length}
 use Rattle.mpw_events.specs.declared.event.Call.{Call}
 use Rattle.mpw_events.specs.GoingOn.{GoesOnTo}
@@ -6,8 +6,9 @@ use Rattle.mpw_events.specs.History.{KeptDesk}
 use Rattle.mpw_desk.specs.Legal.{GoesLegally}
 use Rattle.mpw_desk.specs.Numbers.{AreBelow}
 
--- the desk went on from where it was shared by just the registered calls, each a legal one, and its keeper has their changes; as many calls are
--- counted; and each pass has a part of the ledger and a number of its own
+-- the registered calls lead from the state when the desk was shared to the present one, each is legal, and
+-- the store writer has their changes; as many calls are counted; and each pass has its own part of the ledger
+-- and its own number
 pub record IsLocked (begun kept : KeptDesk) (since : List Call) (begins total all left amount made : ℕ) :
     Type 0 where
   pub base : begins ≡ length begun.desk.history
@@ -19,7 +20,8 @@ pub record IsLocked (begun kept : KeptDesk) (since : List Call) (begins total al
   pub idle : amount ≡ 0
   pub enough : 1048577 ≤ all
 
--- the next number is the register's; it isn't less than the first one, and that is greater than each number before the desk was shared
+-- the next number is the register's; it is at least the first one, which is greater than each number before
+-- the desk was shared
 pub record IsNumbered (begun : KeptDesk) (first registered next : ℕ) : Type 0 where
   pub registered_is : registered ≡ next
   pub from : first ≤ next

@@ -1,4 +1,4 @@
--- The numbers of connections: those of the calls before a desk was shared are less than those of its passes.
+-- The numbers of connections: those before a desk was shared are less than those of its passes.
 use Rattle.std.specs.Prelude.{◌<◌, ⊤, ℕ, List, All, Option, None, Some}
 use Rattle.mpw_events.specs.declared.event.Call.{Call}
 use Rattle.mpw_receipts.specs.Owner.{owner_of}

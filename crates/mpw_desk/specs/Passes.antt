@@ -1,4 +1,4 @@
--- What a pass knows once it was let through the lock, in whatever order others were.
+-- What a pass knows after its critical section, in whatever order others had theirs.
 use Rattle.std.specs.Prelude.{◌≡◌, ◌⊎◌, ◌≤◌, ◌<◌, ◌+◌, ℕ, Bool, [], length, Option, None, Some}
 use Rattle.mpw_events.specs.declared.event.Event.{Event}
 use Rattle.mpw_events.specs.declared.event.Response.{Response}
@@ -9,7 +9,8 @@ use Rattle.mpw_run.specs.declared.phase.RunReply.TheVariants.{NoJob}
 use Rattle.mpw_desk.specs.Steps.{Records}
 use Rattle.mpw_desk.specs.Values.{LockedDesk, PassView}
 
--- the event is recorded with what it was told, or it was told that the desk is closed or its history full, and the pass is left
+-- the event is recorded with its response; or the response is that the desk is closed or its history full,
+-- and the pass is unchanged
 abbrev pub Grows : PassView → Event → Response → PassView → Type 0
 Grows p event response p' =
     ((p' ≡ p) × IsEnded event response) ⊎ ((kept : Bool) × Records event response kept p p')
@@ -18,7 +19,7 @@ Grows p event response p' =
 abbrev pub IsSpent : LockedDesk → Type 0
 IsSpent l = (1048576 ≤ l.made) ⊎ (l.next ≡ 4294967295)
 
--- a new pass has the next number, no receipts and no calls; the desk and its calls are left
+-- a new pass has the next number, no receipts and no calls; the desk and its calls are unchanged
 pub record IsAdmitted (l : LockedDesk) (p : PassView) (l' : LockedDesk) : Type 0 where
   pub room : (l.made < 1048576) × (l.next < 4294967295)
   pub connection : p.connection ≡ l.next
@@ -26,12 +27,12 @@ pub record IsAdmitted (l : LockedDesk) (p : PassView) (l' : LockedDesk) : Type 0
   pub count : p.count ≡ 0
   pub left : l' ≡ record l { next = l.next + 1; made = l.made + 1 }
 
--- a pass is given just where one is left
+-- a pass is given exactly if one is left
 abbrev pub Admits : LockedDesk → Option PassView → LockedDesk → Type 0
 Admits l None l' = IsSpent l × (l' ≡ l)
 Admits l (Some p) l' = IsAdmitted l p l'
 
--- so it was of the desk that went on from where it was shared, at the moment when the lock was held
+-- this held at the moment when the lock was held
 pub record HasAdmitted (begun : KeptDesk) (first : ℕ) (given : Option PassView) : Type 0 where
   pub before : LockedDesk
   pub behind : LockedDesk
@@ -39,19 +40,19 @@ pub record HasAdmitted (begun : KeptDesk) (first : ℕ) (given : Option PassView
   pub from : first ≤ before.next
   pub admits : Admits before given behind
 
--- so many calls has a desk that went on from where it was shared
+-- the number of calls of a desk, at some moment since it was shared
 pub record HasCalls (begun : KeptDesk) (count : ℕ) : Type 0 where
   pub before : KeptDesk
   pub goes : GoesOnTo begun before
   pub counted : count ≡ length before.desk.history
 
--- a worker's calls are counted, and leave the receipts
+-- a worker's calls are counted, and its receipts are unchanged
 pub record Works (p p' : PassView) : Type 0 where
   pub receipts : p'.receipts ≡ p.receipts
   pub connection : p'.connection ≡ p.connection
   pub count : p.count ≤ p'.count
 
--- what a worker is told at last: that there is no job, or that nothing is answered any more
+-- a worker's last response: that there is no job, or that nothing is answered any more
 abbrev pub no_job : Response
 no_job = response.Run NoJob
 

@@ -11,7 +11,8 @@ use Rattle.mpw_events.specs.Step.{not_kept_response}
 use Rattle.mpw_replies.specs.declared.reply.Reply.{Reply}
 use Rattle.mpw_desk.specs.Values.{LockedDesk, PassView}
 
--- what a pass may hand in: a request and an end of its own connection, and what is nobody's; never a restart
+-- what a pass may hand in: a request and an end of its own connection, and events that belong to no
+-- connection; never a restart
 abbrev pub MayHandIn : ℕ → Event → Type 0
 MayHandIn connection (event.Ask asker request) = asker ≡ connection
 MayHandIn connection (event.Gone gone) = gone ≡ connection
@@ -20,7 +21,7 @@ MayHandIn connection (event.Cut answer) = ⊤
 MayHandIn connection (event.Tile answer) = ⊤
 MayHandIn connection event.Restart = ⊥
 
--- the same but requests, after which a worker may have to be told
+-- the same without requests, after which a worker may have to be woken
 abbrev pub MayHandInBesides : ℕ → Event → Type 0
 MayHandInBesides connection (event.Ask asker request) = ⊥
 MayHandInBesides connection (event.Gone gone) = gone ≡ connection
@@ -32,7 +33,7 @@ MayHandInBesides connection event.Restart = ⊥
 abbrev pub call_of : Event → Response → Bool → Call
 call_of event response kept = record { event = event; response = response; kept = kept }
 
--- receipts with a call more, where it is a connection's
+-- receipts with one more call, if it belongs to a connection
 abbrev pub with_own : List Call → Call → Event → List Call
 with_own receipts call (event.Ask asker request) = receipts ++ call ∷ []
 with_own receipts call (event.Gone gone) = receipts ++ call ∷ []
@@ -41,8 +42,8 @@ with_own receipts call (event.Cut answer) = receipts
 with_own receipts call (event.Tile answer) = receipts
 with_own receipts call event.Restart = receipts
 
--- an answer that the history has: that of a request is a reply, and neither that the desk is closed nor that its history is full. Each other
--- event may be told `Ended` there, where its change could not be kept
+-- an answer that the history has: a request gets a reply, and never that the desk is closed or its history
+-- full. Any other event may get `Ended` there, if its change could not be stored
 abbrev pub IsAnswer : Event → Response → Type 0
 IsAnswer (event.Ask connection request) answered =
     (answered ≢ closed_response (event.Ask connection request))
@@ -54,8 +55,8 @@ IsAnswer (event.Cut answer) answered = ⊤
 IsAnswer (event.Tile answer) answered = ⊤
 IsAnswer event.Restart answered = ⊤
 
--- what a connection's call was answered, if its change was kept or not: a request that was not kept is told so, and an end is told `Gone` just if
--- it was kept
+-- the response to a connection's call, by whether its change was stored: a request that wasn't stored gets
+-- that reply, and an end gets `Gone` exactly if it was stored
 abbrev pub IsToldAs : Event → Response → Bool → Type 0
 IsToldAs (event.Ask connection request) answered kept =
     kept ≡ false → answered ≡ not_kept_response (event.Ask connection request)
@@ -66,7 +67,7 @@ IsToldAs (event.Cut answer) answered kept = ⊤
 IsToldAs (event.Tile answer) answered kept = ⊤
 IsToldAs event.Restart answered kept = ⊤
 
--- the call is recorded: the pass counts one more, and its receipts have it where it is a connection's
+-- the call is recorded: the pass counts one more, and its receipts have it if it belongs to a connection
 pub record Records (event : Event) (response : Response) (kept : Bool) (p p' : PassView) : Type 0 where
   pub answer : IsAnswer event response
   pub told : IsToldAs event response kept
@@ -74,8 +75,8 @@ pub record Records (event : Event) (response : Response) (kept : Bool) (p p' : P
   pub count : p'.count ≡ p.count + 1
   pub connection : p'.connection ≡ p.connection
 
--- the step of the desk, and what was recorded of it: nothing, where the desk is closed or its history full, or one call, in the history and
--- in the pass
+-- the step of the desk, and what was recorded of it: nothing, if the desk is closed or its history full; else
+-- one call, in the history and in the pass
 pub record Steps (event : Event) (response : Response) (l l' : LockedDesk) (p p' : PassView) :
     Type 0 where
   pub handled : IsHandled l.kept event response l'.kept

@@ -1,5 +1,5 @@
-//! What workers know of the desk beside the model: whether there may be something to take. The lock's invariant says that they don't rest while there
-//! is: the hints follow each event in the section that handles it. To wake somebody for nothing costs a call.
+//! What workers know of the desk apart from the model: whether there may be a job to take. By the lock's invariant they don't rest while
+//! there is one: the hints are updated after each event, in the section that handles it. A needless wake-up costs a call.
 ghost use Rattle.std.specs.Prelude.{◌≡◌, true, false, Some};
 ghost use Rattle.mpw_desk.specs.Hints.{asked_by, asked_of, is_accepted, is_no_job, may_take, noted, with_work, without, woken_by, woken_by_job};
 
@@ -8,7 +8,7 @@ use mpw_replies::Reply;
 use mpw_requests::{Request, RunRequest};
 use mpw_run::RunReply;
 
-/// Whom an event that was answered concerns among those who wait.
+/// Which waiting workers an answered event concerns.
 #[derive(Clone, Copy, PartialEq, Eq)]
 pub(crate) enum Waking {
     Nobody,
@@ -19,10 +19,10 @@ pub(crate) enum Waking {
 /// Whether workers are to end, and whether there may be a job.
 #[derive(Clone, Copy)]
 pub(crate) struct Hints {
-    /// No worker waits any more.
+    /// Workers are to end, and wait no more.
     pub(crate) is_stopped: bool,
     has_work: bool,
-    /// The number of the run that a worker cuts, so that no other worker cuts it meanwhile.
+    /// The number of the run that a worker is cutting, so that no other worker cuts it meanwhile.
     cutting: Option<u32>,
 }
 
@@ -66,7 +66,7 @@ fn is_accepted(response: &Response) -> bool
     matches!(response, Response::Told(Reply::Ok(_)))
 }
 
-/// Whether a call for a job was answered that there is none.
+/// Whether the answer to a call for a job is that there is none.
 fn is_no_job(response: &Response) -> bool
     ensures { result ≡ is_no_job response.now }
 {
@@ -77,7 +77,7 @@ fn is_no_job(response: &Response) -> bool
 }
 
 impl Hints {
-    /// Of a desk of which nothing is known: there may be a run.
+    /// The hints of a desk of which nothing is known: there may be a run.
     pub(crate) fn new() -> Hints
         ensures stopped { result.is_stopped ≡ false }
         ensures work { result.has_work ≡ true }
@@ -89,14 +89,14 @@ impl Hints {
         }
     }
 
-    /// Whether a worker may find something to take.
+    /// Whether a worker may find a job to take.
     pub(crate) fn may_take(self) -> bool
         ensures { result ≡ may_take self }
     {
         self.has_work && self.cutting.is_none()
     }
 
-    /// With or without work, and with no worker that cuts.
+    /// The hints with or without work, and with no worker that is cutting.
     fn with_work(self, has_work: bool) -> Hints
         ensures { result ≡ with_work has_work self }
     {
@@ -107,7 +107,7 @@ impl Hints {
         }
     }
 
-    /// The hints after an event that asked that and was answered so: an accepted run has something to take, and one that was left has not.
+    /// The hints after an event with that request and that response: an accepted run has work, and a cancelled one has none.
     pub(crate) fn noted(self, asked: Asked, response: &Response) -> Hints
         ensures { result ≡ noted asked response.now self }
     {
@@ -123,7 +123,7 @@ impl Hints {
         }
     }
 
-    /// The hints while a worker cuts the run of that number.
+    /// The hints while a worker is cutting the run of that number.
     pub(crate) fn while_cut(self, run: u32) -> Hints
         ensures stopped { result.is_stopped ≡ self.is_stopped }
         ensures work { result.has_work ≡ self.has_work }
@@ -150,7 +150,7 @@ impl Hints {
     }
 }
 
-/// The run that is cut, unless it is that one.
+/// The run that is being cut, unless it is that one.
 fn without(run: u32, cutting: Option<u32>) -> Option<u32>
     ensures { result ≡ without run cutting }
 {
@@ -161,7 +161,7 @@ fn without(run: u32, cutting: Option<u32>) -> Option<u32>
 }
 
 impl Waking {
-    /// Whom a request concerns: one worker cuts an accepted run, and all leave one that was cancelled.
+    /// Which workers to wake after a request: one, to cut an accepted run; all, to leave a cancelled one.
     pub(crate) fn after_request(asked: Asked, response: &Response) -> Waking
         ensures { result ≡ woken_by asked (is_accepted response.now) }
     {
@@ -172,7 +172,7 @@ impl Waking {
         }
     }
 
-    /// Whom what came of a job concerns: windows give tiles to all workers, and a finished run leaves them none.
+    /// Which workers to wake after the result of a job: all, if it was a cut, whose windows give tiles, or if the run is finished.
     pub(crate) fn after_job(is_cut: bool, response: &Response) -> Waking
         ensures { result ≡ woken_by_job is_cut response.now }
     {

@@ -1,4 +1,4 @@
-//! Serving a connection over a desk that others share.
+//! Serves a connection over a shared desk.
 ghost use Rattle.std.specs.Prelude.{◌≡◌};
 ghost use Rattle.mpw_desk.specs.Serving.{IsAsked, IsParted};
 ghost use Rattle.mpw_serve.specs.Serving.{LeavesNothingPending, Serves, write_failures};
@@ -16,17 +16,16 @@ use std::alloc::Global;
 use std::marker::Model;
 use std::sync::Wait;
 
-/// Who is shown the requests of a connection with their answers, as one who keeps a log. It is called outside the lock, and takes no part in a
-/// contract.
+/// Sees the requests of a connection and their answers, for example to write a log. It is called outside the lock, and no contract speaks of it.
 pub trait Witness {
-    /// The request is put to the desk.
+    /// The request is about to be passed to the desk.
     fn asked(&mut self, request: &Request);
 
-    /// The request before was answered; with none where memory was wanting.
+    /// The request before was answered; none if out of memory.
     fn answered(&mut self, response: Option<&Response>);
 }
 
-/// A witness that looks away.
+/// A witness that does nothing.
 #[derive(Clone, Copy)]
 pub struct Unwatched;
 
@@ -36,11 +35,11 @@ impl Witness for Unwatched {
     fn answered(&mut self, _response: Option<&Response>) {}
 }
 
-/// The pass of a connection, and who is shown its requests.
+/// The pass of a connection, and the witness of its requests.
 pub struct Caller<N: Room, W: Witness + Drop> {
     /// The pass.
     pub pass: Pass<N>,
-    /// Who is shown the requests.
+    /// The witness of the requests.
     pub witness: W,
 }
 
@@ -62,7 +61,7 @@ impl<N: Room, W: Witness + Drop> Caller<N, W> {
     }
 }
 
-/// A shared desk with the pass of a connection, what may wait for the lock, and who is shown the requests. Contracts see the pass.
+/// A shared desk with the pass of a connection, the runtime that waits for the lock, and the witness of the requests. Contracts see the pass.
 struct Lent<'a, H: Handler + Drop, K: Keeper + Drop, N: Room, R: Wait, W: Witness + Drop> {
     rt: &'a R,
     shared: &'a Shared<H, K, N>,
@@ -141,9 +140,9 @@ where
     }
 }
 
-/// Serves a connection over a shared desk with its pass, as [`serve_connection`] does, and gives the pass back. The lock is held in the
-/// desk's steps alone: lines and payloads are read and replies are written outside it. A `run` that is accepted is answered at once, and
-/// left to the workers. The connection's end is told as handed in where it stands in the receipts.
+/// Serves a connection over a shared desk with its pass, as [`serve_connection`] does, and returns the pass. The lock is held in the desk's
+/// steps only: lines and payloads are read, and replies are written, outside it. An accepted `run` is answered at once, and left to the
+/// workers. The result says that the connection's end was handed in exactly if the receipts have it.
 pub fn serve_pass<H, K, N, R, I, O>(
     rt: &R,
     alloc: Global,
@@ -171,7 +170,7 @@ where
     serve_caller(rt, alloc, shared, caller, reader, writer)
 }
 
-/// Serves a connection as [`serve_pass`] does, and shows a witness its requests with their answers.
+/// Serves a connection as [`serve_pass`] does, and passes its requests and their answers to a witness.
 pub fn serve_caller<H, K, N, R, W, I, O>(
     rt: &R,
     alloc: Global,

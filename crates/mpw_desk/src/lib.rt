@@ -1,13 +1,15 @@
 //! The desk that many connections share: one lock, and one critical section for each event.
 //!
-//! Under the lock lie the core, its keeper, and a register of the calls since the desk was shared. Who asks has a [`Pass`]: the number
-//! of its connection, with receipts that exist in the proofs alone. [`Shared::ask`] takes the lock, hands one event to the core, and
-//! adds the call to the history, to the register and to the pass's receipts; the lock is held for that alone. Workers take a run's jobs
-//! under the lock and do them outside it ([`Shared::worker`]). At the end [`Shared::conclude`] compares what the passes counted with the
-//! history: then they counted as many calls as it has since the desk was shared, each of these calls is legal, and each pass's receipts are the
-//! calls of its connection, each once, in order.
+//! The lock guards the core, its store writer, and a register of the calls since the desk was shared. Each connection and each worker has a
+//! [`Pass`]: a connection number, with receipts that exist in the proofs alone. [`Shared::ask`] takes the lock, hands one event to the
+//! core, and adds the call to the history, to the register and to the pass's receipts. The lock is held for that alone. Workers take a
+//! run's jobs under the lock and do them outside it ([`Shared::worker`]).
 //!
-//! Begin with `locked.rt`, which has the critical section as a function that waits for nobody; `shared.rt` only takes the lock.
+//! At the end [`Shared::conclude`] compares the counts of the passes with the history. If they agree, the passes counted as many calls as
+//! the history has since the desk was shared, each of these calls is legal, and each pass's receipts are the calls of its connection, each
+//! once, in order.
+//!
+//! Begin with `locked.rt`, which has the critical section as a function that waits for nobody. `shared.rt` only takes the lock.
 #![tactic(auto)]
 
 mod hints;

@@ -1,4 +1,4 @@
-//! What lies under the lock, and the critical section itself, as functions that wait for nobody.
+//! What the lock guards, and the critical section itself, as functions that wait for nobody.
 ghost use Rattle.std.specs.Prelude.{◌≡◌, ◌+◌, ◌++◌, ◌≤◌, ◌<◌, ℕ, [], true, false, length, IfOk, OnErr};
 ghost use Rattle.mpw_desk.specs.Finished.{IsFinished};
 ghost use Rattle.mpw_desk.specs.Legal.{GoesLegally, WentLegally};
@@ -26,9 +26,9 @@ use std::sync::ledger::{Book, Share};
 /// The greatest number of passes of one shared desk.
 pub const MOST_PASSES: u32 = 1 << 20;
 
-/// The core with its keeper, the register of the calls since the desk was shared, the ledger's book, and the parts for passes to
-/// come. Contracts see the desk with its keeper, the calls since it was shared, how many were counted, the number of the next connection, how
-/// many passes were made, and whether the workers are to end.
+/// The core with its store writer, the register of the calls since the desk was shared, the ledger's book, and the parts for future passes.
+/// Contracts see the desk with its store writer, the calls since it was shared, how many were counted, the number of the next connection,
+/// how many passes were made, and whether the workers are to end.
 pub struct Locked<H: Handler + Drop, K: Keeper + Drop, N: Room> {
     core: Box<H>,
     keeper: K,
@@ -78,8 +78,8 @@ impl<H: Handler + Drop, K: Keeper + Drop, N: Room> Model for Locked<H, K, N> {
 }
 
 impl<H: Handler + Drop, K: Keeper + Drop, N: Room> Locked<H, K, N> {
-    /// A desk that is shared from now on, under its name. The next connection has that number, which is greater than that of each connection
-    /// before. It takes no memory, and costs as many steps as numbers are skipped.
+    /// A desk that is shared from now on, under its name. `first` is the number of the next connection; it is greater than that of each
+    /// connection before. It takes no memory. Cost: as many steps as numbers are skipped.
     #[tactic(auto, using(crate::proofs::Legality::none_since))]
     pub fn new(core: Box<H>, keeper: K, blank: Blank, first: u32) -> Locked<H, K, N>
         requires begun { N.begun ≡ kept_desk (H.desk core.value) (K.kept keeper) (K.failures keeper) }
@@ -115,7 +115,7 @@ impl<H: Handler + Drop, K: Keeper + Drop, N: Room> Locked<H, K, N> {
         }
     }
 
-    /// A pass for the next connection, or for a worker; none just after 2^20 passes, and where no number is left.
+    /// A pass for the next connection, or for a worker. None exactly if 2^20 passes were made, or no number is left.
     pub fn admit(&mut self) -> Option<Pass<N>>
         ensures admits { Admits self.old result self.new }
         ensures goes { GoesOnTo N.begun self.old.kept }
@@ -144,8 +144,7 @@ impl<H: Handler + Drop, K: Keeper + Drop, N: Room> Locked<H, K, N> {
         &self.core
     }
 
-    /// The number of calls of the desk's history: those of before, and then those since it was shared. These are legal, and were counted.
-    /// Constant time.
+    /// The number of calls in the desk's history: those before it was shared, and those since. The latter are legal, and were counted. Constant time.
     pub fn calls(&self) -> usize
         ensures counted { result ≡ length self.now.kept.desk.history }
         ensures goes { GoesOnTo N.begun self.now.kept }
@@ -156,7 +155,7 @@ impl<H: Handler + Drop, K: Keeper + Drop, N: Room> Locked<H, K, N> {
         self.core.calls().len()
     }
 
-    /// No worker waits any more. Nothing else changes.
+    /// Ends the workers: none waits any more. Nothing else changes.
     pub fn stop(&mut self)
         ensures { self.new ≡ record self.old { is_stopped = true } }
     {
@@ -170,19 +169,19 @@ impl<H: Handler + Drop, K: Keeper + Drop, N: Room> Locked<H, K, N> {
         self.hints.is_stopped
     }
 
-    /// Whether a worker may find something to take.
+    /// Whether a worker may find a job to take.
     pub(crate) fn may_take(&self) -> bool {
         self.hints.may_take()
     }
 
-    /// Notes that a worker cuts the run of that number. The model doesn't change.
+    /// Notes that a worker is cutting the run of that number. The model doesn't change.
     pub(crate) fn note_cutting(&mut self, run: u32)
         ensures { self.new ≡ self.old }
     {
         self.hints = self.hints.while_cut(run);
     }
 
-    /// Notes that a worker has handed in the windows of the run of that number, or gave up. The model doesn't change.
+    /// Notes that a worker handed in the windows of the run of that number, or gave up. The model doesn't change.
     pub(crate) fn note_cut(&mut self, run: u32)
         ensures { self.new ≡ self.old }
     {
@@ -196,7 +195,7 @@ impl<H: Handler + Drop, K: Keeper + Drop, N: Room> Locked<H, K, N> {
         (self.calls() - self.base) as u64
     }
 
-    /// The core with its keeper.
+    /// The core with its store writer.
     fn into_desk(self) -> (Box<H>, K)
         ensures { kept_desk (H.desk result.0.value) (K.kept result.1) (K.failures result.1) ≡ self.kept }
     {
@@ -217,7 +216,7 @@ impl<H: Handler + Drop, K: Keeper + Drop, N: Room> Locked<H, K, N> {
         (core, keeper)
     }
 
-    /// Takes a pass in: its calls are counted, and its receipts compared. There are so many calls at most.
+    /// Takes a pass back: adds its calls to the count, and compares its receipts. There are at most `most` calls.
     fn take_in(&mut self, pass: Pass<N>, all: &mut Share<N>, count: u64, most: u64) -> u64
         requires amount { all.old.amount ≡ count }
         requires most { length self.old.calls ≤ most }
@@ -233,11 +232,11 @@ impl<H: Handler + Drop, K: Keeper + Drop, N: Room> Locked<H, K, N> {
         count + calls
     }
 
-    /// The core with its keeper, if these passes counted all the calls since the desk was shared. These are legal, and the keeper failed just at
-    /// those that were not kept. It costs the passes.
+    /// The core with its store writer, if these passes counted all calls since the desk was shared. These calls are legal, and the store
+    /// writer failed exactly at those that weren't stored. Cost: the passes.
     ///
     /// # Errors
-    /// Where they made another number of calls, as where a pass was kept back.
+    /// `Mismatch` if they made another number of calls, for example because a pass is missing.
     pub fn finish(mut self, passes: Vec<Pass<N>>) -> Result<(Box<H>, K), Mismatch>
         ensures legal { IfOk result (λ left. WentLegally N.begun (kept_desk (H.desk left.0.value) (K.kept left.1) (K.failures left.1))) }
         ensures finished { IfOk result (λ left. IsFinished N.begun (kept_desk (H.desk left.0.value) (K.kept left.1) (K.failures left.1)) passes.items) }
@@ -256,10 +255,10 @@ impl<H: Handler + Drop, K: Keeper + Drop, N: Room> Locked<H, K, N> {
     }
 }
 
-/// Hands an event in by a pass.
+/// Hands in an event by a pass.
 ///
 /// # Errors
-/// Where there is no room; nothing has changed.
+/// Out of memory. Then nothing has changed.
 fn hand_in<H: Handler + Drop, K: Keeper + Drop, N: Room>(
     locked: &mut Locked<H, K, N>,
     pass: &mut Pass<N>,
@@ -291,11 +290,11 @@ fn hand_in<H: Handler + Drop, K: Keeper + Drop, N: Room>(
     Ok(response)
 }
 
-/// One event of a pass but a request: the end of its own connection, or an event of the run, which is nobody's. It waits for nobody, and
-/// costs the core's step.
+/// Hands in an event of a pass that is no request: the end of its own connection, or an event of the run, which belongs to no connection.
+/// It waits for nobody. Cost: the core's step.
 ///
 /// # Errors
-/// Where there is no room; nothing has changed.
+/// Out of memory. Then nothing has changed.
 pub fn event_in<H: Handler + Drop, K: Keeper + Drop, N: Room>(
     locked: &mut Locked<H, K, N>,
     pass: &mut Pass<N>,
@@ -308,10 +307,10 @@ pub fn event_in<H: Handler + Drop, K: Keeper + Drop, N: Room>(
     hand_in(locked, pass, event)
 }
 
-/// A request of the pass's connection. It waits for nobody, and costs the core's step.
+/// Hands in a request of the pass's connection. It waits for nobody. Cost: the core's step.
 ///
 /// # Errors
-/// Where there is no room; nothing has changed.
+/// Out of memory. Then nothing has changed.
 pub fn ask_in<H: Handler + Drop, K: Keeper + Drop, N: Room>(
     locked: &mut Locked<H, K, N>,
     pass: &mut Pass<N>,

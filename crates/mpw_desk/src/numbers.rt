@@ -5,7 +5,7 @@ ghost use Rattle.mpw_receipts.specs.Owner.{owner_of};
 
 use mpw_events::{Call, Event};
 
-/// Whether the call is of no connection with that number or a greater one.
+/// Whether the call belongs to no connection with that number or a greater one.
 fn is_below(first: u32, call: &Call) -> bool
     ensures { result ≡ true → IsBelow first (owner_of call.now) }
 {
@@ -15,8 +15,7 @@ fn is_below(first: u32, call: &Call) -> bool
     }
 }
 
-/// Whether none of the calls is of a connection with that number or a greater one, as a desk needs that is shared from that number on. It costs
-/// the calls.
+/// Whether no call belongs to a connection with that number or a greater one. A desk that is shared from that number on needs this. Cost: the calls.
 pub fn are_below(first: u32, calls: &[Call]) -> bool
     ensures { result ≡ true → AreBelow first calls.now }
 {

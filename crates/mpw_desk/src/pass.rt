@@ -1,4 +1,4 @@
-//! A pass: what whoever asks has of the desk.
+//! A pass: what a connection or a worker has of the desk.
 ghost use Rattle.std.specs.Prelude.{◌≡◌, ◌+◌, ◌≤◌, [], ◌∷◌, ◌++◌};
 ghost use Rattle.mpw_desk.specs.Steps.{IsAnswer, IsToldAs, MayHandIn, Records, with_own};
 ghost use Rattle.mpw_receipts.specs.Calls.{calls_of};
@@ -10,8 +10,8 @@ use mpw_receipts::{Receipts, Register};
 use std::marker::Model;
 use std::sync::ledger::{Book, Share};
 
-/// The number of a connection, the receipts of its calls, how many calls were made with it, and the share of the ledger that stands for
-/// it. Contracts see the first three; the receipts and the share have no byte.
+/// The number of a connection, the receipts of its calls, how many calls were made with it, and its share of the ledger. Contracts see the
+/// first three. The receipts and the share take no bytes.
 pub struct Pass<N: Room> {
     pub(crate) receipts: Receipts<Call, N>,
     pub(crate) connection: u32,
@@ -43,7 +43,7 @@ impl<N: Room> Model for Pass<N> {
     ghost invariant = { λ p. (p.connection ≡ p.receipts.number) × (p.share.parts ≡ 1) × (p.share.amount ≡ p.calls) × (N.first ≤ p.receipts.number) };
 }
 
-/// Adds a call to the register, and to the receipts where it is their connection's.
+/// Adds a call to the register. Adds it to the receipts too, if it belongs to their connection.
 fn note<N: Room>(register: &mut Register<Call, N>, receipts: &mut Receipts<Call, N>, call: &Call)
     requires { MayHandIn receipts.old.number call.now.event }
     ensures calls { register.new.calls ≡ register.old.calls ++ call.now ∷ [] }
@@ -59,7 +59,7 @@ fn note<N: Room>(register: &mut Register<Call, N>, receipts: &mut Receipts<Call,
     }
 }
 
-/// Counts a call, of which there are at most so many with it.
+/// Counts a call. There are at most `made` calls, including it.
 fn count<N: Room>(book: &mut Book<N>, share: &mut Share<N>, calls: &mut u64, made: usize)
     requires made { book.old.total + 1 ≤ made }
     requires amount { share.old.amount ≡ calls.old }
@@ -75,7 +75,7 @@ fn count<N: Room>(book: &mut Book<N>, share: &mut Share<N>, calls: &mut u64, mad
 }
 
 impl<N: Room> Pass<N> {
-    /// The number of its connection, 1 to 2^32 - 2. It is none of a connection before the desk was shared.
+    /// The number of its connection, 1 to 2^32 - 2. No connection before the desk was shared has it.
     pub fn connection(&self) -> u32
         ensures number { result ≡ self.now.connection }
         ensures from { N.first ≤ result }
@@ -90,7 +90,7 @@ impl<N: Room> Pass<N> {
         self.calls
     }
 
-    /// Takes a call down, of which there are at most so many with it: in the register, in the receipts and in the count.
+    /// Records a call in the register, in the receipts and in the count. There are at most `made` calls, including it.
     pub(crate) fn record(
         &mut self,
         register: &mut Register<Call, N>,
@@ -111,7 +111,7 @@ impl<N: Room> Pass<N> {
         count(book, &mut self.share, &mut self.calls, made);
     }
 
-    /// The number of calls with its share, once the receipts are compared with the register.
+    /// The number of calls with its share, after the receipts were compared with the register.
     pub(crate) fn compared(self, register: &mut Register<Call, N>) -> (u64, Share<N>)
         ensures same { register.new ≡ register.old }
         ensures calls { result.0 ≡ self.count }

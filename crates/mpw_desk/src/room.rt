@@ -1,4 +1,4 @@
-//! What names one desk in the proofs, and what a desk is made of before it has a name.
+//! The name of one desk in the proofs, and what a desk is made of before it has a name.
 ghost use Rattle.std.specs.Prelude.{◌≡◌, IfOk};
 
 use mpw_events::Call;
@@ -7,8 +7,8 @@ use std::alloc::{AllocError, Global};
 use std::marker::{Brand, Model};
 use std::sync::ledger::{self, Ledger};
 
-/// Names one desk: the ledger that counts its calls, the register of its calls, and where it began. A pass names its desk by its type, so
-/// that a pass of another desk doesn't fit.
+/// Names one desk: the ledger that counts its calls, the register of its calls, and the state in which it began. A pass names its desk by
+/// its type. So a pass of another desk doesn't fit.
 pub trait Room: Ledger + Naming {
     ghost use Rattle.std.specs.Prelude.{ℕ};
     ghost use Rattle.mpw_events.specs.History.{KeptDesk};
@@ -16,7 +16,7 @@ pub trait Room: Ledger + Naming {
     /// All parts of the ledger.
     ghost all: { ℕ };
 
-    /// The desk with its keeper, as it stood when it was shared.
+    /// The desk with its store writer, as it was when it was shared.
     ghost begun: { KeptDesk };
 
     /// The number of the first connection since then.
@@ -33,10 +33,10 @@ impl Room for Brand {
     ghost first = { 0 };
 }
 
-/// The parts of the ledger: one for each pass, and more.
+/// The number of parts of the ledger: one for each pass, and more.
 const PARTS: u64 = 1 << 21;
 
-/// A ledger and a register without calls, before they are named. To share a desk takes one, and no further memory.
+/// A ledger and a register without calls, before they are named. Sharing a desk takes one, and no further memory.
 pub struct Blank {
     parts: ledger::Blank,
     register: Opened<Call>,
@@ -62,7 +62,7 @@ impl Blank {
     /// A ledger of 2^21 parts, and a register without calls. One allocation.
     ///
     /// # Errors
-    /// Where there is no room for it.
+    /// Out of memory.
     pub fn new(alloc: Global) -> Result<Blank, AllocError>
         ensures { IfOk result (λ blank. blank.parts ≡ 2097152) }
     {

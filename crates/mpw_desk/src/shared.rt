@@ -1,4 +1,4 @@
-//! The desk that threads share, and its end.
+//! The desk that threads share, and how it ends.
 ghost use Rattle.std.specs.Prelude.{◌≡◌, ◌≤◌, ◌<◌, [], IfOk, IfSome, OnErr};
 ghost use Rattle.mpw_desk.specs.Finished.{IsFinished};
 ghost use Rattle.mpw_desk.specs.Legal.{WentLegally};
@@ -22,7 +22,7 @@ use std::sync::{Condvar, Mutex, MutexGuard, Wait};
 #[derive(Clone, Copy, PartialEq, Eq, Debug)]
 pub struct Mismatch;
 
-/// A desk that threads share: each call takes its lock once. A connection waits for it behind one worker at most.
+/// A desk that threads share: each call takes its lock once. At most one worker at a time competes with connections for it (`turns.rt`).
 pub struct Shared<H: Handler + Drop, K: Keeper + Drop, N: Room> {
     pub(crate) locked: Mutex<Locked<H, K, N>>,
     pub(crate) moved: Condvar,
@@ -43,7 +43,7 @@ impl<H: Handler + Drop, K: Keeper + Drop, N: Room> Drop for Shared<H, K, N> {
 }
 
 impl<H: Handler + Drop, K: Keeper + Drop, N: Room> Shared<H, K, N> {
-    /// Shares a desk, whose next connection has that number, which is greater than that of each connection before. It takes no memory.
+    /// Shares a desk. `first` is the number of its next connection, which is greater than that of each connection before. It takes no memory.
     pub fn new(core: Box<H>, keeper: K, blank: Blank, first: u32) -> Shared<H, K, N>
         requires begun { N.begun ≡ kept_desk (H.desk core.value) (K.kept keeper) (K.failures keeper) }
         requires name { blank.name ≡ N.name }
@@ -59,7 +59,7 @@ impl<H: Handler + Drop, K: Keeper + Drop, N: Room> Shared<H, K, N> {
         }
     }
 
-    /// A pass for a connection or a worker, with the next number; none just after 2^20 passes, and where no number is left.
+    /// A pass for a connection or a worker, with the next number. None exactly if 2^20 passes were made, or no number is left.
     pub fn pass<R: Wait>(&self, rt: &R) -> Option<Pass<N>>
         ensures admits { HasAdmitted N.begun N.first result }
         ensures new { IfSome result (λ p. (p.receipts ≡ []) × (p.count ≡ 0)) }
@@ -67,17 +67,17 @@ impl<H: Handler + Drop, K: Keeper + Drop, N: Room> Shared<H, K, N> {
         self.lock(rt).admit()
     }
 
-    /// The number of calls of the desk's history, as it stood while the lock was held.
+    /// The number of calls in the desk's history, at the moment when the lock was held.
     pub fn calls<R: Wait>(&self, rt: &R) -> usize
         ensures { HasCalls N.begun result }
     {
         self.lock(rt).calls()
     }
 
-    /// Puts a request of the pass's connection to the desk. The lock is held for the desk's step alone.
+    /// Passes a request of the pass's connection to the desk. The lock is held for the desk's step alone.
     ///
     /// # Errors
-    /// Where there is no room; the pass is as it was.
+    /// Out of memory. Then the pass is unchanged.
     pub fn ask<R: Wait>(
         &self,
         rt: &R,
@@ -96,7 +96,7 @@ impl<H: Handler + Drop, K: Keeper + Drop, N: Room> Shared<H, K, N> {
     /// Hands in the end of the pass's connection.
     ///
     /// # Errors
-    /// Where there is no room; the pass is as it was.
+    /// Out of memory. Then the pass is unchanged.
     pub fn gone<R: Wait>(&self, rt: &R, pass: &mut Pass<N>) -> Result<Response, AllocError>
         ensures ok { IfOk result (λ response. Grows pass.old (event.Gone pass.old.connection) response pass.new) }
         ensures err { OnErr result (pass.new ≡ pass.old) }
@@ -105,8 +105,8 @@ impl<H: Handler + Drop, K: Keeper + Drop, N: Room> Shared<H, K, N> {
         event_in(&mut *self.lock(rt), pass, Event::Gone { connection })
     }
 
-    /// Hands in the end of the pass's connection, and tells whether it stands in the receipts. It doesn't where there is no memory, and where the
-    /// desk is closed or its history full.
+    /// Hands in the end of the pass's connection. It returns whether the receipts have it. They don't if memory ran out, or the desk is
+    /// closed or its history full.
     pub fn part<R: Wait>(&self, rt: &R, pass: &mut Pass<N>) -> bool
         ensures { IsParted pass.old result pass.new }
     {
@@ -115,18 +115,18 @@ impl<H: Handler + Drop, K: Keeper + Drop, N: Room> Shared<H, K, N> {
         pass.calls() != before
     }
 
-    /// No worker waits any more: each takes once more, and returns where there is no job.
+    /// Ends the workers: each calls for a job once more, and returns if there is none.
     pub fn stop<R: Wait>(&self, rt: &R) {
         self.lock(rt).stop();
         self.moved.notify_all();
     }
 
-    /// The lock, in turn.
+    /// Takes the lock, in turn.
     pub(crate) fn lock<R: Wait>(&self, rt: &R) -> MutexGuard<'_, Locked<H, K, N>> {
         self.turns.lock(rt, &self.locked)
     }
 
-    /// Wakes workers that wait.
+    /// Wakes waiting workers.
     pub(crate) fn wake(&self, waking: Waking) {
         match waking {
             Waking::Nobody => {}
@@ -135,11 +135,11 @@ impl<H: Handler + Drop, K: Keeper + Drop, N: Room> Shared<H, K, N> {
         }
     }
 
-    /// The core with its keeper, if these passes counted all the calls since the desk was shared; their receipts are then the calls
-    /// of their connections. The calls are legal, and the keeper failed just at those that were not kept. It costs the passes.
+    /// The core with its store writer, if these passes counted all calls since the desk was shared. Their receipts are then the calls of
+    /// their connections. The calls are legal, and the store writer failed exactly at those that weren't stored. Cost: the passes.
     ///
     /// # Errors
-    /// Where they made another number of calls, as where a pass was kept back.
+    /// `Mismatch` if they made another number of calls, for example because a pass is missing.
     pub fn conclude(self, passes: Vec<Pass<N>>) -> Result<(Box<H>, K), Mismatch>
         ensures legal { IfOk result (λ left. WentLegally N.begun (kept_desk (H.desk left.0.value) (K.kept left.1) (K.failures left.1))) }
         ensures finished { IfOk result (λ left. IsFinished N.begun (kept_desk (H.desk left.0.value) (K.kept left.1) (K.failures left.1)) passes.items) }
@@ -154,10 +154,10 @@ impl<H: Handler + Drop, K: Keeper + Drop, N: Room> Shared<H, K, N> {
         locked.into_inner().finish(passes)
     }
 
-    /// The same as [`Self::conclude`], for a caller who doesn't ask whether each call was kept.
+    /// The same as [`Self::conclude`], for a caller who doesn't need to know whether each call was stored.
     ///
     /// # Errors
-    /// As there.
+    /// The same.
     pub fn finish(self, passes: Vec<Pass<N>>) -> Result<(Box<H>, K), Mismatch>
         ensures { IfOk result (λ left. IsFinished N.begun (kept_desk (H.desk left.0.value) (K.kept left.1) (K.failures left.1)) passes.items) }
     {

@@ -1,9 +1,10 @@
 //! Whose turn it is for the desk's lock.
 //!
-//! A mutex is not fair: a worker that hands in and calls again at once has the lock back before a connection that waits for it is awake,
-//! hundreds of times in a row. So who wants the lock passes a turnstile, which is left as soon as the lock is had; and workers stand in
-//! a line before it, which the first leaves when it gives the lock back. A connection then waits for who has the lock, for at most one
-//! worker at the turnstile, and for other connections. No proof rests on this: what is shared lies under the lock alone.
+//! A mutex isn't fair. A worker that hands in a result and calls again at once can take the lock hundreds of times in a row, before a
+//! connection that waits for it is awake. So each thread that wants the lock passes a turnstile, and leaves it as soon as it has the lock.
+//! Workers wait in a line before the turnstile. The first worker leaves the line when it gives the lock back. A connection then waits for
+//! the holder of the lock, for at most one worker at the turnstile, and for other connections. No proof relies on this: only the lock
+//! guards what is shared.
 
 use std::sync::{Mutex, MutexGuard, Wait};
 
@@ -23,8 +24,7 @@ impl Turns {
         }
     }
 
-    /// The first place in the line of workers, which is given up with what this returns. Nobody holds it while waiting on a condition
-    /// variable.
+    /// The first place in the line of workers, until the returned guard is dropped. Nobody holds it while waiting on a condition variable.
     pub(crate) fn first_in_line<R: Wait>(&self, rt: &R) -> MutexGuard<'_, ()> {
         self.line.lock(rt)
     }

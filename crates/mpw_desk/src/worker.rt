@@ -1,7 +1,7 @@
-//! A worker: it takes a job under the lock, does it outside, hands in what came of it, and waits where there is nothing to take.
+//! A worker: it takes a job under the lock, does it outside, hands in its result, and waits if there is nothing to take.
 //!
-//! An idle worker makes no call, since each call counts against the history's limit: hints beside the model say whether there may be a
-//! job. A job for which there is no memory is tried again after a pause, for the same reason.
+//! An idle worker makes no call, since each call counts against the history's limit. Hints apart from the model say whether there may be a
+//! job. For the same reason it tries a job that ran out of memory again only after a pause.
 ghost use Rattle.std.specs.Prelude.{◌≡◌, ◌<◌, ◌≤◌, ℕ, false, IfOk, OnErr};
 ghost use Rattle.mpw_desk.specs.Internal.Working.{AnyMayHandIn, EndsAs, EndsRightly, after, instruction_by, instruction_of, next_of, run_cut};
 ghost use Rattle.mpw_desk.specs.Passes.{IsLast, Works, no_job};
@@ -21,23 +21,23 @@ use std::sync::Wait;
 use std::thread;
 use std::time::{Clock, Duration};
 
-/// How long a worker waits after want of memory, in seconds.
+/// How long a worker pauses if it runs out of memory, in seconds.
 const PAUSE: u64 = 1;
 
 /// What a worker does next.
 #[derive(Drop)]
 pub(crate) enum Next {
-    /// The job that it was told.
+    /// It does the job that it got.
     Do(Response),
-    /// It ends, as it was told.
+    /// It ends with this response.
     End(Response),
-    /// It tries again, since there was no memory.
+    /// It tries again later, since memory ran out.
     Pause,
     /// It waits until it is woken.
     Rest,
 }
 
-/// What a response to a call for a job is to a worker.
+/// What a response to a call for a job means to a worker.
 #[derive(Clone, Copy)]
 pub(crate) enum Instruction {
     Cut(u32),
@@ -47,7 +47,7 @@ pub(crate) enum Instruction {
     Else,
 }
 
-/// What a reply of the run is to a worker.
+/// What a reply of the run means to a worker.
 fn instruction_by(reply: &RunReply) -> Instruction
     ensures { result ≡ instruction_by reply.now }
 {
@@ -59,7 +59,7 @@ fn instruction_by(reply: &RunReply) -> Instruction
     }
 }
 
-/// What the response is to a worker.
+/// What the response means to a worker.
 fn instruction_of(response: &Response) -> Instruction
     ensures { result ≡ instruction_of response.now }
 {
@@ -70,7 +70,7 @@ fn instruction_of(response: &Response) -> Instruction
     }
 }
 
-/// What a worker does that was told that, where workers are to end or not.
+/// What a worker does next after this response. `is_stopped` says whether workers are to end.
 fn next_of(is_stopped: bool, response: Response) -> Next
     ensures next { result ≡ next_of is_stopped response (instruction_of response) }
     ensures ends { EndsAs result response }
@@ -93,7 +93,7 @@ pub(crate) enum Pace {
     Pauses,
 }
 
-/// A worker pauses just where there was no memory: each try is a call, and a desk answers only so many.
+/// A worker pauses exactly if memory ran out: each try is a call, and a desk answers a limited number.
 fn after(had_memory: bool) -> Pace
     ensures { result ≡ after had_memory }
 {
@@ -104,7 +104,7 @@ fn after(had_memory: bool) -> Pace
     }
 }
 
-/// The job of a response, where there is one.
+/// The job of a response, if it has one.
 fn job_in(response: &Response) -> Option<&Job> {
     match response {
         Response::Run(reply) => match reply.get() {
@@ -135,10 +135,10 @@ fn take<H: Handler + Drop, K: Keeper + Drop, N: Room>(
     }
 }
 
-/// Does a job, and gives the event that hands in what came of it.
+/// Does a job. It returns the event that hands in the result.
 ///
 /// # Errors
-/// Where there is no memory.
+/// Out of memory.
 fn outcome_of(alloc: Global, job: &Job) -> Result<Event, AllocError>
     ensures { IfOk result AnyMayHandIn }
 {
@@ -148,7 +148,7 @@ fn outcome_of(alloc: Global, job: &Job) -> Result<Event, AllocError>
     }
 }
 
-/// The run that the job cuts, where it is a cut.
+/// The run that the job cuts, if it is a cut.
 fn run_cut(job: &Job) -> Option<u32>
     ensures { result ≡ run_cut job.now }
 {
@@ -159,8 +159,7 @@ fn run_cut(job: &Job) -> Option<u32>
 }
 
 impl<H: Handler + Drop, K: Keeper + Drop, N: Room> Shared<H, K, N> {
-    /// The next job, or the worker's end; it waits where there is nothing to take. An eager worker calls for a job whatever the hints
-    /// say.
+    /// The next job, or the worker's end. It waits if there is nothing to take. An eager worker calls for a job whatever the hints say.
     fn next_job<R: Wait>(&self, rt: &R, pass: &mut Pass<N>, is_eager: bool) -> Next
         ensures works { Works pass.old pass.new }
         ensures last { EndsRightly result pass.old pass.new }
@@ -182,7 +181,7 @@ impl<H: Handler + Drop, K: Keeper + Drop, N: Room> Shared<H, K, N> {
         unreachable!()
     }
 
-    /// Hands in what came of a job, and tells whether there was memory for it.
+    /// Hands in the result of a job. It returns whether there was memory for it.
     fn hand_in<R: Wait>(&self, rt: &R, pass: &mut Pass<N>, cut: Option<u32>, event: Event) -> bool
         requires { AnyMayHandIn event }
         ensures works { Works pass.old pass.new }
@@ -205,7 +204,7 @@ impl<H: Handler + Drop, K: Keeper + Drop, N: Room> Shared<H, K, N> {
         }
     }
 
-    /// Does a job outside the lock and hands in what came of it, and tells whether there was memory for it.
+    /// Does a job outside the lock and hands in the result. It returns whether there was memory for it.
     fn work_off<R: Wait, G: Gate>(
         &self,
         rt: &R,
@@ -235,9 +234,8 @@ impl<H: Handler + Drop, K: Keeper + Drop, N: Room> Shared<H, K, N> {
         }
     }
 
-    /// Works jobs off until nothing is answered any more, or the desk was stopped and there is no job; that is told. Its calls are
-    /// counted on the pass, whose receipts stay as they are. Each job is done outside the lock, which a tile's reaches once it passed
-    /// the gate.
+    /// Does jobs until the desk answers nothing any more, or was stopped and has no job. It returns that last response. The pass counts its
+    /// calls, and its receipts are unchanged. Each job is done outside the lock. A tile's job first passes the gate.
     pub fn worker<R: Wait + Clock, G: Gate>(
         &self,
         rt: &R,

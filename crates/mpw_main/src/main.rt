@@ -10,8 +10,8 @@ use mpw_stored_script::run_stored_script;
 use std::process::ExitCode;
 use std::thread::Threads;
 
-/// Serves the standard input to the standard output as a script, over the desk of a store where one is named. Where the standard error is a terminal, it is
-/// told there how far a run that is worked off came.
+/// Serves the standard input to the standard output as a script, over the desk of a store if one is named. If the standard error is a terminal, it shows
+/// the progress of a run.
 fn script(rt: &HostRuntime, threads: &(impl Threads + Sync), script: Script) -> ExitCode {
     let executor = Executor {
         threads,
@@ -21,18 +21,18 @@ fn script(rt: &HostRuntime, threads: &(impl Threads + Sync), script: Script) -> 
     let Script { officer, store } = script;
     match store {
         None => run_script::<Core, _, _, _, _>(rt, executor, officer, rt.stdin(), rt.stdout()),
-        Some(path) => run_stored_script::<Core, _, _, _, _>(
+        Some(store) => run_stored_script::<Core, _, _, _, _>(
             rt,
             executor,
-            (path.as_str(), officer),
+            (&store, officer),
             rt.stdin(),
             rt.stdout(),
         ),
     }
 }
 
-/// Exits with 0 if the connections ended, 2 after help or at a usage fault, 3 where a device or a store failed, 4 where the passes of a service don't
-/// account for every call, and 5 where memory or a thread was wanting. A fault is told on the standard error.
+/// Exits with 0 if the connections ended, 2 after help or at a usage fault, 3 if a device or a store failed, 4 if the passes of a service don't
+/// account for every call, and 5 if memory ran out or a thread could not be started. A fault is printed on the standard error.
 fn main(rt: HostRuntime) -> ExitCode {
     match command_line(&rt) {
         Ok(Settings::Script(asked)) => script(&rt, &rt, asked),

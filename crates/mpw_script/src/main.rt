@@ -24,7 +24,7 @@ fn script(rt: &HostRuntime, threads: &(impl Threads + Sync), script: Script) -> 
     run_script::<Core, _, _, _, _>(rt, executor, officer, rt.stdin(), rt.stdout())
 }
 
-/// Says which program serves a store or connections. The exit status is 2.
+/// Prints which program serves a store or connections. The exit status is 2.
 fn refuse(rt: &HostRuntime) -> ExitCode {
     let _ = eprintln!(rt;
         "error: this program serves a script without a store; ./mpw build builds the one that opens a store and serves connections"

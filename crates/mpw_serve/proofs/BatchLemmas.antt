@@ -1,9 +1,9 @@
--- Jobs that are done in batches, one behind the other.
+-- Jobs that are done in batches, one batch after another.
 use Rattle.std.proofs.Common.{◌≡◌, ℕ, ◌+◌, ◌-◌, ◌≤◌, List, ◌++◌, map, take, slice_range, sym, ap, ◌∙◌, arith}
 use Rattle.std.proofs.lemmas.List.{map-append}
 use lib.Seq.{take-add}
 
--- what comes of a front and of the batch behind it comes of the longer front
+-- the results of a front, and of the batch after it, are the results of the longer front
 pub front_grows : {X Y : Type 0} (f : X → Y) (xs more : List X) (ys : List Y) (from to : ℕ)
     → from ≤ to → map f xs ≡ take from ys → map f more ≡ slice_range ys from to
     → map f (xs ++ more) ≡ take to ys

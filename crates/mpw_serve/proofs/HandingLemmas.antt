@@ -1,4 +1,4 @@
--- Handing in, one event after the other.
+-- Handing in, one event after another.
 use Rattle.std.proofs.Common.{◌≡◌, ℕ, Bool, ◌+◌, List, [], ◌∷◌, drop, Option, None, Some, true, false, sym, subst, ap, ◌∙◌, refl}
 use Rattle.std.specs.Prelude.{slice_get}
 use Rattle.std.proofs.lemmas.List.{drop_more}
@@ -11,13 +11,13 @@ use Rattle.mpw_job.specs.declared.job.CutJob.{CutJob}
 use Rattle.mpw_serve.specs.Working.{HandsCut, HandsOver, HandsTile, HandsTiles, WorksCut, WorksOff, WorksTiles, cut_of_call, own_worker}
 use Rattle.mpw_serve.specs.Internal.Working.{CallsFor}
 
--- the item at a place stands first of what is left there
+-- the item at an index is the first of the items from there on
 pub drop_item : {X : Type 0} (xs : List X) (k : ℕ) (x : X) → slice_get xs k ≡ Some x
     → drop k xs ≡ x ∷ drop (k + 1) xs
 drop_item xs k x is = drop_more xs k x (slice_get_within xs k x is)
     ∙ ap (λ y. y ∷ drop (k + 1) xs) (get_or_from_slice_get xs k x x is)
 
--- what is handed in from a place on, behind what was handed in before it
+-- what is handed in from an index on, after what was handed in before it
 abbrev pub GoesOnFrom : KeptDesk → List Event → KeptDesk → List Event → Type 0
 GoesOnFrom start events d left =
     (reached : KeptDesk) → HandsTiles d left reached → HandsTiles start events reached
@@ -42,7 +42,7 @@ next_at start d events k tile over d' before at goes is reached more =
     (subst (λ left. HandsTiles d left reached) (sym (drop_item events k tile at))
     (HandsTiles.next d tile (drop (k + 1) events) d' reached one more))
 
--- behind the last one nothing is left
+-- after the last one nothing is left
 pub none_at : (start d : KeptDesk) (events : List Event) (k : ℕ)
     → GoesOnFrom start events d (drop k events) → drop k events ≡ [] → HandsTiles start events d
 none_at start d events k before is =
@@ -79,7 +79,7 @@ cut_unkept d a b kept d' same is goes =
 
 -- ---- the call
 
--- a call without a job of cutting, or without room for its copy
+-- a call without a cutting job, or without memory for its copy
 pub off_called : (d : KeptDesk) (job : Option CutJob) (d' : KeptDesk) → CallsFor d job d'
     → WorksOff d d'
 off_called d job d' calls = go (cut_of_call calls.call) refl

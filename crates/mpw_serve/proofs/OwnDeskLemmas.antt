@@ -1,4 +1,4 @@
--- A desk of one's own, of which a connection sees the desk with its keeper.
+-- A private desk, of which a connection sees the desk with its store writer.
 use Rattle.std.proofs.Common.{◌≡◌, ◌∙◌, ℕ, List, Option, Result, Ok, Err, Bool, refl, sym, subst}
 use Rattle.std.specs.Prelude.{IfOk, OnErr, is_ok}
 use Rattle.mpw_requests.specs.declared.request.Request.{Request}
@@ -10,7 +10,7 @@ use Rattle.mpw_serve.specs.Serving.{Answer, Serves}
 use Rattle.mpw_serve.specs.OwnDesk.{ConnectedDesk, IsAnswer, IsGone, IsTold, IsParted}
 use Rattle.mpw_serve.proofs.ServedLemmas.{served_as}
 
--- the end of a connection was handled, or memory was wanting
+-- the end of a connection was handled, or memory ran out
 pub gone_cases : {E : Type 0} (connection : ℕ) (d d' : KeptDesk) (result : Result Response E)
     (is_gone : Bool) → is_gone ≡ is_ok result
     → IfOk result (λ response. IsHandled d (event.Gone connection) response d')
@@ -21,7 +21,7 @@ gone_cases connection d d' (Ok response) is_gone is ok err =
 gone_cases connection d d' (Err e) is_gone is ok err =
     subst (λ gone. IsGone connection d gone d') (sym is) err
 
--- the connection and the desk of one's own
+-- the connection and its private desk
 pub record IsOf (connection : ℕ) (own : ConnectedDesk) (desk : KeptDesk) : Type 0 where
   pub of : own.connection ≡ connection
   pub desk_is : own.desk ≡ desk
@@ -47,14 +47,14 @@ parted_of connection own own' desk is_gone is (stays, parted) = (
   record { of = stays ∙ is.of; desk_is = refl },
 )
 
--- the connection that was served over a desk of one's own
+-- the connection that was served over a private desk
 pub record ServesOwn (input input' output output' : Option (List ℕ)) (own own' : ConnectedDesk)
     (served : Served) : Type 0 where
   pub desk : Serves (IsAnswer own.connection) (IsGone own.connection) input input' output output'
       own.desk own'.desk served
   pub stays : own'.connection ≡ own.connection
 
--- a connection that was served over a desk of one's own is its connection, over the desk
+-- a connection that was served over a private desk is its connection, over the desk
 pub served_own : (input input' output output' : Option (List ℕ)) (own own' : ConnectedDesk)
     (served : Served) → Serves IsTold IsParted input input' output output' own own' served
     → ServesOwn input input' output output' own own' served

@@ -1,10 +1,11 @@
--- What holds of a connection that was served, by what holds of each request: for the crates above, whoever answers there.
+-- What holds of a served connection, by what holds of each request: for the crates above, whatever the
+-- responder is.
 use Rattle.std.proofs.Common.{◌≡◌, ℕ, List, Option, length, refl, sym, subst, Bool}
 use Rattle.mpw_requests.specs.declared.request.Request.{Request}
 use Rattle.mpw_serve.specs.declared.serve.Served.{Served}
 use Rattle.mpw_serve.specs.Serving.{Answer, AnsweredLine, Stop, IsTrace, IsAnsweredLine, IsStop, Serves}
 
--- ---- where each request leads on, so does the connection
+-- ---- if each request leads from state to state, so does the connection
 
 module _ {A : Type 0} (told : A → Request → Answer → A → Type 0) (parted : A → Bool → A → Type 0)
     (Leads : A → A → Type 0)
@@ -49,7 +50,7 @@ module _ {A : Type 0} (told : A → Request → Answer → A → Type 0) (parted
         (stop_leads (length lines.turns) lines.left input' lines.reached reached lines.stop
         lines.stopped)) (parts reached a' served.is_gone gone)
 
--- ---- where each request is told what another would be told, the connection is served as over that other
+-- ---- if each request gets what another responder would give, the connection is served as over that other
 
 module _ {A B : Type 0} (told : A → Request → Answer → A → Type 0)
     (parted : A → Bool → A → Type 0)
@@ -80,7 +81,7 @@ module _ {A B : Type 0} (told : A → Request → Answer → A → Type 0)
         let next = turn_as middle last near far first.0 turn first.2 is in
         (next.0, IsTrace.then before turn middle last first.0 next.0 first.1 next.1, next.2)
 
-    -- what ended the connection without a further answer left the state
+    -- what ended the connection without a further answer left the state unchanged
     unmoved_as : (a a' : A) (b : B) → a' ≡ a → Shows a b → Shows a' b
     unmoved_as a a' b same sees = subst (λ x. Shows x b) (sym same) sees
 

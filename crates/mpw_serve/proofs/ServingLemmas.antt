@@ -1,4 +1,4 @@
--- Serving line by line, whoever answers.
+-- Serving line by line, whatever the responder is.
 use Rattle.std.proofs.Common.{[], ◌≡◌, ◌∙◌, ◌<◌, ℕ, ◌+◌, List, ◌∷◌, ◌++◌, length, Option, Some, None, Result, Ok, Err, refl, sym, ap, subst, append_assoc, append-nil, length-append, arith, Bool, false}
 use Rattle.std.specs.Prelude.{⊤, IfOk}
 use Rattle.std.specs.List.{flat_map}
@@ -19,7 +19,7 @@ flat_map-push f [] turn = append-nil (f turn)
 flat_map-push f (t ∷ turns) turn = ap (λ l. f t ++ l) (flat_map-push f turns turn)
     ∙ sym (append_assoc (f t) (flat_map f turns) (f turn))
 
--- what the last line's result is told as
+-- how the last line's result is returned
 abbrev pub TellsLast : Result (Option End) WireFault → Result End WireFault → Type 0
 TellsLast (Ok None) with_end = ⊥
 TellsLast (Ok (Some e)) (Ok e') = e' ≡ e
@@ -27,7 +27,7 @@ TellsLast (Ok (Some e)) (Err f) = ⊥
 TellsLast (Err f) (Ok e) = ⊥
 TellsLast (Err f) (Err f') = f' ≡ f
 
--- what was written before a line, and then for it
+-- what was written before a line, and then for that line
 written_after : (output mid output' : Option (List ℕ)) (fault : Option WireFault)
     (before last : List ℕ) → Appends output mid before → Written mid output' fault [] last
     → Written output output' fault before last
@@ -39,7 +39,7 @@ written_after output mid output' (Some Write) before last p (front, rest, e, q) 
     (front, rest, e, Appends-trans output mid output' before front p q)
 written_after output mid output' (Some Memory) before last p w = absurd w
 
--- ---- lines, by whom they are put to
+-- ---- lines, by their responder
 
 module _ {A : Type 0} (told : A → Request → Answer → A → Type 0) where
   -- a line whose text was written, or at which the sink failed
@@ -76,7 +76,7 @@ module _ {A : Type 0} (told : A → Request → Answer → A → Type 0) where
   serves_stop input input' output output' a failed failed' s end (Err Memory) result e h is has w =
       absurd w
 
-  -- the connection so far, after some lines that were answered
+  -- the connection so far: some lines that were answered
   pub record Progress (input input' output output' : Option (List ℕ)) (a a' : A)
       (count : ℕ) : Type 0 where
     pub turns : List AnsweredLine
@@ -163,7 +163,7 @@ module _ {A : Type 0} (told : A → Request → Answer → A → Type 0) where
             (stop_text s.stop) p.written s.written;
       })
 
-  -- the last line of the connection, where no device failed
+  -- the last line of the connection, if no device failed
   pub finish_at : (input mid input' output between output' : Option (List ℕ)) (a b a' : A)
       (count : ℕ)
       → Progress input mid output between a b count → count < max_lines
@@ -192,7 +192,7 @@ module _ {A : Type 0} (told : A → Request → Answer → A → Type 0) where
 
 -- ---- what is pending
 
--- a text that was written and handed on, or at which the sink failed
+-- a text that was written and flushed, or at which the sink failed
 pub handed_leaves : (old new : Option (List ℕ)) (failed failed' : ℕ) (text : List ℕ)
     (written : Result ⊤ WireFault) (before behind : Bool)
     → WritesKnown old new failed failed' (fault_of written) text
@@ -202,7 +202,7 @@ handed_leaves old new failed failed' text (Err Read) before behind w handed = ab
 handed_leaves old new failed failed' text (Err Write) before behind w handed = tt
 handed_leaves old new failed failed' text (Err Memory) before behind w handed = absurd w
 
--- what is told of a line leaves pending what writing for it left
+-- what is returned of a line leaves pending what its writing left
 pub told_leaves : (e : Option End) (written : Result ⊤ WireFault)
     (result : Result (Option End) WireFault) (before behind : Bool)
     → result ≡ with_end e written → LeavesNothingPending (fault_of written) before behind
@@ -212,7 +212,7 @@ told_leaves e (Ok u) result before behind is leaves =
 told_leaves e (Err fault) result before behind is leaves =
     subst (λ r. LeavesNothingPending (fault_of r) before behind) (sym is) leaves
 
--- and behind what left nothing pending
+-- and what follows a state with nothing pending
 pub leaves_behind : (fault : Option WireFault) (before mid behind : Bool)
     → (before ≡ false → mid ≡ false)
     → LeavesNothingPending fault mid behind → LeavesNothingPending fault before behind

@@ -1,4 +1,4 @@
--- How the program ends at a fault, and its exit status where a device failed.
+-- How the program ends at a fault, and its exit status if a device failed.
 use Rattle.std.proofs.Common.{◌≡◌, ℕ, List, Result, Ok, Err, inl, inr, refl, sym, subst, ◌∙◌, ap}
 use Rattle.std.specs.Prelude.{◌≢◌, ◌⊎◌}
 use Rattle.std.specs.Result.{IsErrAnd}
@@ -24,7 +24,7 @@ pub reads_unset : (words : List (List ℕ)) (fault : SettingsFault) (told : Prog
 reads_unset words fault told is same =
     subst (λ f. ReadsWords words (Err f)) (sym same) (ReadsWords.unset fault is)
 
--- no words that can be told
+-- no words that are text
 pub reads_wordless : (fault : SettingsFault) (read : Result Settings ProgramFault)
     → IsErrAnd read (λ told. told ≡ fault_by fault) → ReadsCommandLine read
 reads_wordless fault (Ok settings) is = absurd is
@@ -57,7 +57,7 @@ script_exits d d' (Ok served) reads writes failed =
     wire_exits d d' served.ended reads writes failed
 script_exits d d' (Err fault) reads writes failed = none_failed d d' 5 reads writes failed
 
--- where a device failed the program exits with 3
+-- if a device failed, the program exits with 3
 pub failed_exits : (officer : Officer) (d d' : Devices) (status : ℕ)
     → ExitsWith officer d d' status
     → Failed d d' → status ≡ 3

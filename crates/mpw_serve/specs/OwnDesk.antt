@@ -1,4 +1,4 @@
--- What a desk of one's own answers: nobody else asks it while a connection is served over it.
+-- What a private desk answers: nobody else asks it while a connection is served over it.
 use Rattle.std.specs.Prelude.{◌≡◌, ℕ, Bool, true, false}
 use Rattle.mpw_requests.specs.declared.request.Request.{Request}
 use Rattle.mpw_events.specs.declared.event.Event.TheVariants as event
@@ -7,22 +7,22 @@ use Rattle.mpw_events.specs.History.{KeptDesk, IsHandled}
 use Rattle.mpw_serve.specs.Serving.{Answer}
 use Rattle.mpw_serve.specs.Working.{WorksBehind}
 
--- the desk's response is its own, and the desk goes on with it, its keeper too; a run that is accepted is then worked off. Want of memory
--- leaves both
+-- the desk with its store writer gives the response and has the state after it; an accepted run is then
+-- executed. If memory runs out, both are unchanged
 abbrev pub IsAnswer : (connection : ℕ) → KeptDesk → Request → Answer → KeptDesk → Type 0
 IsAnswer connection desk request (Answer.replied response) desk' =
     (asked : KeptDesk) × IsHandled desk (event.Ask connection request) response asked
     × WorksBehind request response asked desk'
 IsAnswer connection desk request Answer.starved desk' = desk' ≡ desk
 
--- whether the end of the connection was handed to the desk: it was, with the desk's response; or there was no memory, and
--- the desk is left
+-- whether the end of the connection was handed to the desk: it was, with the desk's response; or memory ran
+-- out, and the desk is unchanged
 abbrev pub IsGone : (connection : ℕ) → KeptDesk → Bool → KeptDesk → Type 0
 IsGone connection desk true desk' =
     (response : Response) × IsHandled desk (event.Gone connection) response desk'
 IsGone connection desk false desk' = desk' ≡ desk
 
--- a desk with its keeper, and the connection that asks it
+-- a desk with its store writer, and the connection that asks it
 pub record ConnectedDesk : Type 0 where
   pub connection : ℕ
   pub desk : KeptDesk

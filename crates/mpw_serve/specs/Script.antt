@@ -8,8 +8,8 @@ use Rattle.mpw_serve.specs.Serving.{Serves}
 use Rattle.mpw_serve.specs.OwnDesk.{IsAnswer, IsGone}
 use Rattle.mpw_settings.specs.declared.officer.Officer.{Officer}
 
--- connection 1 is served from the new desk on, and no change could not be kept; or there is no room for that desk, and nothing
--- is read or written
+-- connection 1 is served from the new desk on, and no change failed to be stored; or there is no memory for
+-- that desk, and nothing is read or written
 abbrev pub ServesScript : {E : Type 0} → Officer → Option (List ℕ) → Option (List ℕ)
     → Option (List ℕ) → Option (List ℕ) → Result Served E → Type 0
 ServesScript officer input input' output output' (Ok served) =
@@ -19,7 +19,7 @@ ServesScript officer input input' output output' (Ok served) =
 ServesScript officer input input' output output' (Err fault) =
     (input' ≡ input) × (output' ≡ output)
 
--- the device that failed, of which there is none where there is no room for the desk
+-- the device that failed, or none if there was no memory for the desk
 abbrev pub fault_told : {E : Type 0} → Result Served E → Option WireFault
 fault_told (Ok served) = fault_of served.ended
 fault_told (Err fault) = None

@@ -1,4 +1,4 @@
--- What serving a connection does: the lines that were answered, one by one, and what ended it.
+-- Serving a connection: the lines that were answered, one by one, and what ended it.
 use Rattle.std.specs.Prelude.{◌≡◌, ◌<◌, ⊤, ℕ, Bool, false, ◌+◌, List, [], ◌∷◌, ◌++◌, length, Option, None, Some, Result, Ok, Err}
 use Rattle.std.specs.List.{flat_map}
 use Rattle.std.specs.Io.KnownBytes.{Appends}
@@ -18,19 +18,19 @@ use Rattle.mpw_wire.specs.declared.request.LineAsk.TheVariants as ask
 use Rattle.mpw_wire.specs.Request.{ask_of}
 use Rattle.mpw_wire.specs.Writing.{fault_of}
 
--- what a request was told: a response, or that memory was wanting
+-- the answer to a request: a response, or that memory ran out
 pub data Answer : Type 0 where
   replied : Response → Answer
   starved : Answer
 
--- an answered line: one that asks something, and one that is no request's text
+-- an answered line: it has a request, or it is no request's text
 pub data AnsweredLine : Type 0 where
   asked : List ℕ → Request → Answer → AnsweredLine
   malformed : List ℕ → AnsweredLine
 
--- what ended the connection: the end of the input (`closed`, which says nothing of the desk), a line that is too long or
--- asks for too large a payload, an input that ends before what is to follow a line, no room for a request, a source that failed,
--- as many lines as one connection may have, or a sink that failed at the text of a line
+-- what ended the connection: the end of the input (`closed`, which says nothing of the desk), a line that is
+-- too long or asks for too large a payload, an input that ends within a payload, no memory for a request, a
+-- source that failed, as many lines as one connection may have, or a sink that failed at the text of a line
 pub data Stop : Type 0 where
   closed : Stop
   long : Stop
@@ -40,7 +40,7 @@ pub data Stop : Type 0 where
   spent : Stop
   unwritten : AnsweredLine → Stop
 
--- the text of a response: what is told of a request. Nobody is told of the other events
+-- the text of a response, which is the reply to a request. The other events get no reply
 abbrev pub response_text : Response → List ℕ
 response_text (response.Told reply) = reply_text reply
 response_text (response.Run reply) = []
@@ -65,7 +65,7 @@ stop_text unreadable = []
 stop_text spent = []
 stop_text (unwritten turn) = answered_text turn
 
--- the same by what answered it: none where memory was wanting
+-- the answer by the response: `starved` if there is none, since memory ran out
 abbrev pub answer_of : Option Response → Answer
 answer_of None = starved
 answer_of (Some response) = replied response
@@ -74,17 +74,18 @@ answer_of (Some response) = replied response
 abbrev pub max_lines : ℕ
 max_lines = 4096
 
--- ---- lines, by whom they are put to: `told` says what a request may be told in a state, and the state that this leaves
+-- ---- lines, by their responder: `told` says which answer a request may get in a state, and the state after it
 
 module _ {A : Type 0} (told : A → Request → Answer → A → Type 0) where
-  -- the text is taken off the input, and it is told what it asks; a line that is no request's text leaves the state
+  -- the text is taken off the input, and its request gets the answer; a line that is no request's text leaves
+  -- the state unchanged
   abbrev pub IsAnsweredLine : Option (List ℕ) → A → AnsweredLine → Option (List ℕ) → A → Type 0
   IsAnsweredLine input a (asked line request answer) input' a' =
       IsText input input' line request × told a request answer a'
   IsAnsweredLine input a (malformed line) input' a' =
       TakesLine input input' line × (ask_of line ≡ ask.Form) × (a' ≡ a)
 
-  -- the lines were answered one after the other
+  -- the lines were answered one after another
   pub data IsTrace (input : Option (List ℕ)) (a : A) : List AnsweredLine → Option (List ℕ) → A
       → Type 0 where
     none : IsTrace input a [] input a
@@ -94,7 +95,7 @@ module _ {A : Type 0} (told : A → Request → Answer → A → Type 0) where
         → IsAnsweredLine input' a' turn input'' a''
         → IsTrace input a (turns ++ turn ∷ []) input'' a''
 
-  -- what ended the connection did so, after that many lines
+  -- what ended the connection, after that many lines
   abbrev pub IsStop : ℕ → Option (List ℕ) → A → Stop → Option (List ℕ) → A → Type 0
   IsStop lines input a closed input' a' =
       (lines < max_lines) × TakesNothing input input' × (a' ≡ a)
@@ -111,7 +112,7 @@ module _ {A : Type 0} (told : A → Request → Answer → A → Type 0) where
   IsStop lines input a (unwritten turn) input' a' =
       (lines < max_lines) × IsAnsweredLine input a turn input' a'
 
--- the end that is told where no device failed
+-- the end that is returned if no device failed
 abbrev pub end_of : Stop → Option End
 end_of closed = Some end.Closed
 end_of long = Some end.Long
@@ -131,14 +132,15 @@ HasText unreadable = ⊥
 HasText spent = ⊥
 HasText (unwritten turn) = ⊤
 
--- a source or a sink that failed is told as such, and else the end
+-- a source or a sink that failed is returned as that fault; else the end is returned
 abbrev pub Tells : Stop → Result End WireFault → Type 0
 Tells stop (Ok end) = end_of stop ≡ Some end
 Tells stop (Err Read) = stop ≡ unreadable
 Tells stop (Err Write) = HasText stop
 Tells stop (Err Memory) = ⊥
 
--- the sink has the text before and the last text; where it failed it has the text before, and a front of the last
+-- the sink has the text before and the last text. If it failed, it has the text before and a front of the
+-- last text
 abbrev pub Written : Option (List ℕ) → Option (List ℕ) → Option WireFault → List ℕ → List ℕ → Type 0
 Written output output' None before last = Appends output output' (before ++ last)
 Written output output' (Some Read) before last = Appends output output' (before ++ last)
@@ -146,7 +148,7 @@ Written output output' (Some Write) before last = (front : List ℕ) × (rest : 
     × (front ++ rest ≡ last) × Appends output output' (before ++ front)
 Written output output' (Some Memory) before last = ⊥
 
--- how often the sink has failed after a call with this fault: a fault of writing is a failure
+-- how many failures the sink has after a call with this fault: a fault of writing counts as one
 abbrev pub write_failures : Option WireFault → ℕ → ℕ
 write_failures None failures = failures
 write_failures (Some Read) failures = failures
@@ -155,7 +157,7 @@ write_failures (Some Memory) failures = failures
 
 -- ---- a connection
 
--- the lines of a connection: those that were answered, what ended it, and the text of all that
+-- the lines of a connection: those that were answered, what ended it, and their whole text
 pub record ServesLines {A : Type 0} (told : A → Request → Answer → A → Type 0)
     (input input' output output' : Option (List ℕ)) (a a' : A) (result : Result End WireFault) :
     Type 0 where
@@ -169,8 +171,8 @@ pub record ServesLines {A : Type 0} (told : A → Request → Answer → A → T
   pub written : Written output output' (fault_of result) (flat_map answered_text turns)
       (stop_text stop)
 
--- a connection: its lines, and then its end, however the lines ended. `parted` says whether that end may be handed in, and the
--- state that this leaves
+-- a connection: its lines, and then its end, however the lines ended. `parted` says whether that end may be
+-- handed in, and the state after it
 abbrev pub Serves : {A : Type 0} (told : A → Request → Answer → A → Type 0)
     (parted : A → Bool → A → Type 0)
     → Option (List ℕ) → Option (List ℕ) → Option (List ℕ) → Option (List ℕ) → A → A → Served
@@ -179,14 +181,14 @@ Serves {A} told parted input input' output output' a a' served =
     (reached : A) × ServesLines told input input' output output' a reached served.ended
     × parted reached served.is_gone a'
 
--- where nothing was pending in the sink, nothing is, unless the sink failed
+-- if nothing was pending in the sink before, nothing is after, unless the sink failed
 abbrev pub LeavesNothingPending : Option WireFault → Bool → Bool → Type 0
 LeavesNothingPending None before behind = before ≡ false → behind ≡ false
 LeavesNothingPending (Some Read) before behind = before ≡ false → behind ≡ false
 LeavesNothingPending (Some Write) before behind = ⊤
 LeavesNothingPending (Some Memory) before behind = before ≡ false → behind ≡ false
 
--- the end, where what is written for it was written
+-- the end, if its text was written; else the fault
 abbrev pub with_end : {A : Type 0} → Option End → Result A WireFault → Result (Option End) WireFault
 with_end end (Ok answer) = Ok end
 with_end end (Err fault) = Err fault

@@ -16,7 +16,7 @@ use Rattle.mpw_serve.specs.declared.serve.Served.{Served}
 use Rattle.mpw_serve.specs.Script.{ServesScript, fault_told}
 use Rattle.mpw_serve.specs.Serving.{LeavesNothingPending, write_failures}
 
--- 2 where the command line isn't one, 3 where a device failed, 5 where memory was wanting
+-- 2 if the command line is wrong, 3 if a device failed, 5 if memory ran out
 abbrev pub status_of : ProgramFault → ℕ
 status_of (Usage text) = 2
 status_of (Wire wire.Read) = 3
@@ -24,47 +24,48 @@ status_of (Wire wire.Write) = 3
 status_of (Wire wire.Memory) = 5
 status_of Memory = 5
 
--- 0 where the connection ended
+-- 0 if the connection ended
 abbrev pub exit_of : Result End ProgramFault → ℕ
 exit_of (Ok end) = 0
 exit_of (Err fault) = status_of fault
 
--- the status is that of some end
+-- some way to end has this status
 abbrev pub IsStatus : ℕ → Type 0
 IsStatus status = (ended : Result End ProgramFault) × (status ≡ exit_of ended)
 
--- a fault of the command line, as the program's
+-- a fault of the settings as a fault of the program
 abbrev pub fault_by : SettingsFault → ProgramFault
 fault_by (settings.Usage text) = Usage text
 fault_by settings.Memory = Memory
 
 -- ---- the command line
 
--- the words of the command line give the settings; or they give none, or there is no room to read them
+-- the words of the command line give the settings; or they give none, or there is no memory to read them
 pub data ReadsWords (words : List (List ℕ)) : Result Settings ProgramFault → Type 0 where
   set : (settings : Settings) → AreGiven settings words → ReadsWords words (Ok settings)
   unset : (fault : SettingsFault) → IsFaultOf (GiveNone words) fault
       → ReadsWords words (Err (fault_by fault))
 
--- the command line had no words that can be told, or there was no room for them; or it had words
+-- the command line had no words that are text, or there was no memory for them; or it had words
 pub data ReadsCommandLine : Result Settings ProgramFault → Type 0 where
   wordless : (fault : SettingsFault) → ReadsCommandLine (Err (fault_by fault))
   worded : (words : List (List ℕ)) (read : Result Settings ProgramFault) → ReadsWords words read
       → ReadsCommandLine read
 
--- ---- what came of serving
+-- ---- the result of serving
 
 -- the end of the connection, or the device that failed, as the program's fault
 abbrev pub end_told : Result End WireFault → Result End ProgramFault
 end_told (Ok end) = Ok end
 end_told (Err fault) = Err (Wire fault)
 
--- how the program ends by what came of the script
+-- how the program ends, by the result of the script
 abbrev pub script_end : Result Served AllocError → Result End ProgramFault
 script_end (Ok served) = end_told served.ended
 script_end (Err fault) = Err Memory
 
--- what is known of the source and the sink: the bytes, how often each failed, and whether some are pending
+-- what is known of the source and the sink: their bytes, how often each failed, and whether bytes are
+-- pending
 pub record Devices : Type 0 where
   pub input : Option (List ℕ)
   pub failed_reads : ℕ
@@ -72,7 +73,7 @@ pub record Devices : Type 0 where
   pub failed_writes : ℕ
   pub pending : Bool
 
--- a source and a sink, by what each tells of itself
+-- a source and a sink, by the functions that show the state of each
 abbrev pub devices : {R W : Type 0} → (R → Option (List ℕ)) → (R → ℕ) → (W → Option (List ℕ))
     → (W → ℕ)
     → (W → Bool) → R → W → Devices
@@ -84,7 +85,7 @@ devices remaining read_failures contents write_failures pending reader writer = 
   pending = pending writer;
 }
 
--- the script was served between these devices, and the program ends as that did
+-- the script was served between these devices, and the program ends as its result says
 pub record EndsAsServed (officer : Officer) (d d' : Devices) (ended : Result End ProgramFault) :
     Type 0 where
   pub came : Result Served AllocError
@@ -94,7 +95,7 @@ pub record EndsAsServed (officer : Officer) (d d' : Devices) (ended : Result End
   pub leaves : LeavesNothingPending (fault_told came) d.pending d'.pending
   pub ends : ended ≡ script_end came
 
--- the script was served, the program ended as that did, and its status is that
+-- the script was served, the program ended as its result says, and this is its exit status
 abbrev pub ExitsWith : Officer → Devices → Devices → ℕ → Type 0
 ExitsWith officer d d' status =
     (ended : Result End ProgramFault) × EndsAsServed officer d d' ended × (status ≡ exit_of ended)

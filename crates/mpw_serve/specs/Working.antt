@@ -1,5 +1,5 @@
--- How a run is worked off: its snapshot is cut, the jobs of its tiles are done, and what comes of them is handed to the desk
--- in order. Want of memory ends it at any place, and leaves the run as it stands.
+-- How a run is executed: its snapshot is cut, the jobs of its tiles are done, and their results are handed to
+-- the desk in order. If memory runs out anywhere, the work ends, and the run stays as it is.
 use Rattle.std.specs.Prelude.{◌≡◌, ℕ, Bool, true, false, List, [], ◌∷◌, map, Option, None, Some, ◌&&◌}
 use Rattle.std.specs.List.{range_with_len}
 use Rattle.mpw_events.specs.History.{KeptDesk, IsHandled}
@@ -28,16 +28,16 @@ use Rattle.mpw_tiles.specs.Plan.{Tiling, tiles}
 use Rattle.mpw_tiles.specs.Snapshots.{Snapshot, plan_for}
 use Rattle.mpw_tiles.specs.declared.listing.Rectangle.{Rectangle}
 
--- The worker by whose number a connection's own work is known.
+-- The worker number that a connection uses for the jobs of its own run.
 abbrev pub own_worker : ℕ
 own_worker = 0
 
--- What is handed to the desk of a job that was done.
+-- The event that hands in the answer of a job.
 abbrev pub event_of : Answer → Event
 event_of (answers.Cut a) = event.Cut a
 event_of (answers.Tile a) = event.Tile a
 
--- The work ends with that response: the run is finished, or nothing is answered any more.
+-- The work ends with that response: the run is finished, or the desk answers nothing any more.
 abbrev pub ends : Response → Bool
 ends (response.Told reply) = false
 ends (response.Run reply) = finishes reply
@@ -45,7 +45,7 @@ ends response.Gone = false
 ends response.Restarted = false
 ends response.Ended = true
 
--- What is made of the run's own reply, and what of any other response.
+-- One value by the run's reply, and another for any other response.
 abbrev pub by_run : {A : Type 0} → A → (RunReply → A) → Response → A
 by_run other of_reply (response.Told reply) = other
 by_run other of_reply (response.Run reply) = of_reply reply
@@ -53,32 +53,34 @@ by_run other of_reply response.Gone = other
 by_run other of_reply response.Restarted = other
 by_run other of_reply response.Ended = other
 
--- What came of an event that is handed to the desk: its response, or want of memory, which leaves the desk.
+-- The result of an event that is handed to the desk: its response, or out of memory, which leaves the desk
+-- unchanged.
 abbrev pub CameOf : KeptDesk → Event → Option Response → KeptDesk → Type 0
 CameOf d event None d' = d' ≡ d
 CameOf d event (Some response) d' = IsHandled d event response d'
 
--- Nothing more is handed in behind that.
+-- Nothing more is handed in after that.
 abbrev pub is_over : Option Response → Bool
 is_over None = true
 is_over (Some response) = ends response
 
 -- ---- tiles
 
--- The event is handed to the desk. Whether nothing more is handed in behind it.
+-- The event is handed to the desk. `over` says whether nothing more is handed in after it.
 pub record HandsOver (d : KeptDesk) (e : Event) (over : Bool) (d' : KeptDesk) : Type 0 where
   pub came : Option Response
   pub handled : CameOf d e came d'
   pub ends : is_over came ≡ over
 
--- The desk is called for a job, and then handed what came of a tile's. Whether that was all.
+-- The desk is called for a job, and then gets the result of a tile's job. The result says whether nothing
+-- more is handed in.
 pub data HandsTile (d : KeptDesk) (tile : Event) : Bool → KeptDesk → Type 0 where
   uncalled : (d' : KeptDesk) → HandsOver d (event.Take own_worker) true d'
       → HandsTile d tile true d'
   handed : (over : Bool) (d' d'' : KeptDesk) → HandsOver d (event.Take own_worker) false d'
       → HandsOver d' tile over d'' → HandsTile d tile over d''
 
--- One tile after the other, up to the last that is handed in.
+-- One tile after another, up to the last that is handed in.
 pub data HandsTiles : KeptDesk → List Event → KeptDesk → Type 0 where
   none : (d : KeptDesk) → HandsTiles d [] d
   last : (d : KeptDesk) (tile : Event) (rest : List Event) (d' : KeptDesk)
@@ -98,7 +100,7 @@ jobs_by a (Some plan) =
 abbrev pub jobs_of : CutWindows → List Job
 jobs_of a = jobs_by a (plan_for a.job.snapshot)
 
--- The events are what came of all tiles' jobs, in order.
+-- The events are the answers of all tiles' jobs, in order.
 pub record IsDone (a : CutWindows) (events : List Event) : Type 0 where
   pub done : List Answer
   pub jobs_are : map job_of done ≡ jobs_of a
@@ -106,7 +108,7 @@ pub record IsDone (a : CutWindows) (events : List Event) : Type 0 where
 
 -- ---- the cut
 
--- The job of cutting that a call was handed.
+-- The cutting job that a call got.
 abbrev pub cut_of : Job → Option CutJob
 cut_of (jobs.Cut job) = Some job
 cut_of (jobs.Tile job) = None
@@ -127,7 +129,7 @@ abbrev pub cut_of_call : Option Response → Option CutJob
 cut_of_call None = None
 cut_of_call (Some response) = cut_of_response response
 
--- The windows were kept.
+-- The desk accepted the windows.
 abbrev pub keeps : RunReply → Bool
 keeps (told.Taken job) = false
 keeps told.NoJob = false
@@ -144,7 +146,7 @@ abbrev pub was_kept : Option Response → Bool
 was_kept None = false
 was_kept (Some response) = is_kept response
 
--- The windows are handed to the desk. Whether they were kept.
+-- The windows are handed to the desk. `kept` says whether the desk accepted them.
 pub record HandsCut (d : KeptDesk) (job : CutJob) (a : CutWindows) (kept : Bool) (d' : KeptDesk) :
     Type 0 where
   pub came : Option Response
@@ -152,21 +154,21 @@ pub record HandsCut (d : KeptDesk) (job : CutJob) (a : CutWindows) (kept : Bool)
   pub keeps : was_kept came ≡ kept
   pub job_is : a.job ≡ job
 
--- The jobs of all tiles are done, and what came of them is handed in; or a job finds no memory.
+-- The jobs of all tiles are done, and their results are handed in; or memory runs out in a job.
 pub data WorksTiles (d : KeptDesk) (a : CutWindows) : KeptDesk → Type 0 where
   unworked : WorksTiles d a d
   worked : (events : List Event) (d' : KeptDesk) → IsDone a events → HandsTiles d events d'
       → WorksTiles d a d'
 
--- The snapshot is cut, the windows are handed in, and where they are kept the jobs of all tiles are done and handed in. Where a job
--- finds no memory the run stays as it stands.
+-- The snapshot is cut and the windows are handed in. If the desk accepts them, the jobs of all tiles are done
+-- and handed in. If memory runs out in a job, the run stays as it is.
 pub data WorksCut (d : KeptDesk) (job : CutJob) : KeptDesk → Type 0 where
   uncut : WorksCut d job d
   unkept : (a : CutWindows) (d' : KeptDesk) → HandsCut d job a false d' → WorksCut d job d'
   kept : (a : CutWindows) (d' d'' : KeptDesk) → HandsCut d job a true d' → WorksTiles d' a d''
       → WorksCut d job d''
 
--- The desk is called for a job; where that is to cut, the run is worked off.
+-- The desk is called for a job. If that is to cut, the run is executed.
 pub data WorksOff (d : KeptDesk) : KeptDesk → Type 0 where
   uncalled : (call : Option Response) (d' : KeptDesk) → CameOf d (event.Take own_worker) call d'
       → cut_of_call call ≡ None → WorksOff d d'
@@ -174,7 +176,7 @@ pub data WorksOff (d : KeptDesk) : KeptDesk → Type 0 where
       → CameOf d (event.Take own_worker) call d' → cut_of_call call ≡ Some job → WorksCut d' job d''
       → WorksOff d d''
 
--- ---- behind which replies
+-- ---- after which replies
 
 abbrev pub begins : RunRequest → Bool
 begins Run = true
@@ -207,6 +209,6 @@ abbrev pub WorksWhere : Bool → KeptDesk → KeptDesk → Type 0
 WorksWhere true d d' = WorksOff d d'
 WorksWhere false d d' = d' ≡ d
 
--- A run that is accepted is worked off before the next line is read. Another request leaves the desk.
+-- A run that is accepted is executed before the next line is read. Another request leaves the desk unchanged.
 abbrev pub WorksBehind : Request → Response → KeptDesk → KeptDesk → Type 0
 WorksBehind request response d d' = WorksWhere (is_begin request && is_accepted response) d d'

@@ -1,17 +1,16 @@
-//! What works runs off.
+//! The resources that execute a run.
 
 use crate::progress::Progress;
 use std::alloc::Global;
 use std::thread::Threads;
 
-/// Works runs off: in threads, with memory from there, and somebody is told how far the work came. None of the three takes part in
-/// a contract.
+/// Executes runs: it starts threads, allocates memory and reports progress. No contract speaks of any of the three.
 pub struct Executor<'a, T: Threads + Sync, P: Progress> {
-    /// Where threads are started, at most two more at a time than there are processors.
+    /// Starts threads: at most two at a time for each processor.
     pub threads: &'a T,
-    /// Where memory is taken from.
+    /// Allocates memory.
     pub alloc: Global,
-    /// Who is told how far the work came.
+    /// Receives the progress of a run.
     pub progress: P,
 }
 

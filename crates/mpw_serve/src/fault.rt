@@ -9,22 +9,22 @@ use mpw_wire::WireFault;
 use std::alloc::AllocError;
 use thiserror::Error;
 
-/// What ended the program before a connection's end.
+/// The fault that ended the program before its connection ended.
 #[derive(Debug, Drop, Error)]
 pub enum ProgramFault {
-    /// The command line isn't one; the text says what is wrong and what is accepted.
+    /// The command line is wrong. The text says what is wrong and what is accepted.
     #[error("{0}")]
     Usage(String),
     /// A device failed.
     #[error("error: {0}")]
     Wire(WireFault),
-    /// There is no room outside a request.
+    /// Memory ran out outside of a request.
     #[error("error: out of memory")]
     Memory,
 }
 
 impl ProgramFault {
-    /// The exit status: 2 for usage, 3 for a device, 5 for memory.
+    /// The exit status: 2 for usage, 3 for a device, 5 for out of memory.
     pub fn status(&self) -> u8
         ensures { result ≡ status_of self.now }
     {
@@ -36,7 +36,7 @@ impl ProgramFault {
     }
 }
 
-/// The exit status of the program by how it ended: 0 where the connection did, and else the fault's.
+/// The exit status of the program: 0 if the connection ended, else the status of the fault.
 pub fn exit_status(ended: &Result<End, ProgramFault>) -> u8
     ensures { result ≡ exit_of ended.now }
 {

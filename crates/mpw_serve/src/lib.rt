@@ -1,11 +1,11 @@
-//! Serving a connection: its lines are read, each is put to a [`Responder`], and its reply is written, in order.
+//! Serves a connection: reads its lines, passes each to a [`Responder`], and writes the replies in order.
 //!
-//! One who answers is a desk of one's own ([`OwnDesk`]), which is any [`mpw_events::Handler`] with its keeper. There an accepted
-//! `run` is worked off before its reply is written: the snapshot is cut, the jobs of its tiles are done in batches, and what
-//! comes of them is handed to the desk. Somebody is told how far they came ([`Progress`]).
+//! [`OwnDesk`] is a responder that has a desk for itself. The desk is any [`mpw_events::Handler`] with its store writer. If it accepts a
+//! `run`, the run is executed before its reply is written: the snapshot is cut, the jobs of its tiles are done in batches, and their
+//! results are handed to the desk. A [`Progress`] receives how many jobs are done.
 //!
-//! What the desk's program does is here as a library: [`command_line`] reads its settings, and [`run_script`] serves a script over its input and
-//! its output, with an [`Executor`] that says who is told how far the work came.
+//! The desk's program is a library here. [`command_line`] reads its settings. [`run_script`] serves a script from its input to its output,
+//! with an [`Executor`] that reports progress.
 #![tactic(auto)]
 
 mod executor;

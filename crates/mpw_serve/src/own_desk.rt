@@ -1,4 +1,4 @@
-//! A desk of one's own: nobody else asks it while a connection is served over it.
+//! A private desk: nobody else asks it while it serves a connection.
 ghost use Rattle.std.specs.Prelude.{◌≡◌};
 ghost use Rattle.mpw_events.specs.History.{kept_desk};
 ghost use Rattle.mpw_wire.specs.Reading.{read_failures};
@@ -18,8 +18,8 @@ use std::alloc::Global;
 use std::marker::Model;
 use std::thread::Threads;
 
-/// A desk with its keeper, the connection that asks it, and what works its runs off. Contracts see the connection, and the desk with
-/// its keeper.
+/// A desk with its store writer, the connection that asks it, and the executor of its runs. Contracts see the connection, the desk and the
+/// store writer.
 pub struct OwnDesk<'a, H: Handler, K: Keeper, T: Threads + Sync, P: Progress> {
     core: Box<H>,
     keeper: K,
@@ -36,7 +36,7 @@ impl<'a, H: Handler, K: Keeper, T: Threads + Sync, P: Progress> Model for OwnDes
     ghost view = { λ own. record { connection = own.connection; desk = kept_desk (H.desk own.core.value) (K.kept own.keeper) (K.failures own.keeper) } };
 }
 
-/// Has the desk answer a request, and works a run off that is accepted; none where memory is wanting.
+/// Has the desk answer a request, and executes the run if one is accepted. It returns none if out of memory.
 fn handle<H: Handler, K: Keeper, T: Threads + Sync, P: Progress>(
     executor: &mut Executor<'_, T, P>,
     core: &mut H,
@@ -60,7 +60,7 @@ fn handle<H: Handler, K: Keeper, T: Threads + Sync, P: Progress>(
     Some(response)
 }
 
-/// Hands the desk the connection's end, and tells whether it was handed; it isn't where memory is wanting.
+/// Hands the connection's end to the desk. It returns whether it was handed in; it isn't if out of memory.
 fn hand_end<H: Handler, K: Keeper>(core: &mut H, keeper: &mut K, connection: u32) -> bool
     ensures { IsGone connection (kept_desk (H.desk core.old) (K.kept keeper.old) (K.failures keeper.old)) result (kept_desk (H.desk core.new) (K.kept keeper.new) (K.failures keeper.new)) }
 {
@@ -94,7 +94,7 @@ impl<'a, H: Handler, K: Keeper, T: Threads + Sync, P: Progress> Responder
 }
 
 impl<'a, H: Handler, K: Keeper, T: Threads + Sync, P: Progress> OwnDesk<'a, H, K, T, P> {
-    /// The desk with its keeper, for this connection, whose runs are worked off so.
+    /// Makes a private desk of this desk and store writer, for this connection. The executor executes its runs.
     pub fn new(
         core: Box<H>,
         keeper: K,
@@ -112,14 +112,14 @@ impl<'a, H: Handler, K: Keeper, T: Threads + Sync, P: Progress> OwnDesk<'a, H, K
         }
     }
 
-    /// Where memory is taken from.
+    /// The allocator.
     fn alloc(&self) -> Global {
         self.executor.alloc
     }
 }
 
 impl<'a, H: Handler, K: Keeper, T: Threads + Sync, P: Progress + Drop> OwnDesk<'a, H, K, T, P> {
-    /// The desk and its keeper.
+    /// The desk and its store writer.
     pub fn into_parts(self) -> (Box<H>, K)
         ensures { kept_desk (H.desk result.0.value) (K.kept result.1) (K.failures result.1) ≡ self.entry.desk }
     {
@@ -133,9 +133,10 @@ impl<'a, H: Handler, K: Keeper, T: Threads + Sync, P: Progress + Drop> OwnDesk<'
     }
 }
 
-/// Serves a connection over a desk of one's own, as [`serve_connection`] does. What is accepted is handed to the keeper first. While an
-/// accepted `run` is worked off, progress is told; it takes part in no clause. It costs the lines, and for each request what the
-/// desk's step costs, for an accepted `run` what [`work_behind`] does too.
+/// Serves a connection over a private desk, as [`serve_connection`] does. Each accepted change is handed to the store writer first. While
+/// an accepted `run` is executed, progress is reported; no clause speaks of it.
+///
+/// Cost: the lines, and for each request the desk's step. An accepted `run` adds what [`work_behind`] costs.
 pub fn serve_core<H: Handler, K: Keeper, T: Threads + Sync, P: Progress, R: Source, W: Sink>(
     own: &mut OwnDesk<'_, H, K, T, P>,
     reader: &mut R,

@@ -1,4 +1,4 @@
-//! What the program does with its command line, its input and its output.
+//! The program: its command line, its input and its output.
 ghost use Rattle.std.specs.Prelude.{◌≡◌, ◌≢◌, ◌⊎◌, map};
 ghost use Rattle.std.specs.Process.{exit_status};
 ghost use Rattle.mpw_serve.specs.Status.{EndsAsServed, ExitsWith, IsStatus, ReadsCommandLine, ReadsWords, devices, exit_of, script_end, status_of};
@@ -29,7 +29,7 @@ fn words(rt: &HostRuntime) -> Result<Vec<String>, SettingsFault> {
     }
 }
 
-/// The settings that the words of a command line give.
+/// The settings that these words of a command line give.
 fn settings_by_words<'w>(alloc: Global, words: &'w [&'w str]) -> Result<Settings, ProgramFault>
     ensures { ReadsWords (map (λ word. word.now) words.entry.now) result }
 {
@@ -39,10 +39,10 @@ fn settings_by_words<'w>(alloc: Global, words: &'w [&'w str]) -> Result<Settings
     }
 }
 
-/// The settings that the command line gives. No clause says which words it has.
+/// The settings of the command line. No clause says which words it has.
 ///
 /// # Errors
-/// `Usage` where its words give none or are no text, and `Memory`.
+/// `Usage` if its words give no settings or aren't text. `Memory` if out of memory.
 pub fn command_line(rt: &HostRuntime) -> Result<Settings, ProgramFault>
     ensures { ReadsCommandLine result }
 {
@@ -51,7 +51,7 @@ pub fn command_line(rt: &HostRuntime) -> Result<Settings, ProgramFault>
     settings_by_words(rt.alloc(), words.as_slice())
 }
 
-/// Tells a fault on the standard error. The exit status is the fault's.
+/// Prints a fault on the standard error. It returns the fault's exit status.
 pub fn tell(rt: &HostRuntime, fault: &ProgramFault) -> ExitCode
     ensures { exit_status result ≡ status_of fault.now }
 {
@@ -59,7 +59,7 @@ pub fn tell(rt: &HostRuntime, fault: &ProgramFault) -> ExitCode
     ExitCode::from(fault.status())
 }
 
-/// Prints the help on the standard error, since the standard output has the replies alone. The exit status is 2: nothing was served.
+/// Prints the help on the standard error, since the standard output has the replies alone. It returns exit status 2: nothing was served.
 pub fn print_help(rt: &HostRuntime, text: &str) -> ExitCode
     ensures { exit_status result ≡ 2 }
 {
@@ -67,7 +67,7 @@ pub fn print_help(rt: &HostRuntime, text: &str) -> ExitCode
     ExitCode::from(2)
 }
 
-/// How the program ends by what came of the script.
+/// How the program ends, by the result of the script.
 fn script_end(came: Result<Served, AllocError>) -> Result<End, ProgramFault>
     ensures { result ≡ script_end came }
 {
@@ -80,7 +80,7 @@ fn script_end(came: Result<Served, AllocError>) -> Result<End, ProgramFault>
     }
 }
 
-/// Serves the reader to the writer as a script of this officer.
+/// Serves a script of this officer from the reader to the writer.
 fn serve<H: Handler + Drop, T: Threads + Sync, P: Progress + Drop, R: Source, W: Sink>(
     executor: Executor<'_, T, P>,
     officer: Officer,
@@ -92,7 +92,7 @@ fn serve<H: Handler + Drop, T: Threads + Sync, P: Progress + Drop, R: Source, W:
     script_end(serve_script::<H, _, _, _, _>(executor, officer, reader, writer))
 }
 
-/// The exit status of how the program ended, where a fault is told.
+/// The exit status by how the program ended. It prints a fault.
 fn exit(rt: &HostRuntime, ended: &Result<End, ProgramFault>) -> ExitCode
     ensures { exit_status result ≡ exit_of ended.now }
 {
@@ -102,9 +102,9 @@ fn exit(rt: &HostRuntime, ended: &Result<End, ProgramFault>) -> ExitCode
     ExitCode::from(exit_status(ended))
 }
 
-/// Serves the reader to the writer as a script of this officer. A fault is told on the standard error.
+/// Serves a script of this officer from the reader to the writer. It prints a fault on the standard error.
 ///
-/// The exit status is 0 where the connection ended, 3 where a device failed, and 5 where memory was wanting.
+/// The exit status is 0 if the connection ended, 3 if a device failed, and 5 if memory ran out.
 pub fn run_script_over<
     H: Handler + Drop,
     T: Threads + Sync,
@@ -125,7 +125,7 @@ pub fn run_script_over<
     exit(rt, &ended)
 }
 
-/// Buffers the input and the output, and goes on as [`run_script_over`], whose exit status is told.
+/// Buffers the input and the output, and then does what [`run_script_over`] does. It returns that exit status.
 pub fn run_script<
     H: Handler + Drop,
     T: Threads + Sync,

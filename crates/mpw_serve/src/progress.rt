@@ -1,15 +1,15 @@
-//! Who is told how far the work after an accepted run came.
+//! The progress of an accepted run.
 
-/// Who is told how far the jobs of a run's tiles came.
+/// Receives how many jobs of a run's tiles are done.
 ///
-/// It takes part in no contract: whatever it does with what it is told, the desk, its keeper and the replies are the same.
+/// No contract speaks of it: whatever it does, the desk, its store writer and the replies are the same.
 pub trait Progress {
-    /// Tells how many of all jobs are done, after each batch; `done` grows up to `total`, which is above 0 and stays the
-    /// same throughout a run. The work waits until it returns.
+    /// Reports after each batch that `done` of `total` jobs are done. `done` grows up to `total`. `total` is above 0 and stays the same
+    /// throughout a run. The run waits until this call returns.
     fn tell(&mut self, done: usize, total: usize);
 }
 
-/// Tells nobody.
+/// Ignores the progress.
 #[derive(Clone, Copy, PartialEq, Eq)]
 pub struct Silent;
 

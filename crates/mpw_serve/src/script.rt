@@ -14,14 +14,14 @@ use mpw_wire::{Sink, Source};
 use std::alloc::AllocError;
 use std::thread::Threads;
 
-/// The connection of a script.
+/// The number of a script's connection.
 const CONNECTION: u32 = 1;
 
-/// Serves the reader to the writer as connection 1 of a new desk with this officer, whose keeper keeps nothing. Runs are worked off by the
-/// executor. A script over another desk, with a keeper or a connection of its own, is served by [`serve_core`].
+/// Serves the reader to the writer as connection 1 of a new desk with this officer. The store writer stores nothing. The executor executes
+/// the runs. [`serve_core`] serves a script over another desk, with a store writer or a connection of its own.
 ///
 /// # Errors
-/// Where there is no room for the new desk; nothing is read or written then.
+/// `AllocError` if there is no memory for the new desk. Then nothing is read or written.
 pub fn serve_script<H: Handler + Drop, T: Threads + Sync, P: Progress + Drop, R: Source, W: Sink>(
     executor: Executor<'_, T, P>,
     officer: Officer,

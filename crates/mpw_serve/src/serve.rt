@@ -1,7 +1,6 @@
-//! Serving a connection: each line gets its reply, in order, until the connection ends.
+//! Serves a connection: each line gets its reply, in order, until the connection ends.
 //!
-//! The lines are put to a [`Responder`], one by one, and so the loop is the same over a desk of one's own and over one that many
-//! connections share.
+//! The lines go to a [`Responder`], one by one. So the loop is the same for a private desk and for a desk that many connections share.
 ghost use Rattle.std.specs.Prelude.{◌≡◌};
 ghost use Rattle.mpw_wire.specs.Reading.{read_failures};
 ghost use Rattle.mpw_wire.specs.Writing.{Writes, fault_of};
@@ -15,7 +14,7 @@ use mpw_requests::SharedRequest;
 use mpw_wire::{Asked, Sink, Source, WireFault, read_request};
 use std::alloc::Global;
 
-/// The greatest number of answered lines of one connection.
+/// The greatest number of lines of one connection that are answered.
 pub const MAX_LINES: usize = 4096;
 
 /// How a connection ended.
@@ -23,26 +22,26 @@ pub const MAX_LINES: usize = 4096;
 pub enum End {
     /// The input was read to its end.
     Closed,
-    /// A line was longer than 4096 bytes, or asked for a payload of more than 2^24.
+    /// A line had more than 4096 bytes, or asked for a payload of more than 2^24 bytes.
     Long,
     /// The input ended before the payload that a line asked for.
     Cut,
-    /// There was no room to read a line.
+    /// There was no memory to read a line.
     Memory,
     /// 4096 lines were answered.
     Spent,
 }
 
-/// What came of a connection.
+/// The result of a connection.
 #[derive(Clone, Copy, PartialEq, Eq)]
 pub struct Served {
-    /// How it ended, or the device that failed: `Read` the source, and `Write` the sink.
+    /// How it ended, or the device that failed: `Read` is the source, `Write` the sink.
     pub ended: Result<End, WireFault>,
-    /// Whether the connection's end was handed in; it isn't where memory is wanting.
+    /// Whether the connection's end was handed in. It isn't if out of memory.
     pub is_gone: bool,
 }
 
-/// Writes what is told of a request.
+/// Writes the text of a response.
 fn write_response<W: Sink>(response: &Response, writer: &mut W) -> Result<(), WireFault>
     ensures text { Writes W.contents W.failures writer.old writer.new result (response_text response.now) }
     ensures handed { LeavesNothingPending (fault_of result) (W.pending writer.old) (W.pending writer.new) }
@@ -53,7 +52,7 @@ fn write_response<W: Sink>(response: &Response, writer: &mut W) -> Result<(), Wi
     }
 }
 
-/// Has a request answered, and writes what is told of it.
+/// Has a request answered, and writes the reply.
 fn answer<A: Responder, W: Sink>(
     responder: &mut A,
     request: SharedRequest,
@@ -69,7 +68,7 @@ fn answer<A: Responder, W: Sink>(
     }
 }
 
-/// The end, where what is written for it was written.
+/// The end, if its text was written; else the fault.
 fn with_end(end: Option<End>, written: Result<(), WireFault>) -> Result<Option<End>, WireFault>
     ensures { result ≡ with_end end written }
 {
@@ -79,7 +78,7 @@ fn with_end(end: Option<End>, written: Result<(), WireFault>) -> Result<Option<E
     }
 }
 
-/// Serves one line. It answers `None` where the connection goes on.
+/// Serves one line. It returns `None` if the connection goes on.
 fn serve_line<A: Responder, R: Source, W: Sink>(
     alloc: Global,
     responder: &mut A,
@@ -132,10 +131,12 @@ fn serve_lines<A: Responder, R: Source, W: Sink>(
     Ok(End::Spent)
 }
 
-/// Serves a connection: the lines of the reader are put to the responder and get their replies on the writer, in order, until
-/// the input ends, a line is too long, the payload that it asks for is too large or cut off, there is no room for a request, 4096
-/// lines were answered, or a device failed; what was accepted before stays accepted. Then the responder is handed the
-/// connection's end. Each reply is flushed. It costs the lines, and for each request what the responder takes.
+/// Serves a connection: passes the lines of the reader to the responder, and writes the replies in order. Each reply is flushed.
+///
+/// It goes on until the input ends, a line is too long, a payload is too large or cut off, there is no memory to read a request, 4096 lines
+/// were answered, or a device failed. What was accepted before stays accepted. Then the responder gets the connection's end.
+///
+/// Cost: the lines, and for each request what the responder takes.
 pub fn serve_connection<A: Responder, R: Source, W: Sink>(
     alloc: Global,
     responder: &mut A,

@@ -1,4 +1,4 @@
-//! How far a run has come, on one line of a terminal.
+//! The progress of a run, on one line of a terminal.
 
 use crate::progress::Progress;
 use std::io::{IsTerminal, Stderr, Write};

@@ -1,2 +1,3 @@
+pub mod Staff
 pub mod Status
 pub mod Stored

@@ -57,6 +57,8 @@ IsNoStore service.Bind = ⊤
 IsNoStore service.Print = ⊤
 IsNoStore (service.Serve fault) = ⊤
 IsNoStore service.Mismatch = ⊤
+IsNoStore service.Full = ⊤
+IsNoStore service.FullStore = ⊤
 
 -- how a service ends that began with a desk: that went on by calls, which its passes made, and such a store is given back. Where it ends well each change was kept; and
 -- where one could not be, that is what is told, and nothing else of the store

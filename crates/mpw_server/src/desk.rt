@@ -17,7 +17,6 @@ use mpw_serve::{Executor, Progress};
 use mpw_service::Begun;
 use mpw_settings::Officer;
 use mpw_store::StoreFault;
-use mpw_store_file::FileFault;
 use mpw_stored_script::StoredFault;
 use sqlite::{Alter, Connection};
 use std::alloc::{AllocError, Global};
@@ -84,7 +83,7 @@ where
     let Officer { name, digest } = officer;
     let reopened: Reopened<'_, H, T, P> = match reopen(executor, &mut conn, name, digest) {
         Ok(reopened) => reopened,
-        Err(fault) => return Err((StoredFault::from(FileFault::from(fault)), conn)),
+        Err(fault) => return Err((StoredFault::refused(fault), conn)),
     };
     let Reopened {
         core,

@@ -33,6 +33,12 @@ pub enum ServiceFault {
     /// The passes made another number of calls than the desk has.
     #[error("error: the passes don't account for every call of the desk")]
     Mismatch,
+    /// An ongoing service without a store has answered all calls of its desk.
+    #[error("error: the desk has answered all its calls, and has no store to go on from: a new start is a new desk")]
+    Full,
+    /// The rows of a store come to as many calls as a desk answers.
+    #[error("error: the store: its rows come to all calls that a desk answers: sign off, and begin a new store")]
+    FullStore,
 }
 
 impl From<AllocError> for ServiceFault {
@@ -68,14 +74,15 @@ impl From<Mismatch> for ServiceFault {
 }
 
 impl ServiceFault {
-    /// The exit status: 3 if a store or a device failed, the address can't be bound, a connection can't be accepted or no pass is left; 4 if the passes
-    /// don't account for every call; 5 if a thread can't be started or memory runs out.
+    /// The exit status: 3 if a store or a device failed, the address can't be bound, a connection can't be accepted, no pass is left, or the desk
+    /// is full; 4 if the passes don't account for every call; 5 if a thread can't be started or memory runs out.
     pub fn status(self) -> u8
         ensures { result ≡ status_of self }
     {
         match self {
             ServiceFault::Store(fault) => fault.status(),
             ServiceFault::Log | ServiceFault::Bind | ServiceFault::Print => 3,
+            ServiceFault::Full | ServiceFault::FullStore => 3,
             ServiceFault::Serve(fault) => fault.status(),
             ServiceFault::Mismatch => 4,
             ServiceFault::Memory => 5,

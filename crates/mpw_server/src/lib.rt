@@ -14,8 +14,10 @@ mod laws;
 mod opening;
 mod program;
 mod serving;
+mod terms;
 
 pub use fault::ServiceFault;
 pub use laws::services_store_their_changes;
 pub use program::run;
 pub use serving::serve_over;
+pub use terms::Terms;

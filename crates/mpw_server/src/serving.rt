@@ -17,12 +17,13 @@ ghost use Rattle.sqlite.specs.State.{HasCleanDisk};
 use crate::desk::{Left, begin_over, left_of, parts_of};
 use crate::fault::ServiceFault;
 use crate::opening::{Opened, open};
+use crate::terms::Terms;
 use mpw_desk::Blank;
 use mpw_events::Handler;
 use mpw_keeper::OptionalKeeper;
 use mpw_serve::{Executor, Progress};
 use mpw_service::{Begun, Opening, ServeFault, Staff, serve_desk};
-use mpw_settings::{Officer, Service};
+use mpw_settings::Officer;
 use mpw_stored_script::StoredFault;
 use sqlite::{Alter, Connection};
 use std::alloc::Global;
@@ -155,8 +156,7 @@ where
 pub(crate) fn serve_begun<S, H, R>(
     host: &HostRuntime,
     rt: &R,
-    service: &Service,
-    staff: Staff,
+    terms: &mut Terms<'_>,
     begun: Begun<H, OptionalKeeper<S>>,
 ) -> (Result<(), ServiceFault>, Option<Connection<S>>)
 where
@@ -168,9 +168,37 @@ where
     requires whole { failures_of begun.keeper ≡ 0 }
     ensures { Ends (kept_desk (H.desk begun.core.value) (kept_by begun.keeper) (failures_of begun.keeper)) result.0 (ComesBack result.1 (λ conn. state S.Store conn)) }
 {
-    match open(host, rt, service) {
-        Ok(opened) => serve_opened(host, rt, staff, begun, opened),
+    match open(host, rt, terms) {
+        Ok(opened) => serve_opened(host, rt, terms.staff, begun, opened),
         Err(fault) => (Err(fault), store_of(begun)),
+    }
+}
+
+/// Whether an ongoing service ends before it serves: the store's rows come to all calls that a desk answers.
+fn is_full<H: Handler>(core: &H, staff: Staff) -> bool {
+    staff.is_ongoing && core.calls().len() >= staff.calls
+}
+
+/// Serves the desk of a store as the settings say, unless it is full.
+fn serve_unless_full<S, H, R>(
+    host: &HostRuntime,
+    rt: &R,
+    terms: &mut Terms<'_>,
+    begun: Begun<H, OptionalKeeper<S>>,
+) -> (Result<(), ServiceFault>, Option<Connection<S>>)
+where
+    S: Alter + Send + Drop,
+    H: Handler + Send + Drop,
+    R: Threads + Wait + Clock + Net<Listener = TcpListener, Stream = TcpStream> + Sync,
+    requires first { 0 < begun.first }
+    requires above { AreBelow begun.first (H.desk begun.core.value).history }
+    requires whole { failures_of begun.keeper ≡ 0 }
+    ensures { Ends (kept_desk (H.desk begun.core.value) (kept_by begun.keeper) (failures_of begun.keeper)) result.0 (ComesBack result.1 (λ conn. state S.Store conn)) }
+{
+    if is_full(&*begun.core, terms.staff) {
+        (Err(ServiceFault::FullStore), store_of(begun))
+    } else {
+        serve_begun(host, rt, terms, begun)
     }
 }
 
@@ -192,14 +220,13 @@ fn with_store<S: Alter + Drop>(
 
 /// Serves the desk that the rows of a store lead to as the settings say. If a change could not be stored, that is the fault. The rows are then those that
 /// were found, the ends of the sessions that were open, and the changes of the calls, in order ([`services_store_their_changes`]). A bad row is
-/// reported only if the rows lead to no desk. The store is returned if that is possible, and always if the service ends well.
+/// reported only if the rows lead to no desk. An ongoing service doesn't begin if the rows come to all calls that a desk answers. The store is returned if that is possible, and always if the service ends well.
 ///
 /// [`services_store_their_changes`]: crate::services_store_their_changes
 pub fn serve_over<S, H, R, P>(
     host: &HostRuntime,
     executor: Executor<'_, R, P>,
-    service: &Service,
-    staff: Staff,
+    terms: &mut Terms<'_>,
     store: (Connection<S>, Officer),
 ) -> (Result<(), ServiceFault>, Option<Connection<S>>)
 where
@@ -214,7 +241,7 @@ where
     let rt = executor.threads;
     let (conn, officer) = store;
     match begin_over::<S, H, R, P>(executor, conn, officer) {
-        Ok(begun) => with_store(serve_begun(host, rt, service, staff, begun)),
+        Ok(begun) => with_store(serve_unless_full(host, rt, terms, begun)),
         Err(unopened) => {
             let (fault, conn) = unopened;
             (Err(ServiceFault::Store(fault)), Some(conn))

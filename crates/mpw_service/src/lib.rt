@@ -10,16 +10,21 @@
 mod accepting;
 mod arrival;
 mod fault;
+mod hall;
+mod lobby;
 mod log;
 mod opening;
 mod parts;
-mod reception;
+mod patience;
 mod scribe;
 mod service;
 mod staff;
+mod steering;
+mod threads;
 
 pub use fault::ServeFault;
 pub use log::Log;
+pub use mpw_reception::Strangers;
 pub use opening::{Begun, Opening};
 pub use parts::Gathered;
 pub use service::{serve, serve_desk};

@@ -13,9 +13,9 @@ pub(crate) struct Part<N: Room> {
     /// The passes of its connections.
     pub(crate) passes: Vec<Pass<N>>,
     /// How many connections it took.
-    pub(crate) taken: u64,
+    taken: u64,
     /// Whether no pass was lost.
-    pub(crate) is_whole: bool,
+    is_whole: bool,
     ghost counted: { is_whole ≡ true → vec_len passes ≡ taken },
 }
 
@@ -81,6 +81,19 @@ impl<N: Room> Part<N> {
             taken: 0,
             is_whole: true,
         }
+    }
+
+    /// Takes in the pass of a connection that was served, and returns whether there was room.
+    pub(crate) fn put(&mut self, pass: Pass<N>) -> bool {
+        let has_room = add(&mut self.passes, pass);
+        match self.taken.checked_add(1) {
+            Some(taken) => {
+                self.taken = taken;
+                self.is_whole = self.is_whole & has_room;
+            }
+            None => self.is_whole = false,
+        }
+        self.is_whole
     }
 }
 

@@ -2,6 +2,7 @@
 ghost use Rattle.std.specs.Prelude.{◌≡◌};
 ghost use Rattle.mpw_service.specs.Staff.{is_over, most_of};
 
+use mpw_reception::Strangers;
 use std::time::Duration;
 
 /// How many threads serve and work, and for how long.
@@ -17,6 +18,10 @@ pub struct Staff {
     pub idle: Duration,
     /// How many calls the desk answers in its life.
     pub calls: usize,
+    /// What connections without a session may take, if that is limited.
+    pub strangers: Option<Strangers>,
+    /// Whether workers wait until a run is begun or cancelled.
+    pub holds_run: bool,
 }
 
 impl Staff {

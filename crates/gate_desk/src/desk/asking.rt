@@ -1,4 +1,4 @@
-//! What is asked of a desk, and what is done for it, once more where there was no memory the first time.
+//! Requests to a desk, and the jobs done for it, tried once more if memory runs out the first time.
 
 use anyhow::{Result, bail};
 use gate_events::{Paper, Text, event_of, job_of, work};
@@ -9,7 +9,7 @@ use mpw_requests::SharedRequest;
 use mpw_wire::{Asked, read_request};
 use std::alloc::{AllocError, Global};
 
-/// The next request of a text, none behind the last.
+/// The next request of a text, or none after the last.
 pub fn next_request(alloc: Global, text: &mut Text<'_>) -> Result<Option<SharedRequest>> {
     let at = text.at;
     let asked = match read_request(alloc, text) {
@@ -48,12 +48,12 @@ pub fn taken_job(alloc: Global, response: &Response) -> Result<Option<Job>, Allo
     }
 }
 
-/// Does a job, and makes the event that hands in what comes of it.
+/// Does a job, and makes the event that hands in its answer.
 fn event_for(alloc: Global, job: &Job) -> Result<Event, AllocError> {
     event_of(&work(alloc, job)?)
 }
 
-/// The event that hands in what comes of a job.
+/// The event that hands in the answer of a job.
 pub fn job_event(alloc: Global, job: &Job) -> Result<Event, AllocError> {
     match event_for(alloc, job) {
         Ok(event) => Ok(event),

@@ -1,4 +1,4 @@
-//! A desk, and the answers that are kept beside it.
+//! A desk, and the answers that are stored next to it.
 
 use crate::desk::asking::{job_event, next_request, reply_text, taken_job};
 use anyhow::{Result, bail};
@@ -13,10 +13,10 @@ use mpw_job::Job;
 use mpw_requests::{Digest, Request, RunRequest, SharedRequest};
 use std::alloc::{AllocError, Global};
 
-/// The most jobs of a run that a script has, with the call that finds none.
+/// The greatest number of jobs of a script's run, including the call that gets none.
 const MOST_JOBS: usize = 100;
 
-/// A desk, the digest of its officer, and the answers that are kept beside it.
+/// A desk, the digest of its officer, and the answers that are stored next to it.
 #[derive(Drop)]
 pub struct Table {
     core: Box<Core>,
@@ -24,7 +24,7 @@ pub struct Table {
     kept: Vec<Kept>,
 }
 
-/// A desk behind a pointer, so that to let it go is one step wherever it is held.
+/// A desk in a box, so that dropping it is one step wherever it is held.
 fn boxed(alloc: Global, core: Core) -> Result<Box<Core>, AllocError> {
     match Box::new(alloc, core) {
         Ok(core) => Ok(core),
@@ -42,7 +42,7 @@ fn replayed(
     boxed(alloc, replay(alloc, officer, digest, events)?)
 }
 
-/// A place for a response. It is a pointer, so that to let it go is one step wherever it is held.
+/// A place for a response. It is a box, so that dropping it is one step wherever it is held.
 fn new_place(alloc: Global) -> Result<Box<Response>, AllocError> {
     match Box::new(alloc, Response::Ended) {
         Ok(place) => Ok(place),
@@ -50,7 +50,7 @@ fn new_place(alloc: Global) -> Result<Box<Response>, AllocError> {
     }
 }
 
-/// Handles an event, with a place for the response made before.
+/// Handles an event. The place for the response is made before.
 fn handle_once(alloc: Global, core: &mut Core, event: &Event) -> Result<Box<Response>, AllocError> {
     let mut place = new_place(alloc)?;
     let event = event.copy()?;
@@ -58,7 +58,7 @@ fn handle_once(alloc: Global, core: &mut Core, event: &Event) -> Result<Box<Resp
     Ok(place)
 }
 
-/// Handles an event. Where there is no memory for it, the history has to be as it was, and it is handled once more.
+/// Handles an event. If memory runs out, the history must be unchanged, and the event is handled once more.
 fn handle(alloc: Global, core: &mut Core, event: &Event) -> Result<Box<Response>> {
     let calls = core.history().len();
     if let Ok(response) = handle_once(alloc, core, event) {
@@ -70,7 +70,7 @@ fn handle(alloc: Global, core: &mut Core, event: &Event) -> Result<Box<Response>
     Ok(handle_once(alloc, core, event)?)
 }
 
-/// Ends a connection so many times.
+/// Ends a connection `count` times.
 fn end_times(core: &mut Core, connection: u32, count: usize) -> Result<(), AllocError> {
     for _ in 0..count {
         core.handle(&mut NoKeeper, Event::Gone { connection })?;
@@ -79,7 +79,7 @@ fn end_times(core: &mut Core, connection: u32, count: usize) -> Result<(), Alloc
 }
 
 impl Table {
-    /// A new desk whose officer's token has this digest, beside which nothing is kept.
+    /// A new desk whose officer's token has this digest, without stored answers.
     pub fn new(alloc: Global, officer: Digest) -> Result<Table> {
         let core = Core::new_boxed(alloc, name(alloc, "root")?, officer)?;
         Ok(Table {
@@ -89,7 +89,7 @@ impl Table {
         })
     }
 
-    /// Begins with a new desk, which is asked what the lines of a text ask.
+    /// Begins with a new desk, which is asked the requests of a text.
     pub fn begin(&mut self, rt: &HostRuntime, text: &str) -> Result<()> {
         *self = Table::new(rt.alloc(), digest("abc"))?;
         let mut count = 0usize;
@@ -100,7 +100,7 @@ impl Table {
         Ok(println!(rt; "    {count} accepted")?)
     }
 
-    /// Asks what has to be accepted.
+    /// Asks a request that must be accepted.
     fn set_up(&mut self, alloc: Global, line: &str) -> Result<()> {
         let (command, payload) = line.split_once('|').unwrap_or((line, ""));
         let words: Vec<&str> = command.split_whitespace().collect(alloc)?;
@@ -119,13 +119,13 @@ impl Table {
         Ok(())
     }
 
-    /// Handles an event, and tells the response.
+    /// Handles an event, and prints the response.
     fn tell(&mut self, rt: &HostRuntime, event: Event) -> Result<()> {
         let response = handle(rt.alloc(), &mut self.core, &event)?;
         tell_response(rt, &response)
     }
 
-    /// Asks a request of a connection, with its payload where it has one, and tells the reply.
+    /// Asks a request of a connection, with its payload if it has one, and prints the reply.
     pub fn ask(
         &mut self,
         rt: &HostRuntime,
@@ -143,17 +143,17 @@ impl Table {
         )
     }
 
-    /// Ends a connection, and tells the response.
+    /// Ends a connection, and prints the response.
     pub fn end(&mut self, rt: &HostRuntime, connection: u32) -> Result<()> {
         self.tell(rt, Event::Gone { connection })
     }
 
-    /// Restarts the desk, and tells the response.
+    /// Restarts the desk, and prints the response.
     pub fn restart(&mut self, rt: &HostRuntime) -> Result<()> {
         self.tell(rt, Event::Restart)
     }
 
-    /// Does a job, and keeps the answer.
+    /// Does a job, and stores the answer.
     fn work(&mut self, alloc: Global, name_word: &str, job: &Job) -> Result<()> {
         let work = work(alloc, job)?;
         let name = name(alloc, name_word)?;
@@ -173,7 +173,7 @@ impl Table {
         }
     }
 
-    /// Hands a kept answer in.
+    /// Hands in a stored answer.
     pub fn hand(&mut self, rt: &HostRuntime, name: &str) -> Result<()> {
         let event = event_of(find(self.kept.as_slice(), name)?)?;
         self.tell(rt, event)
@@ -208,17 +208,17 @@ impl Table {
         self.work(rt.alloc(), name, &job)
     }
 
-    /// How many calls the history has.
+    /// The number of calls in the history.
     pub fn calls(&self) -> usize {
         self.core.history().len()
     }
 
-    /// Tells how many calls the history has.
+    /// Prints how many calls the history has.
     pub fn tell_calls(&self, rt: &HostRuntime) -> Result<()> {
         Ok(println!(rt; "    {} calls", self.calls())?)
     }
 
-    /// Works a run off: calls for its jobs, does each, and hands in what comes of it, until there is none.
+    /// Executes a run: calls for its jobs, does each, and hands in its answer, until there is none.
     fn work_off(&mut self, alloc: Global) -> Result<()> {
         for _ in 0..MOST_JOBS {
             let response = handle(alloc, &mut self.core, &Event::Take { worker: 1 })?;
@@ -231,7 +231,7 @@ impl Table {
         bail!("a run of fewer tiles")
     }
 
-    /// Has a connection ask a request, works a run off that is accepted, and gives the text of the reply.
+    /// Asks a request on a connection, executes the run if one is accepted, and returns the text of the reply.
     fn reply_to(
         &mut self,
         alloc: Global,
@@ -254,7 +254,7 @@ impl Table {
         Ok(text)
     }
 
-    /// Has a connection ask what a script asks, request by request, and says whether each is answered as it is written there.
+    /// Asks the requests of a script on a connection, one by one. It returns whether each got the reply that the script has.
     pub fn serve(&mut self, rt: &HostRuntime, connection: u32, script: &Transcript) -> Result<()> {
         let mut reader = Text {
             bytes: script.input.as_slice(),
@@ -289,7 +289,7 @@ impl Table {
         Ok(println!(rt; "    {count} calls, {different} answered otherwise")?)
     }
 
-    /// Ends a connection until the history has room for so many calls.
+    /// Ends a connection until the history has room for that many calls.
     pub fn fill(&mut self, connection: u32, room: u32) -> Result<()> {
         let count = MAX_EVENTS
             .saturating_sub(room as usize)

@@ -1,4 +1,4 @@
-//! Random hierarchies: each mask beside a plain search over the pairs, in full after each change.
+//! Random hierarchies: each mask is compared with a plain search over the pairs, in full after each change.
 use crate::policy::role_name;
 use mpw_geom::Name;
 use mpw_roles::{Mask, Roles};
@@ -8,7 +8,7 @@ use std::io;
 /// The greatest number of roles.
 const MAX_ROLES: usize = 512;
 
-/// For each hierarchy its number of roles, of changes first, and of changes with all compared after each.
+/// For each hierarchy its number of roles, the number of changes first, and that of changes with a full comparison after each.
 const HIERARCHIES: [(usize, usize, usize); 3] = [(8, 0, 300), (64, 0, 300), (512, 300, 300)];
 
 /// A linear congruential generator.
@@ -18,7 +18,7 @@ struct Random {
 }
 
 impl Random {
-    /// A number below another one, which is no 0.
+    /// A number below another one, which isn't 0.
     fn below(&mut self, limit: usize) -> usize {
         self.state = self
             .state
@@ -29,14 +29,14 @@ impl Random {
     }
 }
 
-/// The second body: names, and pairs of places of a senior and a junior.
+/// The second implementation: names, and pairs of indexes of a senior and a junior.
 #[derive(Drop)]
 struct Plain {
     names: Vec<Name>,
     pairs: Vec<(usize, usize)>,
 }
 
-/// Both bodies, and what draws their changes.
+/// Both implementations, and the generator that draws their changes.
 #[derive(Drop)]
 struct Bodies {
     roles: Roles,
@@ -57,7 +57,7 @@ fn mark(marks: &mut [bool], place: usize) {
     }
 }
 
-/// Marks the juniors of marked seniors, and says whether there was one to mark.
+/// Marks the juniors of marked seniors. It returns whether there was one to mark.
 fn pass(pairs: &[(usize, usize)], marks: &mut [bool]) -> bool {
     let mut changed = false;
     for (senior, junior) in pairs {
@@ -69,7 +69,7 @@ fn pass(pairs: &[(usize, usize)], marks: &mut [bool]) -> bool {
     changed
 }
 
-/// The places at or below one.
+/// The indexes at or below one.
 fn search(pairs: &[(usize, usize)], senior: usize) -> [bool; MAX_ROLES] {
     let mut marks = [false; MAX_ROLES];
     mark(&mut marks, senior);
@@ -81,7 +81,7 @@ fn search(pairs: &[(usize, usize)], senior: usize) -> [bool; MAX_ROLES] {
     marks
 }
 
-/// In how many places the mask of a role differs from the search.
+/// At how many indexes the mask of a role differs from the search.
 fn row_differences(bits: &[usize], mask: &Mask, marks: &[bool]) -> usize {
     let mut wrong: usize = 0;
     for (place, bit) in bits.iter().enumerate() {
@@ -101,7 +101,7 @@ fn bits(alloc: Global, roles: &Roles, names: &[Name]) -> Result<Vec<usize>, Allo
     Ok(bits)
 }
 
-/// In how many pairs of roles the two bodies differ.
+/// In how many pairs of roles the two implementations differ.
 fn differences(alloc: Global, roles: &Roles, plain: &Plain) -> Result<usize, AllocError> {
     let bits = bits(alloc, roles, plain.names.as_slice())?;
     let mut wrong: usize = 0;
@@ -114,7 +114,7 @@ fn differences(alloc: Global, roles: &Roles, plain: &Plain) -> Result<usize, All
     Ok(wrong)
 }
 
-/// Takes the pair at a place back, in both bodies; whether they agree that it was there.
+/// Removes the pair at an index in both implementations. It returns whether they agree that it existed.
 fn take_back(roles: &mut Roles, plain: &mut Plain, at: usize) -> bool {
     if at >= plain.pairs.len() {
         return true;
@@ -126,7 +126,7 @@ fn take_back(roles: &mut Roles, plain: &mut Plain, at: usize) -> bool {
     roles.uninherit(above, below).is_ok()
 }
 
-/// Makes a pair in both bodies; whether they agree on what is answered.
+/// Makes a pair in both implementations. It returns whether their answers agree.
 fn make(
     roles: &mut Roles,
     plain: &mut Plain,
@@ -145,7 +145,7 @@ fn make(
     Ok(made != (closes || known))
 }
 
-/// Removes a role in both bodies; the last role takes its place in the second.
+/// Removes a role in both implementations. In the second, the last role takes its index.
 fn remove(roles: &mut Roles, plain: &mut Plain, at: usize) -> bool {
     if at >= plain.names.len() {
         return true;
@@ -164,7 +164,7 @@ fn remove(roles: &mut Roles, plain: &mut Plain, at: usize) -> bool {
     roles.remove(&gone).is_ok()
 }
 
-/// Adds a role with that number to both bodies.
+/// Adds a role with that number to both implementations.
 fn add(
     alloc: Global,
     roles: &mut Roles,
@@ -176,7 +176,7 @@ fn add(
     Ok(roles.add(role).is_ok())
 }
 
-/// One change, of four kinds; whether the two bodies agree on its answer.
+/// One change, of four kinds. It returns whether the answers of the two implementations agree.
 fn change(alloc: Global, bodies: &mut Bodies, number: usize) -> Result<bool, AllocError> {
     let (roles, plain) = (&mut bodies.roles, &mut bodies.plain);
     let count = plain.names.len();
@@ -197,7 +197,7 @@ fn change(alloc: Global, bodies: &mut Bodies, number: usize) -> Result<bool, All
     }
 }
 
-/// So many changes, perhaps with all compared after each: how many differences there were, in answers and in masks.
+/// That many changes, perhaps with a full comparison after each. It returns the number of differences, in answers and in masks.
 fn change_all(
     alloc: Global,
     bodies: &mut Bodies,
@@ -217,7 +217,7 @@ fn change_all(
     Ok(wrong)
 }
 
-/// So many roles, some changes first, and then so many with all compared after each.
+/// That many roles, some changes first, and then that many with a full comparison after each.
 fn drive(
     alloc: Global,
     bodies: &mut Bodies,
@@ -233,7 +233,7 @@ fn drive(
     Ok(before.saturating_add(after))
 }
 
-/// Two bodies without roles, and changes drawn from a seed.
+/// Two implementations without roles, and changes drawn from a seed.
 fn new_bodies(alloc: Global, seed: usize) -> Bodies {
     Bodies {
         roles: Roles::new(alloc),
@@ -245,13 +245,13 @@ fn new_bodies(alloc: Global, seed: usize) -> Bodies {
     }
 }
 
-/// How many differences there were.
+/// The number of differences.
 fn run(alloc: Global, count: usize, first: usize, changes: usize) -> Result<usize, AllocError> {
     let mut bodies = new_bodies(alloc, count);
     drive(alloc, &mut bodies, count, first, changes)
 }
 
-/// Prints the part on random hierarchies.
+/// Prints the part about random hierarchies.
 pub fn show(rt: &HostRuntime) -> io::Result<()> {
     println!(rt; "# masks beside a plain search")?;
     for (count, first, changes) in &HIERARCHIES {

@@ -1,4 +1,4 @@
-//! Rows of requests: what a user is authorized for while the paths of a diamond go, and the limit of roles.
+//! Tables of requests: what a user is authorized for while the paths of a diamond are removed, and the limit of roles.
 use crate::policy::{name, role_name};
 use mpw_geom::{Name, Names};
 use mpw_permissions::{Object, Operation};
@@ -45,7 +45,7 @@ fn word(made: &Result<(), PolicyFault>) -> &'static str {
     }
 }
 
-/// What a call answered. It is let go here, at one place.
+/// The word of an answer. It is dropped here, at one place.
 fn told(made: Result<(), PolicyFault>) -> &'static str {
     word(&made)
 }
@@ -58,7 +58,7 @@ fn desk(alloc: Global) -> Result<Policy, AllocError> {
     }
 }
 
-/// A call over one name, on a connection.
+/// A call with one name, on a connection.
 #[derive(Clone, Copy)]
 enum NameCall {
     Open,
@@ -66,7 +66,7 @@ enum NameCall {
     DeleteRole,
 }
 
-/// What a call over one name is answered.
+/// The answer to a call with one name.
 fn call(
     alloc: Global,
     policy: &mut Policy,
@@ -82,7 +82,7 @@ fn call(
     }
 }
 
-/// The officer's call over two names.
+/// The officer's call with two names.
 #[derive(Clone, Copy)]
 enum PairCall {
     Inherit,
@@ -90,7 +90,7 @@ enum PairCall {
     Assign,
 }
 
-/// What the officer's call over two names is answered.
+/// The answer to the officer's call with two names.
 fn call_pair(
     alloc: Global,
     policy: &mut Policy,
@@ -107,7 +107,7 @@ fn call_pair(
     }
 }
 
-/// Opens the officer's session on connection 1, and says what that is answered.
+/// Opens the officer's session on connection 1, and returns the answer.
 fn log_in_officer(alloc: Global, policy: &mut Policy) -> Result<&'static str, AllocError> {
     let opened = call(alloc, policy, 1, NameCall::Open, "root")?;
     if opened != "ok" {
@@ -116,7 +116,7 @@ fn log_in_officer(alloc: Global, policy: &mut Policy) -> Result<&'static str, Al
     call(alloc, policy, 1, NameCall::Activate, "officer")
 }
 
-/// Prints a user's roles on a line, behind what they are to the user.
+/// Prints a user's roles on a line, after what they are to the user.
 fn print_roles(rt: &HostRuntime, user: &Name, what: &str, roles: &Names) -> io::Result<()> {
     print!(rt; "{} {what}", user.as_str())?;
     for role in roles.as_slice() {
@@ -125,13 +125,13 @@ fn print_roles(rt: &HostRuntime, user: &Name, what: &str, roles: &Names) -> io::
     println!(rt; "")
 }
 
-/// Prints what a session is told of itself.
+/// Prints what `whoami` shows of a session.
 fn print_told(rt: &HostRuntime, identity: &Identity) -> io::Result<()> {
     print_roles(rt, &identity.user, "active", &identity.active)?;
     print_roles(rt, &identity.user, "authorized", &identity.authorized)
 }
 
-/// Prints what `whoami` tells on connection 2.
+/// Prints what `whoami` shows on connection 2.
 fn print_identity(rt: &HostRuntime, policy: &Policy) -> io::Result<()> {
     match policy.whoami(2) {
         Ok(identity) => print_told(rt, &identity),
@@ -139,7 +139,7 @@ fn print_identity(rt: &HostRuntime, policy: &Policy) -> io::Result<()> {
     }
 }
 
-/// Adds a role, and says what that is answered.
+/// Adds a role, and returns the answer.
 fn add_role(policy: &mut Policy, role: Name) -> &'static str {
     told(policy.addrole(1, role))
 }
@@ -154,14 +154,14 @@ fn people(policy: &mut Policy, alloc: Global) -> Result<&'static str, AllocError
     Ok(told(policy.adduser(1, name(alloc, "ann")?, DIGEST)))
 }
 
-/// Prints what one pair less is answered, and what `whoami` tells then.
+/// Prints the answer to removing one pair, and what `whoami` shows after it.
 fn unlink(rt: &HostRuntime, policy: &mut Policy, senior: &str, junior: &str) -> io::Result<()> {
     let made = call_pair(rt.alloc(), policy, PairCall::Uninherit, senior, junior)?;
     println!(rt; "uninherit {senior} {junior}: {made}")?;
     print_identity(rt, policy)
 }
 
-/// Prints the pairs of the diamond, and a pair too many of each kind.
+/// Prints the pairs of the diamond, and one wrong pair of each kind.
 fn link_all(rt: &HostRuntime, policy: &mut Policy) -> io::Result<()> {
     println!(rt; "roles a b c d, user ann: {}", people(policy, rt.alloc())?)?;
     for (senior, junior) in &PAIRS {
@@ -179,7 +179,7 @@ fn log_in(rt: &HostRuntime, policy: &mut Policy) -> io::Result<()> {
     print_identity(rt, policy)
 }
 
-/// Prints what ann has while the paths of the diamond go.
+/// Prints what ann has while the paths of the diamond are removed.
 fn take_apart(rt: &HostRuntime, policy: &mut Policy) -> io::Result<()> {
     let active = call(rt.alloc(), policy, 2, NameCall::Activate, "d")?;
     println!(rt; "activate d: {active}")?;
@@ -195,7 +195,7 @@ fn diamond(rt: &HostRuntime, policy: &mut Policy) -> io::Result<()> {
     take_apart(rt, policy)
 }
 
-/// Adds so many roles, and says how many of them were added.
+/// Adds that many roles, and returns how many of them were added.
 fn add_roles(alloc: Global, policy: &mut Policy, count: usize) -> Result<u32, AllocError> {
     let mut added: u32 = 0;
     for index in 1..count {
@@ -237,18 +237,18 @@ fn end_all(rt: &HostRuntime, policy: &mut Policy) -> io::Result<()> {
     print_access(rt, policy)
 }
 
-/// The parts on sessions.
+/// The parts about sessions.
 #[derive(Clone, Copy)]
 enum Part {
     /// A diamond keeps its foot while one path is left.
     Diamond,
-    /// 512 roles and no more, the officer's among them.
+    /// 512 roles and no more, including the officer's.
     Limit,
-    /// Where every session ended, nothing is permitted.
+    /// If every session ended, nothing is permitted.
     End,
 }
 
-/// Prints a part, on a desk of its own.
+/// Prints a part, on its own desk.
 fn show_part(rt: &HostRuntime, part: Part) -> io::Result<()> {
     let mut policy = desk(rt.alloc())?;
     match part {
@@ -258,7 +258,7 @@ fn show_part(rt: &HostRuntime, part: Part) -> io::Result<()> {
     }
 }
 
-/// Prints the parts on sessions.
+/// Prints the parts about sessions.
 pub fn show(rt: &HostRuntime) -> io::Result<()> {
     println!(rt; "# a diamond of roles")?;
     show_part(rt, Part::Diamond)?;

@@ -1,4 +1,4 @@
-//! Separation sets: which is told, what a copy keeps, and which forms there are.
+//! Separation sets: which one is reported, what a copy has, and which forms there are.
 use crate::policy::name;
 use mpw_geom::Names;
 use mpw_roles::{Roles, RolesFault};
@@ -15,7 +15,7 @@ fn names(alloc: Global, texts: &[&str]) -> Result<Names, AllocError> {
     Ok(names)
 }
 
-/// The set of two roles that nobody may both have, or `None` where there is no such set.
+/// The set of two roles that nobody may both have, or `None` if there is no such set.
 fn pair(
     alloc: Global,
     text: &str,
@@ -35,7 +35,7 @@ fn add_roles(alloc: Global, roles: &mut Roles) -> Result<(), RolesFault> {
     roles.inherit(&boss, &name(alloc, "chk")?)
 }
 
-/// Makes the set of two roles, static or dynamic, and says whether it was made.
+/// Makes the set of two roles, static or dynamic, and returns whether it was made.
 fn make_pair(
     alloc: Global,
     sets: &mut Sets,
@@ -53,7 +53,7 @@ fn make_pair(
     }
 }
 
-/// The name that is told of seniors, or `none`.
+/// The name that is reported for seniors, or `none`.
 fn least_of<'a>(
     alloc: Global,
     sets: &'a Sets,
@@ -68,7 +68,7 @@ fn least_of<'a>(
     }
 }
 
-/// A senior of one role of a pair, with the other, breaks both static pairs; the least name is told.
+/// A senior of one role of a pair, with the other, breaks both static pairs. The first name in alphabetical order is reported.
 fn print_told(rt: &HostRuntime, roles: &Roles, sets: &Sets) -> io::Result<()> {
     let fixed = least_of(rt.alloc(), sets, Kind::Static, roles, &["pay", "boss"])?;
     let varying = least_of(rt.alloc(), sets, Kind::Dynamic, roles, &["pay", "boss"])?;
@@ -76,7 +76,7 @@ fn print_told(rt: &HostRuntime, roles: &Roles, sets: &Sets) -> io::Result<()> {
     println!(rt; "pay, boss: static {fixed}, dynamic {varying}\nboss: static {alone}")
 }
 
-/// Two static pairs of the same roles, and what is told of seniors.
+/// Two static pairs of the same roles, and the names that are reported for seniors.
 fn print_least(rt: &HostRuntime, roles: &Roles, sets: &mut Sets) -> io::Result<()> {
     let second = make_pair(rt.alloc(), sets, Kind::Static, "s2", "pay", "chk")?;
     let first = make_pair(rt.alloc(), sets, Kind::Static, "s1", "chk", "pay")?;
@@ -93,7 +93,7 @@ fn show_least(rt: &HostRuntime) -> io::Result<()> {
     }
 }
 
-/// Whether the dynamic set is there, and in a copy.
+/// Whether the dynamic set exists, and in a copy.
 fn print_copy(rt: &HostRuntime, sets: &mut Sets, copy: &Sets) -> io::Result<()> {
     let s1 = name(rt.alloc(), "s1")?;
     let static_gone = sets.remove_ssd(&s1).is_ok();
@@ -105,7 +105,7 @@ fn print_copy(rt: &HostRuntime, sets: &mut Sets, copy: &Sets) -> io::Result<()> 
     )
 }
 
-/// Names of the two kinds are apart, and a set that is gone breaks nothing; a copy keeps it.
+/// The names of the two kinds are separate. A removed set breaks nothing, but a copy still has it.
 fn print_kinds(rt: &HostRuntime, sets: &mut Sets) -> io::Result<()> {
     let made = make_pair(rt.alloc(), sets, Kind::Dynamic, "s1", "pay", "chk")?;
     let again = make_pair(rt.alloc(), sets, Kind::Dynamic, "s1", "pay", "chk")?;
@@ -137,7 +137,7 @@ fn print_set(rt: &HostRuntime, set: &Option<SeparationSet>) -> io::Result<()> {
     }
 }
 
-/// A set has two roles at least, each once.
+/// A set has at least two roles, each once.
 fn show_forms(rt: &HostRuntime) -> io::Result<()> {
     let twice = is_set(rt.alloc(), "pay", "pay")?;
     println!(rt; "set of pay and pay: {twice}")?;
@@ -145,7 +145,7 @@ fn show_forms(rt: &HostRuntime) -> io::Result<()> {
     print_set(rt, &set)
 }
 
-/// Prints the part on separation sets.
+/// Prints the part about separation sets.
 pub fn show(rt: &HostRuntime) -> io::Result<()> {
     println!(rt; "# separation sets")?;
     show_least(rt)?;

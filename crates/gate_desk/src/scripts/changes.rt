@@ -1,4 +1,4 @@
-//! What the requests of a script leave with a keeper, counted by their lines and the replies that are written for them.
+//! The changes that the requests of a script leave with a store writer, counted by their lines and the replies that the script has.
 
 use crate::replies::lines_behind;
 use gate_events::Transcript;
@@ -9,7 +9,7 @@ const LISTINGS: [&str; 8] = [
     "whoami", "cells", "shapes", "status", "markers", "waivers", "verdict", "trail",
 ];
 
-/// The first line of a text, without its line feed, and what is behind it.
+/// The first line of a text, without its line feed, and the rest.
 fn split_line(text: &[u8]) -> (&[u8], &[u8]) {
     match text.iter().position(|byte| *byte == b'\n') {
         Some(end) => (&text[..end], &text[end + 1..]),
@@ -17,12 +17,12 @@ fn split_line(text: &[u8]) -> (&[u8], &[u8]) {
     }
 }
 
-/// A text behind so many bytes.
+/// A text after that many bytes.
 fn behind_bytes(text: &[u8], count: usize) -> &[u8] {
     &text[count.min(text.len())..]
 }
 
-/// A text behind so many lines.
+/// A text after that many lines.
 fn behind_lines(text: &[u8], count: usize) -> &[u8] {
     let mut rest = text;
     for _ in 0..count {
@@ -36,7 +36,7 @@ fn verb_of(line: &str) -> &str {
     line.split_whitespace().next().unwrap_or("")
 }
 
-/// How many bytes of a payload follow a line.
+/// The number of bytes of the payload after a line.
 fn payload_behind(line: &str) -> usize {
     let verb = verb_of(line);
     if verb != "submit" && verb != "deck" {
@@ -48,7 +48,7 @@ fn payload_behind(line: &str) -> usize {
     }
 }
 
-/// Whether a request of that first word changes nothing.
+/// Whether a request with that first word changes nothing.
 fn is_listing(verb: &str) -> bool {
     for listing in LISTINGS {
         if listing == verb {
@@ -58,7 +58,7 @@ fn is_listing(verb: &str) -> bool {
     false
 }
 
-/// How many changes an accepted request leaves: none if it only lists, and with a run that it has been finished.
+/// How many changes an accepted request leaves: none if it only lists; for a run, also that it was finished.
 fn changes_of(verb: &str) -> usize {
     if is_listing(verb) {
         0
@@ -69,7 +69,7 @@ fn changes_of(verb: &str) -> usize {
     }
 }
 
-/// Whether a connection has a session behind an accepted request.
+/// Whether a connection has a session after an accepted request.
 fn has_session_behind(verb: &str, had_session: bool) -> bool {
     match verb {
         "open" => true,
@@ -78,8 +78,8 @@ fn has_session_behind(verb: &str, had_session: bool) -> bool {
     }
 }
 
-/// How many changes a keeper has once so many lines of a script were answered as written and the connection ended: those that were accepted, a run's end
-/// for each run, and the end of a session.
+/// How many changes a store writer has after that many lines of a script got the replies that it has, and the connection ended: those that
+/// were accepted, a run's end for each run, and the end of a session.
 pub fn kept_after(script: &Transcript, answered: usize) -> usize {
     let (mut input, mut replies) = (script.input.as_slice(), script.replies.as_slice());
     let (mut kept, mut has_session) = (0usize, false);

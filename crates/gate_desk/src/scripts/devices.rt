@@ -6,7 +6,7 @@ use mpw_wire::{Counted, Sink};
 use std::io;
 use std::io::Write;
 
-/// A writer of std's that keeps nothing, and counts its flushes.
+/// A writer of std that stores nothing, and counts its flushes.
 #[derive(Drop)]
 struct Flushes<'a> {
     count: &'a mut usize,
@@ -25,7 +25,7 @@ impl Write for Flushes<'_> {
     }
 }
 
-/// How many of three flushes a counted writer hands on.
+/// How many of three flushes a counted writer passes on.
 fn flushes_of_three() -> usize {
     let mut count = 0usize;
     let mut sink = Counted::new(Flushes { count: &mut count });
@@ -36,7 +36,7 @@ fn flushes_of_three() -> usize {
     count
 }
 
-/// Tells how many flushes a counted writer hands on.
+/// Prints how many flushes a counted writer passes on.
 pub fn tell_flushes(rt: &HostRuntime) -> Told<()> {
     println!(rt;
         "of 3 flushes a counted writer hands on {}",

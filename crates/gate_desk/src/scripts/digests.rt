@@ -3,7 +3,7 @@
 use anyhow::Result;
 use mpw_requests::{digest_of, read_digest};
 
-/// Texts of digits, the first two of which spell the digest of `abc` (FIPS 180-4).
+/// Texts of digits. The first two spell the digest of `abc` (FIPS 180-4).
 const TEXTS: [&str; 6] = [
     "ba7816bf8f01cfea414140de5dae2223b00361a396177a9cb410ff61f20015ad",
     "BA7816BF8F01CFEA414140DE5DAE2223B00361A396177A9CB410FF61F20015AD",
@@ -22,7 +22,7 @@ fn word_of(text: &str) -> &'static str {
     }
 }
 
-/// Tells what each text is.
+/// Prints what each text is.
 pub fn tell_digests(rt: &HostRuntime) -> Result<()> {
     for text in TEXTS {
         println!(rt; "digits '{text}': {}", word_of(text))?;

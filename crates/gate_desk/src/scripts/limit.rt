@@ -10,7 +10,7 @@ use mpw_reply_text::write_reply;
 use mpw_requests::{Request, SharedRequest};
 use std::alloc::{AllocError, Global};
 
-/// Ends a connection so many times.
+/// Ends a connection `count` times.
 fn end_connections(core: &mut Core, count: usize) -> Result<(), AllocError> {
     for _ in 0..count {
         core.handle(&mut NoKeeper, Event::Gone { connection: 2 })?;
@@ -18,7 +18,7 @@ fn end_connections(core: &mut Core, count: usize) -> Result<(), AllocError> {
     Ok(())
 }
 
-/// The text of what `whoami` is answered.
+/// The text of the reply to `whoami`.
 fn whoami(alloc: Global, core: &mut Core) -> Result<Vec<u8>, AllocError> {
     let request = SharedRequest::new(alloc, Request::Whoami)?;
     let response = core.handle(
@@ -40,15 +40,14 @@ fn whoami(alloc: Global, core: &mut Core) -> Result<Vec<u8>, AllocError> {
     Ok(paper.bytes)
 }
 
-/// Tells what `whoami` is answered.
+/// Prints the reply to `whoami`.
 pub fn tell_whoami(rt: &HostRuntime, core: &mut Core) -> Result<()> {
     let text = String::from_utf8(whoami(rt.alloc(), core)?)?;
     println!(rt; "  whoami: {}, {} calls", text.trim(), core.history().len())?;
     Ok(())
 }
 
-/// Fills a history up to its last call but one, and tells what the next two requests are answered, and a restart after
-/// them.
+/// Fills a history up to its last call but one, and prints the answers to the next two requests, and to a restart after them.
 fn fill(rt: &HostRuntime, core: &mut Core) -> Result<()> {
     end_connections(core, MAX_EVENTS - 1)?;
     println!(rt; "a history of {} calls", core.history().len())?;
@@ -57,7 +56,7 @@ fn fill(rt: &HostRuntime, core: &mut Core) -> Result<()> {
     tell_restart(rt, core)
 }
 
-/// The end of a history, told.
+/// Prints the end of a history.
 pub fn fill_a_history(rt: &HostRuntime) -> Result<()> {
     let mut core = new_desk(rt.alloc())?;
     fill(rt, &mut core)

@@ -33,7 +33,7 @@ fn login(alloc: Global) -> Result<SharedRequest, AllocError> {
     SharedRequest::new(alloc, Request::Policy(PolicyRequest::Open { user, digest }))
 }
 
-/// The word of what the officer's login on connection 1 is answered.
+/// The word of the answer to the officer's login on connection 1.
 fn open<K: Keeper>(alloc: Global, core: &mut Core, keeper: &mut K) -> Result<&'static str> {
     let request = login(alloc)?;
     let response = core.handle(
@@ -46,13 +46,13 @@ fn open<K: Keeper>(alloc: Global, core: &mut Core, keeper: &mut K) -> Result<&'s
     Ok(response_word(&response))
 }
 
-/// The word of what a restart is answered.
+/// The word of the answer to a restart.
 fn restart(core: &mut Core) -> Result<&'static str> {
     let response = core.handle(&mut NoKeeper, Event::Restart)?;
     Ok(response_word(&response))
 }
 
-/// Tells what a restart is answered, and what a session is told then.
+/// Prints the answer to a restart, and what a session gets after it.
 pub fn tell_restart(rt: &HostRuntime, core: &mut Core) -> Result<()> {
     let word = restart(core)?;
     println!(rt; "  restart: {word}, {} calls", core.history().len())?;
@@ -67,7 +67,7 @@ fn restart_a_desk(rt: &HostRuntime, core: &mut Core) -> Result<()> {
     tell_restart(rt, core)
 }
 
-/// A closed desk doesn't take a restart.
+/// A closed desk refuses a restart.
 fn restart_a_closed_desk(rt: &HostRuntime, core: &mut Core) -> Result<()> {
     let mut keeper = MemoryKeeper {
         kept: Vec::new(rt.alloc()),
@@ -80,7 +80,7 @@ fn restart_a_closed_desk(rt: &HostRuntime, core: &mut Core) -> Result<()> {
     tell_restart(rt, core)
 }
 
-/// Restarts, told.
+/// Prints restarts.
 pub fn restart_desks(rt: &HostRuntime) -> Result<()> {
     let mut core = new_desk(rt.alloc())?;
     restart_a_desk(rt, &mut core)?;

@@ -10,19 +10,19 @@ use mpw_wire::WireFault;
 use std::alloc::{AllocError, Global};
 use std::thread::Threads;
 
-/// The places at which the devices and the keeper fail.
+/// The places at which the devices and the store writer fail.
 #[derive(Clone, Copy)]
 pub struct Devices {
     /// The byte of the input at which the source fails, from 0.
     pub source: usize,
     /// How many bytes the sink takes.
     pub sink: usize,
-    /// Which calls of the keeper fail.
+    /// Which calls of the store writer fail.
     pub keeper: Fails,
 }
 
-/// What came of a connection: the text, the end, whether the desk was handed it, whether the sink has bytes pending, and
-/// the numbers of calls in the history and of changes that were kept.
+/// The result of a connection: the text, the end, whether the desk was handed it, whether the sink has bytes pending, and the numbers of
+/// calls in the history and of stored changes.
 #[derive(Drop)]
 pub struct Served {
     /// What the sink took.
@@ -33,13 +33,13 @@ pub struct Served {
     pub is_gone: bool,
     /// Whether the sink took bytes since it was flushed.
     pub is_pending: bool,
-    /// How many calls the desk's history has.
+    /// How many calls the history of the desk has.
     pub calls: usize,
-    /// How many changes the keeper has.
+    /// How many changes the store writer has.
     pub kept: usize,
 }
 
-/// A new desk. It stands behind a pointer, so that to let it go is one step wherever it is held.
+/// A new desk. It is in a box, so that dropping it is one step wherever it is held.
 pub fn new_desk(alloc: Global) -> Result<Box<Core>, AllocError> {
     match Name::read(alloc, b"root") {
         Ok(officer) => Core::new_boxed(alloc, officer, digest_of(b"abc")),
@@ -123,7 +123,7 @@ pub fn pending_words(served: &Served) -> &'static str {
     }
 }
 
-/// Whether what was written is a front of the replies of a script.
+/// Whether the written text is a front of the replies of a script.
 pub fn is_front(served: &Served, script: &Transcript) -> bool {
     script
         .replies
@@ -131,7 +131,7 @@ pub fn is_front(served: &Served, script: &Transcript) -> bool {
         .starts_with(served.text.as_slice())
 }
 
-/// The bytes behind the first line of a text.
+/// The bytes after the first line of a text.
 fn behind_the_first_line(text: &[u8]) -> &[u8] {
     match text.iter().position(|byte| *byte == b'\n') {
         Some(end) => &text[end + 1..],
@@ -144,8 +144,8 @@ fn are_all(text: &[u8], line: &[u8]) -> bool {
     !line.is_empty() && text.chunks(line.len().max(1)).all(|chunk| chunk == line)
 }
 
-/// Whether the replies are those of a script up to one that tells that a change could not be kept, and then all tell that
-/// the desk is closed; or all are the script's, where the connection's end could not be kept.
+/// Whether the replies are those of a script up to one that says that a change could not be stored, and then all say that the desk is
+/// closed; or all are the script's, if the connection's end could not be stored.
 pub fn is_closed(served: &Served, script: &Transcript) -> bool {
     let text = served.text.as_slice();
     let wanted = script.replies.as_slice();

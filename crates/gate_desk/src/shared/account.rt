@@ -1,4 +1,4 @@
-//! What a connection was told and what it asked, and what its script failed at.
+//! The replies that a connection got, its requests, and the step at which its script failed.
 
 use gate_events::Paper;
 use mpw_events::Response;
@@ -8,7 +8,7 @@ use mpw_stored_text::stored_line;
 use std::alloc::{AllocError, AllocFailed, Global};
 use thiserror::Error;
 
-/// Why a script was left.
+/// Why a script was stopped.
 #[derive(Clone, Copy, Debug, PartialEq, Eq, Error)]
 pub enum Trouble {
     /// A line is no step.
@@ -17,7 +17,7 @@ pub enum Trouble {
     /// A flag was not set.
     #[error("a flag is not set")]
     Flag,
-    /// The desk doesn't tell what the script waits for.
+    /// The desk never gives the reply that the script waits for.
     #[error("the desk does not tell what is waited for")]
     Asked,
     /// The desk answers nothing any more.
@@ -29,7 +29,7 @@ pub enum Trouble {
     /// The passes made another number of calls than the history has.
     #[error("some calls are nobody's")]
     Calls,
-    /// There was no room.
+    /// Memory ran out.
     #[error("out of memory")]
     Memory,
 }
@@ -46,21 +46,21 @@ impl<T: Drop> From<AllocFailed<T>> for Trouble {
     }
 }
 
-/// What came of a connection.
+/// The result of a connection.
 #[derive(Drop)]
 pub struct Account {
     /// Its number.
     pub connection: u32,
-    /// The replies that its script tells.
+    /// The replies that its script prints.
     pub told: String,
     /// The lines of its requests.
     pub asked: String,
-    /// Why its script was left, where it was.
+    /// Why its script was stopped, if it was.
     pub trouble: Option<Trouble>,
 }
 
 impl Account {
-    /// Nothing was told, and nothing asked.
+    /// No replies, and no requests.
     pub fn new(alloc: Global, connection: u32) -> Account {
         Account {
             connection,
@@ -74,7 +74,7 @@ impl Account {
 /// Adds the line of a request.
 ///
 /// # Errors
-/// Where there is no memory.
+/// `Trouble` if out of memory.
 pub fn push_request(alloc: Global, lines: &mut String, request: &Request) -> Result<(), Trouble> {
     let line = stored_line(alloc, request)?;
     lines.push_str(line.as_str())?;
@@ -82,10 +82,10 @@ pub fn push_request(alloc: Global, lines: &mut String, request: &Request) -> Res
     Ok(())
 }
 
-/// The text of what is told of a request.
+/// The text of the reply to a request.
 ///
 /// # Errors
-/// Where nothing is answered any more, or there is no memory.
+/// `Trouble` if nothing is answered any more, or out of memory.
 pub fn reply_text(alloc: Global, response: &Response) -> Result<String, Trouble> {
     let Response::Told(reply) = response else {
         return Err(Trouble::Ended);
@@ -100,7 +100,7 @@ pub fn reply_text(alloc: Global, response: &Response) -> Result<String, Trouble>
     }
 }
 
-/// Whether a line of a text begins so.
+/// Whether a line of a text begins with the front.
 pub fn has_line(text: &str, front: &str) -> bool {
     for line in text.lines() {
         if line.starts_with(front) {

@@ -10,13 +10,13 @@ use std::sync::atomic::{AtomicBool, Ordering};
 /// Which passes of tile 0 the gate holds, until the flag `passing` is set.
 #[derive(Clone, Copy, PartialEq, Eq)]
 pub enum Hold {
-    /// Each.
+    /// Each pass.
     Each,
     /// The first alone.
     First,
 }
 
-/// Whose pass is kept back from the end.
+/// Whose pass is left out at the end.
 #[derive(Clone, Copy, PartialEq, Eq)]
 pub enum KeptBack {
     /// Nobody's.
@@ -29,10 +29,10 @@ pub enum KeptBack {
 
 /// What threads see of a day, besides its gate.
 pub trait Script: Gate {
-    /// Where its threads have what they note.
+    /// The allocator of what its threads note.
     fn alloc(&self) -> Global;
 
-    /// What its threads tell one another.
+    /// The flags that its threads set and wait for.
     fn flags(&self) -> &Flags;
 
     /// The lines of its script.
@@ -69,7 +69,7 @@ fn read_hold(word: &str) -> Result<Hold> {
     }
 }
 
-/// Whose pass is kept back, by the word.
+/// Whose pass is left out, by the word.
 fn read_kept_back(word: &str) -> Result<KeptBack> {
     match word {
         "none" => Ok(KeptBack::Nobody),
@@ -80,13 +80,13 @@ fn read_kept_back(word: &str) -> Result<KeptBack> {
 }
 
 impl Day {
-    /// The day of a script, where the gate holds tile 0 so, and that pass is kept back.
+    /// The day of a script, with the passes that the gate holds, and the pass that is left out.
     ///
-    /// A line `workers N` tells how many workers there are, and a line `late` that a worker hands tile 0 of run 1 in when it
-    /// is too late. A line `connection` begins what the next connection does. A line that begins with `#` says nothing.
+    /// A line `workers N` gives the number of workers. A line `late` says that a worker hands in tile 0 of run 1 too late. A line
+    /// `connection` begins the steps of the next connection. A line that begins with `#` is a comment.
     ///
     /// # Errors
-    /// Where the words are none of these.
+    /// The words are none of these.
     pub fn read(alloc: Global, text: String, hold: &str, kept_back: &str) -> Result<Day> {
         let hold = read_hold(hold)?;
         let kept_back = read_kept_back(kept_back)?;
@@ -116,12 +116,12 @@ impl Day {
         })
     }
 
-    /// Whose pass is kept back from the end.
+    /// Whose pass is left out at the end.
     pub fn kept_back(&self) -> KeptBack {
         self.kept_back
     }
 
-    /// Whether a worker hands tile 0 of run 1 in when it is too late.
+    /// Whether a worker hands in tile 0 of run 1 too late.
     pub fn is_late(&self) -> bool {
         self.is_late
     }

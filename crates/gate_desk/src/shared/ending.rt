@@ -1,4 +1,4 @@
-//! The end of a day, told.
+//! Prints the end of a day.
 
 use crate::shared::account::{Account, push_request};
 use crate::shared::day::Day;
@@ -7,7 +7,7 @@ use gate_events::tell_response;
 use mpw_events::{Call, Event};
 use std::alloc::Global;
 
-/// Tells what a connection was told.
+/// Prints the replies of a connection.
 fn tell_account(rt: &HostRuntime, account: &Account) -> Result<()> {
     println!(rt; "  connection {}", account.connection)?;
     for line in account.told.lines() {
@@ -16,10 +16,10 @@ fn tell_account(rt: &HostRuntime, account: &Account) -> Result<()> {
     Ok(())
 }
 
-/// Tells what the connections were told, and what failed.
+/// Prints the replies of the connections, and what failed.
 ///
 /// # Errors
-/// Where it can't be printed.
+/// It can't be printed.
 pub fn tell_accounts(rt: &HostRuntime, accounts: &[Account], day: &Day) -> Result<()> {
     for account in accounts {
         if !account.asked.is_empty() {
@@ -52,7 +52,7 @@ fn lines_in(alloc: Global, calls: &[Call], asker: u32) -> Result<String> {
     Ok(lines)
 }
 
-/// Tells whether the history has each connection's requests as they were made.
+/// Prints whether the history has each connection's requests as they were made.
 fn tell_requests(rt: &HostRuntime, calls: &[Call], accounts: &[Account]) -> Result<()> {
     for account in accounts {
         let lines = lines_in(rt.alloc(), calls, account.connection)?;
@@ -69,7 +69,7 @@ fn tell_requests(rt: &HostRuntime, calls: &[Call], accounts: &[Account]) -> Resu
     )?)
 }
 
-/// Tells what was told last of tile 0 of run 1.
+/// Prints the last answer about tile 0 of run 1.
 fn tell_late(rt: &HostRuntime, calls: &[Call]) -> Result<()> {
     let mut last = None;
     for call in calls {
@@ -87,10 +87,10 @@ fn tell_late(rt: &HostRuntime, calls: &[Call]) -> Result<()> {
     tell_response(rt, response)
 }
 
-/// Tells what the history has, where all passes came back.
+/// Prints what the history has, if all passes came back.
 ///
 /// # Errors
-/// Where it can't be printed, or there is no memory.
+/// It can't be printed, or out of memory.
 pub fn tell_history(
     rt: &HostRuntime,
     calls: &[Call],

@@ -1,4 +1,4 @@
-//! A session that is served over devices of which one fails at a place, told.
+//! Prints a session whose devices may fail at a place.
 
 use crate::replies::whole_replies;
 use crate::shared::session::{Devices, Session, serve_session};
@@ -13,14 +13,14 @@ use mpw_wire::WireFault;
 use std::alloc::Global;
 use std::sync::Wait;
 
-/// A device that fails, and where.
+/// A device that fails, and the place.
 #[derive(Clone, Copy)]
 pub enum Fault {
     /// None fails.
     Never,
     /// The source, at that byte of the input, from 0.
     Source(usize),
-    /// The sink, once it took so many bytes.
+    /// The sink, after it took that many bytes.
     Sink(usize),
 }
 
@@ -42,8 +42,8 @@ fn serve(rt: &impl Wait, alloc: Global, script: &Transcript, fault: Fault) -> Re
     Ok(serve_session(rt, alloc, core, Devices { reader, writer })?)
 }
 
-/// Whether a session ended at a fault: what was written is a front of the replies, the history has a front of the requests, with that whose
-/// reply could not be written as the last, and the end behind them.
+/// Whether a session ended at a fault: the written text is a front of the replies, and the history has a front of the requests, with the
+/// one whose reply could not be written as the last, and the end after them.
 fn is_cut(session: &Session, whole: &Session, fault: Fault) -> bool {
     let text = session.text.as_slice();
     let (ended, last) = match fault {
@@ -59,7 +59,7 @@ fn is_cut(session: &Session, whole: &Session, fault: Fault) -> bool {
         && session.is_gone
 }
 
-/// Tells of a session over devices of which none fails.
+/// Prints the result of a session whose devices don't fail.
 fn tell_whole(rt: &HostRuntime, script: &Transcript, whole: &Session) -> Result<()> {
     let is_written = whole.text.as_slice() == script.replies.as_slice();
     if is_written && is_cut(whole, whole, Fault::Never) {
@@ -73,7 +73,7 @@ fn tell_whole(rt: &HostRuntime, script: &Transcript, whole: &Session) -> Result<
     Ok(())
 }
 
-/// Tells of a session over a device that fails at a place.
+/// Prints the result of a session with a device that fails at a place.
 fn tell_cut(rt: &HostRuntime, session: &Session, whole: &Session, fault: Fault) -> Result<()> {
     let cut = if is_cut(session, whole, fault) {
         "a front"
@@ -88,7 +88,7 @@ fn tell_cut(rt: &HostRuntime, session: &Session, whole: &Session, fault: Fault) 
     Ok(())
 }
 
-/// Tells each event of a session's history.
+/// Prints each event of a session's history.
 fn tell_events(rt: &HostRuntime, session: &Session) -> Result<()> {
     for line in session.events.lines() {
         println!(rt; "  {line}")?;
@@ -105,7 +105,7 @@ fn fault_at(device: &str, place: usize) -> Result<Fault> {
     }
 }
 
-/// Tells of a session over a device that fails at each place in turn.
+/// Prints the result of a session with a device that fails at each place in turn.
 fn tell_each(
     rt: &HostRuntime,
     waits: &impl Wait,
@@ -128,10 +128,10 @@ fn tell_each(
     Ok(println!(rt; "  {places} places: {count} times a front")?)
 }
 
-/// Tells of a script over a desk that is shared for it: in whole, by its events, or with a device that fails at a place or at each in turn.
+/// Prints the result of a script over a desk that is shared for it: whole, by its events, or with a device that fails at a place or at each in turn.
 ///
 /// # Errors
-/// Where the words are none of these, there is no memory, or it can't be printed.
+/// The words are none of these, it can't be printed, or out of memory.
 pub fn tell_session(
     rt: &HostRuntime,
     waits: &impl Wait,

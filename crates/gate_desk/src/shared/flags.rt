@@ -1,23 +1,23 @@
-//! What threads tell one another, and wait for, so many turns at most.
+//! Flags that threads set and wait for, for a limited number of turns.
 
 use std::sync::atomic::{AtomicBool, AtomicU32, Ordering};
 use std::thread;
 
-/// How often who waits looks for a flag.
+/// How often a waiting thread tests a flag.
 const MOST_TURNS: u32 = 10_000_000;
 
-/// What was reached.
+/// An event of the day that threads wait for.
 #[derive(Clone, Copy, PartialEq, Eq)]
 pub enum Flag {
     /// The first run was accepted.
     Running,
-    /// A request was refused while the first run goes on.
+    /// A request was refused while the first run is going on.
     Refused,
     /// A worker is at the gate with tile 0.
     Held,
     /// Tile 0 passes the gate.
     Passing,
-    /// The last run is finished, and its markers were told.
+    /// The last run is finished, and its markers were printed.
     Finished,
 }
 
@@ -75,12 +75,12 @@ impl Flags {
         self.of(flag).store(true, Ordering::SeqCst);
     }
 
-    /// Counts a connection that ends, and gives how many have ended with it.
+    /// Counts a connection that ends, and returns how many have ended with it.
     pub fn end(&self) -> u32 {
         self.ended.fetch_add(1, Ordering::SeqCst).saturating_add(1)
     }
 
-    /// Waits for a flag, 10,000,000 turns at most, in each of which the processor is left to others; tells whether it was set.
+    /// Waits for a flag, at most 10,000,000 turns. Each turn yields the processor to others. It returns whether the flag was set.
     pub fn wait(&self, flag: Flag) -> bool {
         for _ in 0..MOST_TURNS {
             if self.of(flag).load(Ordering::SeqCst) {

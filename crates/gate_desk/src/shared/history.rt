@@ -4,7 +4,7 @@ use crate::shared::account::{Trouble, push_request};
 use mpw_events::{Call, Event};
 use std::alloc::Global;
 
-/// The connection of the first request of calls, 0 where there is none.
+/// The connection of the first request of calls, or 0 if there is none.
 fn first_asker(calls: &[Call]) -> u32 {
     for call in calls {
         if let Event::Ask { connection, .. } = &call.event {
@@ -14,7 +14,7 @@ fn first_asker(calls: &[Call]) -> u32 {
     0
 }
 
-/// Adds a line for an event of the connection: what it asks, or that it ends. A worker's call for a job has none.
+/// Adds a line for an event of the connection: its request, or its end. A worker's call for a job has no line.
 fn push_event(alloc: Global, lines: &mut String, event: &Event, asker: u32) -> Result<(), Trouble> {
     match event {
         Event::Ask {
@@ -30,10 +30,10 @@ fn push_event(alloc: Global, lines: &mut String, event: &Event, asker: u32) -> R
     }
 }
 
-/// A line for each event of calls but a worker's call for a job.
+/// A line for each event of calls except a worker's call for a job.
 ///
 /// # Errors
-/// Where there is no memory.
+/// `Trouble` if out of memory.
 pub fn event_lines(alloc: Global, calls: &[Call]) -> Result<String, Trouble> {
     let asker = first_asker(calls);
     let mut lines = String::new(alloc);

@@ -1,5 +1,5 @@
-//! A service over loopback, with one connection and one worker. The client has sent its script and hung up for writing before the service begins, and reads
-//! the replies when it has ended: the system holds both meanwhile.
+//! A service over loopback, with one connection and one worker. The client has sent its script and closed its side for writing before the
+//! service begins. It reads the replies after the service has ended. The kernel stores both meanwhile.
 
 use crate::shared::history::event_lines;
 use anyhow::{Result, bail};
@@ -27,10 +27,12 @@ fn staff() -> Staff {
         is_ongoing: false,
         idle: Duration::from_secs(IDLE),
         calls: MAX_EVENTS,
+        strangers: None,
+        holds_run: false,
     }
 }
 
-/// A client that has sent a text, and sends no more.
+/// A client that has sent a text, and sends nothing more.
 fn send<R>(rt: &R, address: SocketAddr, bytes: &[u8]) -> Result<TcpStream>
 where
     R: Net<Listener = TcpListener, Stream = TcpStream>,
@@ -41,7 +43,7 @@ where
     Ok(stream)
 }
 
-/// What a client was sent until the other end closed.
+/// The bytes that a client received until the other side closed.
 fn receive(alloc: Global, stream: TcpStream) -> Result<Vec<u8>> {
     let mut stream = stream;
     let mut bytes = Vec::new(alloc);
@@ -49,7 +51,7 @@ fn receive(alloc: Global, stream: TcpStream) -> Result<Vec<u8>> {
     Ok(bytes)
 }
 
-/// Serves a desk to the one connection that the listener accepts, and gives it back.
+/// Serves a desk to the one connection that the listener accepts, and returns the desk.
 fn serve_one<H, R>(
     host: &HostRuntime,
     rt: &R,
@@ -85,7 +87,7 @@ where
     }
 }
 
-/// Tells each event of calls but a worker's call for a job.
+/// Prints each event of calls except a worker's call for a job.
 fn tell_events(rt: &HostRuntime, calls: &[Call]) -> Result<()> {
     let events = event_lines(rt.alloc(), calls)?;
     for line in events.lines() {
@@ -94,11 +96,11 @@ fn tell_events(rt: &HostRuntime, calls: &[Call]) -> Result<()> {
     Ok(())
 }
 
-/// Serves a script from a client over loopback, on a new desk, and prints whether it got the replies as they are written, and each event of the history but
-/// the worker's calls for a job.
+/// Serves a script to a client over loopback, on a new desk. It prints whether the client got the replies that the script has, and each
+/// event of the history except the worker's calls for a job.
 ///
 /// # Errors
-/// Where a socket fails, the service doesn't end well, there is no memory, or it can't be printed.
+/// A socket fails, the service fails, it can't be printed, or out of memory.
 pub fn tell_loopback<R>(host: &HostRuntime, rt: &R, script: &Transcript) -> Result<()>
 where
     R: Threads + Wait + Clock + Net<Listener = TcpListener, Stream = TcpStream> + Sync,

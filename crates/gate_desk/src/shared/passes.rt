@@ -10,7 +10,7 @@ use mpw_events::{Handler, NoKeeper};
 use std::marker::Brand;
 use std::sync::Wait;
 
-/// Takes so many passes at most, each of which is let go at once, and gives how many there were.
+/// Takes at most that many passes, each of which is dropped at once, and returns how many there were.
 fn count_passes<H: Handler + Drop, N: Room, R: Wait>(
     rt: &R,
     core: Box<H>,
@@ -33,10 +33,10 @@ fn count_passes<H: Handler + Drop, N: Room, R: Wait>(
     most
 }
 
-/// Tells how many of so many passes and one more there are.
+/// Prints how many of that many passes and one more there are.
 ///
 /// # Errors
-/// Where there is no memory, or it can't be printed.
+/// It can't be printed, or out of memory.
 pub fn tell_passes<H: Handler + Drop, R: Wait>(
     rt: &HostRuntime,
     threads: &R,

@@ -1,4 +1,4 @@
-//! A session over a desk that is shared for it, without workers, over devices of which one may fail.
+//! A session over a desk that is shared for it, without workers, with devices of which one may fail.
 ghost use Rattle.std.specs.Prelude.{◌≡◌, ◌≤◌, None};
 ghost use Rattle.mpw_desk.specs.Numbers.{AreBelow};
 ghost use Rattle.mpw_events.specs.History.{kept_desk};
@@ -24,24 +24,24 @@ pub struct Devices<'a> {
     pub writer: Paper,
 }
 
-/// What came of a session.
+/// The result of a session.
 #[derive(Drop)]
 pub struct Session {
     /// What the sink took.
     pub text: Vec<u8>,
     /// How it ended, or the device that failed.
     pub ended: Result<End, WireFault>,
-    /// Whether its end stands behind all that it asked.
+    /// Whether its end comes after all its requests.
     pub is_gone: bool,
     /// The lines of its requests in the history.
     pub asked: String,
-    /// How many there are.
+    /// The number of its requests.
     pub requests: usize,
     /// A line for each event of the history.
     pub events: String,
 }
 
-/// Adds the lines of the requests of calls, and tells how many there are.
+/// Adds the lines of the requests of calls, and returns how many there are.
 fn push_requests(alloc: Global, lines: &mut String, calls: &[Call]) -> Result<usize, Trouble> {
     let mut count = 0usize;
     for call in calls {
@@ -61,7 +61,7 @@ fn is_last_gone(calls: &[Call]) -> bool {
     }
 }
 
-/// What came of a session, by the calls of the history.
+/// The result of a session, by the calls of the history.
 fn session_of(
     alloc: Global,
     calls: &[Call],
@@ -116,7 +116,7 @@ fn serve_named<H: Handler + Drop, N: Room, R: Wait>(
 /// Serves a source to a sink over a desk, which is shared for that under a name.
 ///
 /// # Errors
-/// Where there is no memory, or the history has calls of others.
+/// The history has calls of others, or out of memory.
 pub fn serve_session<H: Handler + Drop, R: Wait>(
     rt: &R,
     alloc: Global,

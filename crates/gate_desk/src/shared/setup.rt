@@ -8,7 +8,7 @@ use mpw_events::{Event, Handler, NoKeeper};
 use std::alloc::Global;
 use std::fs;
 
-/// Asks what has to be accepted.
+/// Asks a request that must be accepted.
 fn set_up(alloc: Global, core: &mut Core, line: &str) -> Result<()> {
     let (command, payload) = line.split_once('|').unwrap_or((line, ""));
     let words: Vec<&str> = command.split_whitespace().collect(alloc)?;
@@ -27,10 +27,10 @@ fn set_up(alloc: Global, core: &mut Core, line: &str) -> Result<()> {
     Ok(())
 }
 
-/// A new desk that was asked what the lines of a data file ask.
+/// A new desk that was asked the requests of a data file.
 ///
 /// # Errors
-/// Where the file can't be read, a line isn't accepted, or there is no memory.
+/// The file can't be read, a line isn't accepted, or out of memory.
 pub fn desk_of(rt: &HostRuntime, path: &str) -> Result<Box<Core>> {
     let text = fs::read_to_string(rt, path)?;
     let officer = name(rt.alloc(), "root")?;

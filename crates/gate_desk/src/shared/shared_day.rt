@@ -1,4 +1,4 @@
-//! A day of a shared desk, from where it is shared to where its passes have come back.
+//! A day of a shared desk, from its sharing until its passes have come back.
 ghost use Rattle.std.specs.Prelude.{◌≡◌, ◌≤◌, None};
 ghost use Rattle.mpw_desk.specs.Numbers.{AreBelow};
 ghost use Rattle.mpw_events.specs.History.{kept_desk};
@@ -16,7 +16,7 @@ use std::sync::Wait;
 use std::thread::Threads;
 use std::time::Clock;
 
-/// The passes and what came of them, in order.
+/// The passes and their results, in order.
 fn apart<N: Room>(alloc: Global, parts: Vec<Part<N>>) -> Result<(Vec<Pass<N>>, Vec<Account>)> {
     let mut passes = Vec::new(alloc);
     let mut accounts = Vec::new(alloc);
@@ -28,7 +28,7 @@ fn apart<N: Room>(alloc: Global, parts: Vec<Part<N>>) -> Result<(Vec<Pass<N>>, V
     Ok((passes, accounts))
 }
 
-/// Keeps a pass back.
+/// Leaves a pass out.
 fn keep_back<N: Room>(passes: &mut Vec<Pass<N>>, kept_back: KeptBack) {
     match kept_back {
         KeptBack::Nobody => {}
@@ -38,7 +38,7 @@ fn keep_back<N: Room>(passes: &mut Vec<Pass<N>>, kept_back: KeptBack) {
     }
 }
 
-/// Shares a desk for a day, and tells what came of it.
+/// Shares a desk for a day, and prints the result.
 fn run_day<H, N, R>(
     rt: &HostRuntime,
     threads: &R,
@@ -71,10 +71,10 @@ where
     }
 }
 
-/// Shares a desk under a name for a day, and tells what came of it.
+/// Shares a desk under a name for a day, and prints the result.
 ///
 /// # Errors
-/// Where there is no memory, no thread, or it can't be printed.
+/// There is no thread, it can't be printed, or out of memory.
 pub fn tell_day<H, R>(rt: &HostRuntime, threads: &R, core: Box<H>, day: &Day) -> Result<()>
 where
     H: Handler + Send + Drop,

@@ -1,4 +1,4 @@
-//! What a connection does over a shared desk, step by step.
+//! The steps of a connection over a shared desk.
 
 use crate::shared::account::{Account, Trouble, has_line, push_request, reply_text};
 use crate::shared::flags::{Flag, Flags};
@@ -10,18 +10,18 @@ use std::sync::Wait;
 use std::thread;
 use std::time::{Clock, Duration};
 
-/// How often a request is asked until it is told what is waited for.
+/// How often a request is asked until it gets the expected reply.
 const MOST_ASKS: u32 = 100_000;
 
-/// How long it waits in between, in milliseconds.
+/// The pause between two requests, in milliseconds.
 const PAUSE: u64 = 1;
 
 /// A step of a connection.
 #[derive(Clone, Copy)]
 enum Step<'a> {
-    /// Asks a line, and tells the reply.
+    /// Asks a line, and prints the reply.
     Tell(&'a str),
-    /// Asks a line until a line of the reply begins so.
+    /// Asks a line until a line of the reply begins with the front.
     Until { front: &'a str, line: &'a str },
     /// Sets a flag.
     Set(Flag),
@@ -51,15 +51,15 @@ fn read_step(line: &str) -> Result<Step<'_>, Trouble> {
     }
 }
 
-/// Where the steps are done: the desk, and the flags of the day.
+/// What the steps need: the desk, and the flags of the day.
 pub struct Asking<'a, H: Handler + Drop, N: Room, R: Wait + Clock> {
-    /// What may wait for the lock.
+    /// The runtime that waits for the lock.
     pub rt: &'a R,
-    /// Where texts lie.
+    /// The allocator of texts.
     pub alloc: Global,
     /// The desk.
     pub shared: &'a Shared<H, NoKeeper, N>,
-    /// What the threads tell one another.
+    /// The flags that the threads set and wait for.
     pub flags: &'a Flags,
 }
 
@@ -75,7 +75,7 @@ impl<'a, H: Handler + Drop, N: Room, R: Wait + Clock> Drop for Asking<'a, H, N, 
 }
 
 impl<'a, H: Handler + Drop, N: Room, R: Wait + Clock> Asking<'a, H, N, R> {
-    /// Asks a line, and gives the text of the reply.
+    /// Asks a line, and returns the text of the reply.
     fn ask(
         &self,
         pass: &mut Pass<N>,
@@ -91,7 +91,7 @@ impl<'a, H: Handler + Drop, N: Room, R: Wait + Clock> Asking<'a, H, N, R> {
         reply_text(self.alloc, &response)
     }
 
-    /// Asks a line until a line of the reply begins so.
+    /// Asks a line until a line of the reply begins with the front.
     fn ask_until(
         &self,
         pass: &mut Pass<N>,
@@ -126,7 +126,7 @@ impl<'a, H: Handler + Drop, N: Room, R: Wait + Clock> Asking<'a, H, N, R> {
         }
     }
 
-    /// Does the steps of the connection that stands in that place of a script, counted from 1.
+    /// Does the steps of the connection with that number in a script, counted from 1.
     fn serve_steps(
         &self,
         pass: &mut Pass<N>,
@@ -145,10 +145,10 @@ impl<'a, H: Handler + Drop, N: Room, R: Wait + Clock> Asking<'a, H, N, R> {
         Ok(())
     }
 
-    /// Does the steps of the connection that stands in that place of a script, counted from 1, and hands in its end.
+    /// Does the steps of the connection with that number in a script, counted from 1, and hands in its end.
     ///
     /// # Errors
-    /// At the first step that fails.
+    /// The first step that fails.
     pub fn serve(
         &self,
         pass: &mut Pass<N>,

@@ -13,13 +13,13 @@ use std::thread;
 use std::thread::Threads;
 use std::time::Clock;
 
-/// The number of the first connection. What sets the desk up before it is shared has the number before it.
+/// The number of the first connection. The connection that sets the desk up before it is shared has the number before it.
 pub const FIRST: u32 = 2;
 
-/// Checks that the calls before a desk is shared are of no connection from [`FIRST`] on.
+/// Checks that no call before a desk is shared belongs to a connection from [`FIRST`] on.
 ///
 /// # Errors
-/// Where one is.
+/// A call does.
 pub fn check_first(calls: &[Call]) -> Result<(), Trouble>
     ensures { IfOk result (λ _. AreBelow 2 calls.now) }
 {
@@ -30,11 +30,11 @@ pub fn check_first(calls: &[Call]) -> Result<(), Trouble>
     }
 }
 
-/// What a thread gives back: its pass, and what came of it.
+/// What a thread returns: its pass, and its result.
 pub struct Part<N: Room> {
     /// The pass.
     pub pass: Pass<N>,
-    /// What came of it.
+    /// Its result.
     pub account: Account,
 }
 
@@ -47,14 +47,14 @@ impl<N: Room> Drop for Part<N> {
 }
 
 impl<N: Room> Part<N> {
-    /// The pass, and what came of it.
+    /// The pass and the result.
     pub fn into_parts(self) -> (Pass<N>, Account) {
         let Part { pass, account } = self;
         (pass, account)
     }
 }
 
-/// The place of a connection in the script, counted from 1; workers stand behind the connections.
+/// The number of a connection in the script, counted from 1. Workers come after the connections.
 fn place_of(connection: u32) -> u32 {
     connection.saturating_sub(FIRST).saturating_add(1)
 }
@@ -79,7 +79,7 @@ where
     Ok(())
 }
 
-/// Does the steps of the connection that stands in that place of the script. The last connection that ends stops the desk.
+/// Does the steps of the connection with that number in the script. The last connection that ends stops the desk.
 fn connect<H, N, R, S>(
     rt: &R,
     shared: &Shared<H, NoKeeper, N>,
@@ -154,10 +154,10 @@ where
     Ok(passes)
 }
 
-/// Connections and workers in threads of their own, all of which are joined. It gives what came of all, the connections first.
+/// Runs connections and workers in threads, and joins them all. It returns their results, the connections first.
 ///
 /// # Errors
-/// Where there is no memory or no pass.
+/// There is no pass, or out of memory.
 pub fn all_parts<H, N, R, S>(
     rt: &R,
     shared: &Shared<H, NoKeeper, N>,

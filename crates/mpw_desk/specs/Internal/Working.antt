@@ -17,7 +17,7 @@ use Rattle.mpw_desk.specs.Passes.{IsLast, no_job}
 use Rattle.mpw_desk.specs.Steps.{MayHandInBesides}
 use Rattle.mpw_desk.specs.Values.{PassView}
 
--- a worker pauses just where there was no memory
+-- a worker pauses exactly if memory ran out
 abbrev pub after : Bool → Pace
 after true = pace.GoesOn
 after false = pace.Pauses
@@ -31,21 +31,21 @@ run_cut (job.Tile j) = None
 abbrev pub AnyMayHandIn : Event → Type 0
 AnyMayHandIn event = (connection : ℕ) → MayHandInBesides connection event
 
--- where it ends, it is with that response, which is a last one
+-- if it ends, it does so with that response, which is a last one
 abbrev pub EndsAs : Next → Response → Type 0
 EndsAs (End told) response = (told ≡ response) × IsLast told
 EndsAs (Do told) response = ⊤
 EndsAs Pause response = ⊤
 EndsAs Rest response = ⊤
 
--- where it ends, it is with a last response, and with a call more where there was no job
+-- if it ends, it does so with a last response, and with one more call if there was no job
 abbrev pub EndsRightly : Next → PassView → PassView → Type 0
 EndsRightly (End told) p p' = IsLast told × (told ≡ no_job → p.count < p'.count)
 EndsRightly (Do told) p p' = ⊤
 EndsRightly Pause p p' = ⊤
 EndsRightly Rest p p' = ⊤
 
--- what a reply of the run, and what a response, is to a worker
+-- what a reply of the run means to a worker, and what a response does
 abbrev pub instruction_by : RunReply → Instruction
 instruction_by (reply.Taken (job.Cut j)) = instruction.Cut j.run
 instruction_by (reply.Taken (job.Tile j)) = instruction.Tile
@@ -63,8 +63,8 @@ instruction_of response.Gone = instruction.Else
 instruction_of response.Restarted = instruction.Else
 instruction_of response.Ended = instruction.Ended
 
--- what a worker does that was told that: it does the job; without one it rests, and where workers are to end it ends; and it ends where nothing is
--- answered any more
+-- what a worker does next after this response: it does its job; if it has none, it rests, or ends if workers
+-- are to end; and it ends if nothing is answered any more
 abbrev pub next_of : Bool → Response → Instruction → Next
 next_of stopped told (instruction.Cut run) = Do told
 next_of stopped told instruction.Tile = Do told

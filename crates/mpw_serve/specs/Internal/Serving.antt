@@ -1,4 +1,4 @@
--- What private functions and proofs need of this: what serving one line does.
+-- Definitions for private functions and proofs: serving one line.
 use Rattle.std.specs.Prelude.{ℕ, List, [], Option, None, Some, Result, Ok, Err}
 use Rattle.std.specs.Io.KnownBytes.{Appends}
 use Rattle.mpw_requests.specs.declared.request.Request.{Request}

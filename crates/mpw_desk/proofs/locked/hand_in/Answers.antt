@@ -1,4 +1,4 @@
--- What a critical section leaves, where a call was added and where none was.
+-- The result of a critical section, if a call was added and if none was.
 use Rattle.std.proofs.Common.{◌≡◌, ◌∙◌, ◌+◌, ◌++◌, ◌∷◌, [], Bool, false, List, ap, arith, inr, length, length-append, refl, subst, sym}
 use Rattle.mpw_events.specs.declared.event.Call.{Call}
 use Rattle.mpw_events.specs.History.{Desk, IsHandled, kept_desk, state_of, with_call}

@@ -4,7 +4,6 @@ use Rattle.mpw_keeper.specs.Kept.{failures_of, kept_by, kept_in}
 use Rattle.mpw_reopen.proofs.ClosingLemmas.{clean-before}
 use Rattle.mpw_stored_script.proofs.ServingLemmas.{begins, holds, known_clean, unopened_by}
 use Rattle.mpw_stored_script.specs.Serving.{IsUnopened}
-use Rattle.mpw_stored_script.specs.declared.fault.StoredFault.TheVariants.{File}
 use Rattle.mpw_server.proofs.Numbers.{above-greatest}
 use Rattle.mpw_server.proofs.desk.begin_over.Goals as goal
 
@@ -37,7 +36,7 @@ pub returns-in-Err-clause-unopened : goal.returns-in-Err-clause-unopened
 returns-in-Err-clause-unopened g c =
     let old = state g.S.Store c.args.conn in
     let new = state g.S.Store c.reopen.new.conn in
-    subst (IsUnopened c.args.officer old new) (sym (c.from-in-Err.ensures ∙ ap File c.from.ensures))
+    subst (IsUnopened c.args.officer old new) (sym c.refused.ensures)
     (unopened_by c.args.officer old new c.in-Err.fault (λ clean.
     c.in-Err.ensures.rows clean (c.requires (clean-before old new c.in-Err.ensures.clean clean)))
     (λ is. c.reopen.ensures.other.0 (c.in-Err.is ∙ ap Err is)))

@@ -1,0 +1,249 @@
+//! Reads a connection within its limits.
+//!
+//! A line is counted at its first byte, and ends with its line feed. What is read after that and before the reply is its payload.
+ghost use Rattle.std.specs.Io.{ReadsAtMost};
+
+use crate::rations::{Rations, own_lines};
+use crate::reception::Arrival;
+use crate::time::now;
+use crate::watch::{Limit, Watch};
+use mpw_admission::{Pail, Stage, Visit};
+use std::alloc::Global;
+use std::io::{self, BufRead, BufReader, ErrorKind, Read};
+use std::net::TcpStream;
+use std::sync::Wait;
+use std::thread;
+use std::time::{Clock, Duration};
+
+/// How often a system call is made in all if it is interrupted.
+const TRIES: u32 = 16;
+
+/// How many bytes of a payload are lent to a stranger at once.
+const LOAN: u64 = 4096;
+
+/// The longest sleep of a line that waits, in milliseconds.
+const STEP: u64 = 1000;
+
+/// Whether the socket's time limit has passed.
+fn is_late(error: &io::Error) -> bool {
+    matches!(error.kind(), ErrorKind::WouldBlock | ErrorKind::TimedOut)
+}
+
+/// Where a connection is, and what it may take. Times are in milliseconds.
+#[derive(Drop)]
+struct Account {
+    begun: u64,
+    rested: Option<u64>,
+    since: Option<u64>,
+    stage: Stage,
+    /// The lines that it may still ask while it is a stranger.
+    lines: Pail,
+    /// How many bytes of a payload are left of what was lent to it.
+    lent: u64,
+    /// The time limit that the socket has.
+    limit: u64,
+}
+
+impl Account {
+    /// Of a connection that was just accepted.
+    fn new(now: u64) -> Account {
+        Account {
+            begun: now,
+            rested: Some(now),
+            since: None,
+            stage: Stage::Rest,
+            lines: own_lines(),
+            lent: 0,
+            limit: 0,
+        }
+    }
+
+    /// Notes that its line was answered: the next byte begins a line.
+    fn note_answer(&mut self) {
+        self.stage = Stage::Rest;
+        self.rested = None;
+        self.since = None;
+    }
+
+    /// Notes a byte that was read.
+    fn note_byte(&mut self, byte: u8) {
+        let next = self.stage.after(byte);
+        if self.stage.is_line() != next.is_line() {
+            self.since = None;
+        }
+        self.stage = next;
+    }
+
+    /// Where the connection is at this time.
+    fn visit(&mut self, is_stranger: bool, now: u64) -> Visit {
+        Visit {
+            is_stranger,
+            begun: self.begun,
+            rested: *self.rested.get_or_insert(now),
+            since: *self.since.get_or_insert(now),
+            stage: self.stage,
+        }
+    }
+}
+
+/// The reader of a connection. With limits it fails once the connection is at one of them.
+pub struct Intake<'s, 'a, R: Wait + Clock> {
+    rt: &'a R,
+    stream: &'s TcpStream,
+    input: BufReader<&'s TcpStream>,
+    watch: &'s Watch,
+    /// What strangers may take together, if that is limited.
+    rations: Option<&'a Rations>,
+    account: Account,
+}
+
+impl<'s, 'a, R: Wait + Clock> Drop for Intake<'s, 'a, R> {
+    fn drop(self) {
+        let Intake {
+            rt: _,
+            stream: _,
+            input,
+            watch: _,
+            rations: _,
+            account: _,
+        } = self;
+        drop(input);
+    }
+}
+
+impl<'s, 'a, R: Wait + Clock> Intake<'s, 'a, R> {
+    /// The reader of a connection that was just accepted. Without rations it has no limits but those of its socket.
+    ///
+    /// # Errors
+    /// If there is no room for its buffer, or the clock can't be read.
+    pub fn new(
+        rt: &'a R,
+        alloc: Global,
+        arrival: &'s Arrival,
+        rations: Option<&'a Rations>,
+    ) -> io::Result<Intake<'s, 'a, R>> {
+        let account = Account::new(now(rt)?);
+        let stream = &arrival.stream;
+        let input = BufReader::new(alloc, stream)?;
+        Ok(Intake {
+            rt,
+            stream,
+            input,
+            watch: &arrival.watch,
+            rations,
+            account,
+        })
+    }
+
+    /// Waits for the first byte, and returns whether one came. It isn't taken yet.
+    pub fn begins(&mut self) -> bool {
+        if self.set_limit_within(self.rations).is_err() {
+            return false;
+        }
+        for _ in 0..TRIES {
+            match self.input.fill_buf() {
+                Ok(bytes) => return !bytes.is_empty(),
+                Err(error) if error.kind() == ErrorKind::Interrupted => {}
+                Err(_) => return false,
+            }
+        }
+        false
+    }
+
+    /// Gives the socket the time that the next byte may take, if that is limited.
+    fn set_limit_within(&mut self, rations: Option<&Rations>) -> io::Result<()> {
+        match rations {
+            Some(rations) => self.set_limit(rations),
+            None => Ok(()),
+        }
+    }
+
+    /// Ends the connection at a limit.
+    fn end(&self, limit: Limit) -> io::Error {
+        self.watch.note_limit(self.rt, limit);
+        io::Error::from(ErrorKind::TimedOut)
+    }
+
+    /// Gives the socket the time that the next byte may take.
+    fn set_limit(&mut self, rations: &Rations) -> io::Result<()> {
+        let now = now(self.rt)?;
+        let visit = self.account.visit(self.watch.is_stranger(), now);
+        let patience = visit.patience(rations.times, now);
+        if patience == 0 {
+            return Err(self.end(Limit::Time));
+        }
+        if patience != self.account.limit {
+            self.stream
+                .set_read_timeout(Some(Duration::from_millis(patience)))?;
+            self.account.limit = patience;
+        }
+        Ok(())
+    }
+
+    /// Waits until a stranger's line may be read.
+    fn await_turn(&mut self, rations: &Rations) -> io::Result<()> {
+        for _ in self.rt.forever() {
+            let now = now(self.rt)?;
+            let wait = rations.take_line(self.rt, &mut self.account.lines, now);
+            if wait == 0 {
+                return Ok(());
+            }
+            if now.saturating_sub(self.account.begun) >= rations.times.login {
+                return Err(self.end(Limit::Time));
+            }
+            thread::sleep(self.rt, Duration::from_millis(wait.min(STEP)));
+        }
+        unreachable!()
+    }
+
+    /// Takes a byte of a stranger's payload out of what was lent to it.
+    fn pay_byte(&mut self, rations: &Rations) -> io::Result<()> {
+        if self.account.lent == 0 {
+            self.account.lent = rations.lend(self.rt, LOAN);
+        }
+        match self.account.lent.checked_sub(1) {
+            Some(lent) => {
+                self.account.lent = lent;
+                Ok(())
+            }
+            None => Err(self.end(Limit::Memory)),
+        }
+    }
+
+    /// Reads a byte within the limits.
+    fn read_byte(&mut self, rations: &Rations, buffer: &mut [u8]) -> io::Result<usize>
+        ensures { ReadsAtMost result buffer.new }
+    {
+        if self.watch.take_answer() {
+            self.account.note_answer();
+        }
+        if self.account.stage.is_payload() && self.watch.is_stranger() {
+            self.pay_byte(rations)?;
+        }
+        if self.input.buffer().is_empty() {
+            self.set_limit(rations)?;
+        }
+        let most = buffer.len().min(1);
+        let count = match self.input.read(&mut buffer[..most]) {
+            Ok(count) => count,
+            Err(error) if is_late(&error) => return Err(self.end(Limit::Time)),
+            Err(error) => return Err(error),
+        };
+        if count == 1 {
+            if self.account.stage.is_rest() && self.watch.is_stranger() {
+                self.await_turn(rations)?;
+            }
+            self.account.note_byte(buffer[0]);
+        }
+        Ok(count)
+    }
+}
+
+impl<'s, 'a, R: Wait + Clock> Read for Intake<'s, 'a, R> {
+    fn read(&mut self, buffer: &mut [u8]) -> io::Result<usize> {
+        match self.rations {
+            Some(rations) => self.read_byte(rations, buffer),
+            None => self.input.read(buffer),
+        }
+    }
+}

@@ -1,7 +1,0 @@
-use Rattle.std.proofs.Common.{rules, not, eqb}
-use Rattle.std.proofs.lemmas.Fn.{filter_same}
-use Rattle.mpw_service.proofs.reception.Waiting.forget.Goals as goal
-
-pub returns : goal.returns
-returns g c = filter_same _ (λ other. not (eqb c.args.connection other.connection)) _
-    (λ x b f call. search rules) _ _ c.retain.ensures.filtered
