@@ -1,7 +1,7 @@
-//! Prints what a check by columns takes, in milliseconds, and how many markers each rule has.
+//! Prints the time of a check by columns, in milliseconds, and how many markers each rule has.
 //!
-//! `FILE MOST` reads the library of the file, places its structure `TOP` where it was drawn, and checks it by columns of at most
-//! MOST flat shapes each, with the rules of `layout`. `FILE tiles SIDE` checks it by tiles of that side, as a whole.
+//! `FILE MOST` reads the library of the file, places its structure `TOP` as it is drawn, and checks it by columns of at most MOST flat
+//! shapes each, with the rules of `layout`. `FILE tiles SIDE` checks it by tiles of that side, as a whole.
 
 use crate::layout::{SAMPLE, SAMPLE_SIDE, snapshot};
 use crate::rules::print_rules;

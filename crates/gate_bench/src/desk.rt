@@ -5,7 +5,7 @@ use mpw_geom::Name;
 use mpw_requests::digest_of;
 use std::alloc::{AllocError, Global};
 
-/// A new desk of the officer `root`, whose token is `abc`. It is behind a pointer, so that to drop it is one step.
+/// A new desk of the officer `root`, whose token is `abc`. It is in a box, so that dropping it is one step.
 pub fn new_desk(alloc: Global) -> Result<Box<Core>, AllocError> {
     match Name::read(alloc, b"root") {
         Ok(officer) => Core::new_boxed(alloc, officer, digest_of(b"abc")),

@@ -1,9 +1,9 @@
-//! Prints what the parts of a run take: the cut, the jobs of all tiles on one thread and on at most two for each
-//! processor, and the stitching, each with its milliseconds, and how many markers each rule has.
+//! Prints the times of the parts of a run: the cut, the jobs of all tiles on one thread and on at most two for each processor, and the
+//! stitching, each in milliseconds, and how many markers each rule has.
 //!
-//! `FILE SIDE [THREADS]` reads the library of the file, places its structure `TOP` where it was drawn, and checks it by tiles of
-//! that side with the rules of `layout`. The jobs are executed on one thread and then again on all. With the word `one` or `all` they
-//! are executed once, so that neither finds the memory that the other touched.
+//! `FILE SIDE [THREADS]` reads the library of the file, places its structure `TOP` as it is drawn, and checks it by tiles of that side with
+//! the rules of `layout`. The jobs are executed on one thread and then again on all. With the word `one` or `all` they are executed once,
+//! so that neither finds the memory that the other touched.
 
 mod parts;
 mod timed;

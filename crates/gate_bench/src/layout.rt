@@ -1,4 +1,4 @@
-//! The snapshot of a library: its structure `TOP` where it was drawn, and four rules on it.
+//! The snapshot of a library: its structure `TOP` as it is drawn, and four rules.
 //!
 //! Layer 1/0 has width 56 and space 51; layers 1/0 and 2/0 have separation 9 and enclosing 10.
 
@@ -27,7 +27,7 @@ fn deck(alloc: Global, side: &str) -> Result<Deck> {
     Ok(read_deck(alloc, text.as_bytes())?)
 }
 
-/// The snapshot of a library's structure `TOP`, where it was drawn, with tiles of that side.
+/// The snapshot of a library's structure `TOP`, as it is drawn, with tiles of that side.
 pub fn snapshot(alloc: Global, text: &[u8], side: &str) -> Result<Snapshot> {
     let deck = deck(alloc, side)?;
     let mut shelf = Shelf::new(alloc);

@@ -1,4 +1,4 @@
-//! Serves connections one after the other over one desk, and prints how many lines a second the desk answered on each.
+//! Serves connections one after another over one desk, and prints how many lines a second the desk answered on each.
 //!
 //! The text has the connections' lines; a line `-- NAME` begins a connection. The officer is `root`, whose token is `abc`.
 
@@ -14,7 +14,7 @@ use mpw_wire::Counted;
 use std::thread::Threads;
 use std::time::Instant;
 
-/// So many lines a second.
+/// Lines a second.
 fn rate(lines: usize, nanoseconds: u128) -> u128 {
     if nanoseconds == 0 {
         return 0;

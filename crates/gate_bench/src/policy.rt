@@ -47,7 +47,7 @@ fn cells(alloc: Global, count: u32) -> Result<Vec<Object>, AllocError> {
     Ok(cells)
 }
 
-/// So many calls a second.
+/// Calls a second.
 fn rate(calls: u32, nanoseconds: u128) -> u128 {
     if nanoseconds == 0 {
         return 0;
@@ -73,7 +73,7 @@ fn time_permits(rt: &HostRuntime, policy: &Policy, cells: &[Object], still: bool
     )?)
 }
 
-/// Prints how many lists of objects a second are looked through with one access.
+/// Prints how many lists of objects a second are tested with one access.
 fn time_access(rt: &HostRuntime, policy: &Policy, cells: &[Object], still: bool) -> Result<()> {
     let start = Instant::now(rt)?;
     let permitted = calls::accessible(policy, cells, CALLS);
@@ -149,7 +149,7 @@ fn show(rt: &HostRuntime, size: Size, still: bool) -> Result<()> {
     time(rt, &mut policy, size, still)
 }
 
-/// The sizes of the policies. One more role, grant and user fit, but the role if there are 512.
+/// The sizes of the policies. One more role, grant and user fit, except the role if there are 512.
 const SIZES: [Size; 7] = [
     (10, 10, 0),
     (10, 4094, 0),

@@ -4,7 +4,7 @@ use anyhow::Result;
 use mpw_deck::Rules;
 use mpw_markers::Marker;
 
-/// How many of the markers are of the rule at that place of its deck.
+/// How many of the markers are of the rule at that index of its deck.
 fn of_rule(markers: &[Marker], place: usize) -> usize {
     markers
         .iter()

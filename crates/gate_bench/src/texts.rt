@@ -1,12 +1,12 @@
-//! Reads many texts, and prints in a line what reading each gives: for `bench/fuzz.py`, which compares that with the model.
+//! Reads many texts, and prints on one line what reading each gives: for `bench/fuzz.py`, which compares that with the model.
 //!
 //! A line before each text says what it is, and how many bytes it has:
 //! - `library N END ..` is read whole, and then each of its fronts that ends before byte END;
 //! - `deck N` is read as a deck;
 //! - `request N` is read as the input of a connection, of which one line with its payload is taken.
 //!
-//! Of a library or a deck it prints the numbers of its parts, and the sum of all that it says, in order (`sum.rt`). Of a request it
-//! prints the stored line. If the text can't be read, it prints the first fault with its place.
+//! Of a library or a deck it prints the numbers of its parts, and the sum of everything in it, in order (`sum.rt`). Of a request it prints
+//! the stored line. If the text can't be read, it prints the first fault with its place.
 
 mod decks;
 mod input;
@@ -18,10 +18,10 @@ use crate::texts::input::Input;
 use anyhow::{Context, Result, bail};
 use mpw_text::{parts, read_count};
 
-/// The greatest number of bytes that a line may say.
+/// The greatest number of bytes that a line may give.
 const MOST_BYTES: usize = 1 << 32;
 
-/// The number that a word says.
+/// The number of a word.
 fn count(word: &[u8]) -> Result<usize> {
     Ok(read_count(word, 0, MOST_BYTES).context("a number of bytes")?)
 }

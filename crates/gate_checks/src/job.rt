@@ -1,12 +1,12 @@
 //! Jobs of all tiles over listed rectangles, stitched into a book.
 //!
-//! Each line is repeated, with the answer below. A line that begins with `#`, and an empty one, says nothing. Rules are
-//! a deck's lines parted by `;`, and rectangles are `ORIGIN LAYER X0 Y0 X1 Y1`, parted by `,`.
-//! - `find SIDE | RULES | RECTANGLES` tells the number of tiles and the markers, each with the origins that it meets;
-//! - `sides | RULES | RECTANGLES` tells for five sides of the tiles whether the book is that of a single core;
-//! - `random N` cuts N random layouts by five sides and as a single core, works all jobs, stitches their answers, and tells
-//!   how many books differ from a plain search square by square;
-//! - `copies` copies a job and an answer of each kind, and tells how many of the copies are other ones.
+//! Each line is printed, with the answer below it. A line that begins with `#`, and an empty one, prints nothing. Rules are a deck's lines
+//! with `;` between them, and rectangles are `ORIGIN LAYER X0 Y0 X1 Y1`, with `,` between them.
+//! - `find SIDE | RULES | RECTANGLES` prints the number of tiles and the markers, each with the origins that it touches;
+//! - `sides | RULES | RECTANGLES` prints for five sides of the tiles whether the book is that of a single core;
+//! - `random N` cuts N random layouts by five sides and as a single core, does all jobs, stitches their answers, and prints how many books
+//!   differ from a plain search square by square;
+//! - `copies` copies a job and an answer of each kind, and prints how many of the copies differ.
 mod book;
 mod copies;
 mod random;

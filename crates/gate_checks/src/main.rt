@@ -1,6 +1,6 @@
 //! Golden tests of the rules: pieces of edges, markers, and the jobs of tiles.
 //!
-//! The standard input has tables of lines. A line `== NAME` begins a table; the module of that name says what its lines are.
+//! The standard input has tables of lines. A line `== NAME` begins a table. The module of that name says what its lines are.
 #![tactic(auto)]
 
 mod checks;

@@ -1,4 +1,4 @@
--- What came of a job: the job that it carries, and the event that hands it in.
+-- The answer of a job: its job, and the event that hands it in.
 use Rattle.gate_events.specs.declared.kept.JobAnswer.{JobAnswer}
 use Rattle.gate_events.specs.declared.kept.JobAnswer.TheVariants as answers
 use Rattle.mpw_events.specs.declared.event.Event.{Event}

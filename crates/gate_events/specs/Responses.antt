@@ -1,4 +1,5 @@
--- What a call has of the desk: its event; and what its response tells: whether a request is accepted, and which job is handed out.
+-- The event of a call; and what its response says: whether a request is accepted, and which job is handed
+-- out.
 use Rattle.std.specs.Prelude.{Bool, true, false, Option, None, Some}
 use Rattle.mpw_events.specs.declared.event.Call.{Call}
 use Rattle.mpw_events.specs.declared.event.Event.{Event}
@@ -19,7 +20,7 @@ accepts (reply.Ok lines) = true
 accepts (reply.Denied denial) = false
 accepts (reply.Refused code) = false
 
--- The response is the reply to a request that is accepted.
+-- The response is the reply to an accepted request.
 abbrev pub is_accepted : Response → Bool
 is_accepted (response.Told reply) = accepts reply
 is_accepted (response.Run reply) = false

@@ -1,4 +1,4 @@
-//! A source and a sink over memory that fail at a place.
+//! A source and a sink in memory that fail at a place.
 ghost use Rattle.std.specs.Prelude.{◌≡◌, [], None, false};
 
 use mpw_wire::{DeviceFault, Sink, Source};
@@ -7,11 +7,11 @@ use std::alloc::Global;
 /// A text that a source gives, byte by byte, and the place at which it fails.
 #[derive(Drop)]
 pub struct Text<'a> {
-    /// All bytes, those that were given too.
+    /// All bytes, including those that were given.
     pub bytes: &'a [u8],
-    /// The place of the next byte.
+    /// The index of the next byte.
     pub at: usize,
-    /// Where it fails, at each call, in place of what it would give there.
+    /// The index at which it fails, at each call, instead of giving the byte there.
     pub fails_at: usize,
     /// How often it failed.
     pub failures: u64,
@@ -42,7 +42,7 @@ impl Source for Text<'_> {
 pub struct Paper {
     /// What it took so far.
     pub bytes: Vec<u8>,
-    /// How many bytes it takes still.
+    /// How many more bytes it takes.
     pub room: usize,
     /// How often it failed.
     pub failures: u64,
@@ -51,7 +51,7 @@ pub struct Paper {
 }
 
 impl Paper {
-    /// A sink that takes so many bytes.
+    /// A sink that takes that many bytes.
     pub fn new(alloc: Global, room: usize) -> Paper
         ensures { (result.room ≡ room) × (result.failures ≡ 0) × (result.is_pending ≡ false) × (result.bytes.items ≡ []) }
     {

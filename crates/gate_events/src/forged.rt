@@ -9,7 +9,7 @@ use std::alloc::{AllocError, Global};
 /// The job of cutting what another answer cut, of a run of that number.
 ///
 /// # Errors
-/// Where there is no memory.
+/// Out of memory.
 pub fn cut_job(alloc: Global, run: u32, of: &CutAnswer) -> Result<Job, AllocError>
     ensures { IfOk result (λ job. job ≡ Cut (record { run = run; snapshot = of.now.job.snapshot })) }
 {
@@ -20,7 +20,7 @@ pub fn cut_job(alloc: Global, run: u32, of: &CutAnswer) -> Result<Job, AllocErro
 /// The job of a run and a tile of those numbers, with the core, the window and the rules of others.
 ///
 /// # Errors
-/// Where there is no memory.
+/// Out of memory.
 pub fn tile_job(
     run: u32,
     tile: u32,

@@ -9,7 +9,7 @@ use mpw_job::{Answer, Job};
 use mpw_work::do_job;
 use std::alloc::{AllocError, Global};
 
-/// What came of a job.
+/// The answer of a job.
 #[derive(Drop)]
 pub enum JobAnswer {
     /// The windows of a snapshot.
@@ -18,19 +18,19 @@ pub enum JobAnswer {
     Tile(SharedTile),
 }
 
-/// What came of a job, under a name.
+/// The answer of a job, under a name.
 #[derive(Drop)]
 pub struct Kept {
-    /// By which it is found; one that was kept later under the same name is found in its place.
+    /// The name by which it is found. An answer that is stored later under the same name replaces it.
     pub name: Name,
-    /// What the desk can be handed.
+    /// The answer that can be handed to the desk.
     pub work: JobAnswer,
 }
 
-/// Does a job. It takes what the job takes.
+/// Does a job. Cost: that of the job.
 ///
 /// # Errors
-/// Where there is no memory.
+/// Out of memory.
 pub fn work(alloc: Global, job: &Job) -> Result<JobAnswer, AllocError>
     ensures { IfOk result (λ work. job_of work ≡ job.now) }
 {
@@ -40,20 +40,20 @@ pub fn work(alloc: Global, job: &Job) -> Result<JobAnswer, AllocError>
     }
 }
 
-/// Keeps what came of a job under a name.
+/// Stores the answer of a job under a name.
 ///
 /// # Errors
-/// Where there is no memory.
+/// Out of memory.
 pub fn keep(kept: &mut Vec<Kept>, name: Name, work: JobAnswer) -> Result<()>
     ensures { OnOk result (kept.new.items ≡ kept.old.items ++ record { name = name; work = work } ∷ []) }
 {
     Ok(kept.push(Kept { name, work })?)
 }
 
-/// What is kept under a name, of which the latest counts, by a look at each.
+/// The latest answer that is stored under a name. Linear in the answers.
 ///
 /// # Errors
-/// Where nothing is.
+/// There is none.
 pub fn find<'a>(kept: &'a [Kept], name: &str) -> Result<&'a JobAnswer> {
     let mut found = None;
     for one in kept {
@@ -67,10 +67,10 @@ pub fn find<'a>(kept: &'a [Kept], name: &str) -> Result<&'a JobAnswer> {
     }
 }
 
-/// The cut that is kept under a name.
+/// The cut that is stored under a name.
 ///
 /// # Errors
-/// Where nothing is, or a tile's answer.
+/// There is none, or a tile's answer.
 pub fn find_cut<'a>(kept: &'a [Kept], name: &str) -> Result<&'a SharedCut> {
     match find(kept, name)? {
         JobAnswer::Cut(answer) => Ok(answer),
@@ -78,10 +78,10 @@ pub fn find_cut<'a>(kept: &'a [Kept], name: &str) -> Result<&'a SharedCut> {
     }
 }
 
-/// The tile's answer that is kept under a name.
+/// The tile's answer that is stored under a name.
 ///
 /// # Errors
-/// Where nothing is, or a cut.
+/// There is none, or a cut.
 pub fn find_tile<'a>(kept: &'a [Kept], name: &str) -> Result<&'a SharedTile> {
     match find(kept, name)? {
         JobAnswer::Tile(answer) => Ok(answer),
@@ -89,10 +89,10 @@ pub fn find_tile<'a>(kept: &'a [Kept], name: &str) -> Result<&'a SharedTile> {
     }
 }
 
-/// The event that hands in what came of a job.
+/// The event that hands in the answer of a job.
 ///
 /// # Errors
-/// Where there is no memory.
+/// Out of memory.
 pub fn event_of(work: &JobAnswer) -> Result<Event, AllocError>
     ensures { IfOk result (λ event. event ≡ event_of work.now) }
 {

@@ -1,5 +1,5 @@
-//! What golden tests of the desk are made of: scripts with their replies, devices over memory that serve them, and the words of events,
-//! answers and responses.
+//! The parts of golden tests of the desk: scripts with their replies, devices in memory that serve them, and the words of events, answers
+//! and responses.
 #![tactic(auto)]
 
 mod devices;

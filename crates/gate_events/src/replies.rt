@@ -1,4 +1,4 @@
-//! The replies to requests, told.
+//! Prints the replies to requests.
 
 use crate::words::operation_word;
 use anyhow::{Result, bail};
@@ -10,14 +10,14 @@ use mpw_replies::{
     Reply,
 };
 
-/// The most cells that a marker's line tells, and the most markers and rules of a listing.
+/// The most cells that a marker's line prints, and the most markers and rules of a listing.
 const MAX_CELLS: usize = 1024;
 
 const MAX_MARKERS: usize = 1024;
 
 const MAX_RULES: usize = 1024;
 
-/// Tells a line of an accepted request's reply.
+/// Prints a line of an accepted request's reply.
 fn tell_line(rt: &impl Print, line: &Line) -> Result<()> {
     match line {
         Line::User(name) => println!(rt; "    user {}", name.as_str())?,
@@ -34,7 +34,7 @@ fn tell_line(rt: &impl Print, line: &Line) -> Result<()> {
     Ok(())
 }
 
-/// Tells lines.
+/// Prints lines.
 fn tell_stored(rt: &impl Print, lines: &[Line]) -> Result<()> {
     for line in lines {
         tell_line(rt, line)?;
@@ -50,14 +50,14 @@ fn axis_letter(axis: Axis) -> &'static str {
     }
 }
 
-/// Tells a marker's key.
+/// Prints a marker's key.
 fn tell_key(rt: &impl Print, rule: &str, key: Key) -> Result<()> {
     let axis = axis_letter(key.axis);
     let (side, x1, x2, y0, y1) = (key.side, key.x1, key.x2, key.y0, key.y1);
     Ok(print!(rt; "    {rule}:{axis}:{side}:{x1}:{x2}:{y0}:{y1}")?)
 }
 
-/// Tells the cells that a marker meets.
+/// Prints the cells that a marker touches.
 fn tell_cells(rt: &impl Print, cells: MetCells<'_>) -> Result<()> {
     let mut cells = cells;
     for _ in 0..MAX_CELLS {
@@ -69,13 +69,13 @@ fn tell_cells(rt: &impl Print, cells: MetCells<'_>) -> Result<()> {
     bail!("fewer cells")
 }
 
-/// Tells a marker.
+/// Prints a marker.
 fn tell_marker(rt: &impl Print, marker: MarkerView<'_>) -> Result<()> {
     tell_key(rt, marker.rule.as_str(), marker.key)?;
     tell_cells(rt, marker.cells)
 }
 
-/// Tells the markers that are shown in full.
+/// Prints the full markers.
 fn tell_full(rt: &impl Print, views: MarkerViews<'_>) -> Result<()> {
     let mut views = views;
     for _ in 0..MAX_MARKERS {
@@ -87,7 +87,7 @@ fn tell_full(rt: &impl Print, views: MarkerViews<'_>) -> Result<()> {
     bail!("fewer markers")
 }
 
-/// Tells how many markers are masked, by rule.
+/// Prints the counts of masked markers, by rule.
 fn tell_masked(rt: &impl Print, views: MaskedViews<'_>) -> Result<()> {
     let mut views = views;
     for _ in 0..MAX_RULES {
@@ -99,13 +99,13 @@ fn tell_masked(rt: &impl Print, views: MaskedViews<'_>) -> Result<()> {
     bail!("fewer rules")
 }
 
-/// Tells markers.
+/// Prints markers.
 fn tell_markers(rt: &impl Print, listing: &MarkerListing) -> Result<()> {
     tell_full(rt, listing.lines().full)?;
     tell_masked(rt, listing.lines().masked)
 }
 
-/// Tells the lines of an accepted request's reply.
+/// Prints the lines of an accepted request's reply.
 fn tell_lines(rt: &impl Print, lines: &Lines) -> Result<()> {
     println!(rt; "    OK {}", lines.len())?;
     match lines.contents() {
@@ -116,7 +116,7 @@ fn tell_lines(rt: &impl Print, lines: &Lines) -> Result<()> {
     }
 }
 
-/// Tells that the session lacks a permission.
+/// Prints that the session lacks a permission.
 fn tell_permission(rt: &impl Print, operation: Operation, object: &Object) -> Result<()> {
     let object = match object {
         Object::Cell(cell) => cell.as_str(),
@@ -126,7 +126,7 @@ fn tell_permission(rt: &impl Print, operation: Operation, object: &Object) -> Re
     Ok(println!(rt; "    DENIED permission {operation} {object}")?)
 }
 
-/// Tells what a session lacks.
+/// Prints what a session lacks.
 fn tell_denial(rt: &impl Print, denial: &Denial) -> Result<()> {
     match denial {
         Denial::Session => Ok(println!(rt; "    DENIED session")?),
@@ -157,7 +157,7 @@ fn code_words(code: Code) -> Result<&'static str> {
     }
 }
 
-/// Tells a reply.
+/// Prints a reply.
 pub fn tell_reply(rt: &impl Print, reply: &Reply) -> Result<()> {
     match reply {
         Reply::Ok(lines) => tell_lines(rt, lines),

@@ -13,7 +13,7 @@ use mpw_requests::{
 };
 use std::alloc::{AllocError, Global};
 
-/// The text of a deck's lines, which stand behind one another with `; ` between them.
+/// The text of a deck, from its lines with `; ` between them.
 fn deck_text(alloc: Global, lines: &str) -> Result<DeckText, AllocError> {
     let mut bytes = Vec::new(alloc);
     for line in lines.split("; ") {
@@ -23,14 +23,14 @@ fn deck_text(alloc: Global, lines: &str) -> Result<DeckText, AllocError> {
     DeckText::read(alloc, bytes)
 }
 
-/// To bring a deck.
+/// The upload of a deck.
 fn deck(alloc: Global, lines: &str) -> Result<SharedRequest> {
     let text = deck_text(alloc, lines)?;
     let request = Request::Wafer(WaferRequest::Deck { text });
     Ok(SharedRequest::new(alloc, request)?)
 }
 
-/// To submit a library's structure as a cell.
+/// The submission of a library's structure as a cell.
 fn submission(alloc: Global, cell: &str, top: &str, notation: &str) -> Result<SharedRequest> {
     let text = LibraryText::read(alloc, text_of_library(alloc, notation)?)?;
     let cell = name(alloc, cell)?;
@@ -39,7 +39,7 @@ fn submission(alloc: Global, cell: &str, top: &str, notation: &str) -> Result<Sh
     Ok(SharedRequest::new(alloc, request)?)
 }
 
-/// To place a cell as it is drawn, so far away.
+/// The placement of a cell as it is drawn, with a displacement.
 fn placement(alloc: Global, cell: &str, label: &str, x: &str, y: &str) -> Result<SharedRequest> {
     let by = Point {
         x: coordinate(x)?,
@@ -59,7 +59,7 @@ fn placement(alloc: Global, cell: &str, label: &str, x: &str, y: &str) -> Result
     Ok(SharedRequest::new(alloc, request)?)
 }
 
-/// To take a placing away.
+/// The removal of a placement.
 fn removal(alloc: Global, cell: &str, label: &str) -> Result<SharedRequest> {
     let cell = name(alloc, cell)?;
     let label = name(alloc, label)?;
@@ -67,7 +67,7 @@ fn removal(alloc: Global, cell: &str, label: &str) -> Result<SharedRequest> {
     Ok(SharedRequest::new(alloc, request)?)
 }
 
-/// A request over the run.
+/// A request of the run.
 fn run(alloc: Global, request: RunRequest) -> Result<SharedRequest> {
     Ok(SharedRequest::new(alloc, Request::Run(request))?)
 }
@@ -84,7 +84,7 @@ fn grant(alloc: Global, operation_word: &str, object_word: &str, role: &str) -> 
     })
 }
 
-/// The requests of the policy of a verb and one word or two.
+/// The policy requests with a verb and one word or two.
 fn policy(alloc: Global, words: &[&str]) -> Result<PolicyRequest> {
     match words {
         ["close"] => Ok(PolicyRequest::Close),
@@ -109,7 +109,7 @@ fn policy(alloc: Global, words: &[&str]) -> Result<PolicyRequest> {
     }
 }
 
-/// The requests of the policy over a user and a role.
+/// The policy requests of a user and a role.
 fn assignment(alloc: Global, words: &[&str]) -> Result<PolicyRequest> {
     let [verb, user, role] = words else {
         bail!("a request");
@@ -126,7 +126,7 @@ fn assignment(alloc: Global, words: &[&str]) -> Result<PolicyRequest> {
 /// The request of some words, with a library in the notation of `gate_samples`, or a deck's lines with `; ` between them.
 ///
 /// # Errors
-/// Where the words are none of a request, or there is no memory.
+/// The words are none of a request, or out of memory.
 pub fn request(alloc: Global, words: &[&str], payload: &str) -> Result<SharedRequest> {
     match words {
         ["submit", cell, top] => submission(alloc, cell, top, payload),

@@ -1,4 +1,4 @@
-//! Calls of the desk, and their responses, told.
+//! Prints calls of the desk and their responses.
 ghost use Rattle.std.specs.Prelude.{◌≡◌, IfOk, map};
 ghost use Rattle.gate_events.specs.Responses.{event_in, is_accepted, job_in};
 
@@ -10,7 +10,7 @@ use mpw_replies::Reply;
 use mpw_run::RunReply;
 use std::alloc::{AllocError, Global};
 
-/// The word of what the run answers.
+/// The word of the run's reply.
 fn run_word(reply: &RunReply) -> &'static str {
     match reply {
         RunReply::Taken(Job::Cut(_)) => "taken cut",
@@ -37,7 +37,7 @@ fn word(response: &Response) -> &'static str {
     }
 }
 
-/// The run and the tile of a job that is handed out; 0 and 0 where none is.
+/// The run and the tile of a job that is handed out, or 0 and 0 if none is.
 fn handed_out(response: &Response) -> (u32, u32) {
     match response {
         Response::Run(reply) => match reply.get() {
@@ -62,8 +62,7 @@ fn is_alike(a: &Response, b: &Response) -> bool {
     word(a) == word(b) && count(a) == count(b) && handed_out(a) == handed_out(b)
 }
 
-/// How many calls are answered otherwise than those in their places: by another word, with more or fewer lines, or with another
-/// job's numbers.
+/// How many calls have another response than those at their indexes: another word, more or fewer lines, or another job's numbers.
 pub fn different(calls: &[Call], others: &[Call]) -> usize {
     let mut different = 0usize;
     for (a, b) in calls.iter().zip(others) {
@@ -74,7 +73,7 @@ pub fn different(calls: &[Call], others: &[Call]) -> usize {
     different
 }
 
-/// Whether the response is the reply to a request that is accepted.
+/// Whether the response is the reply to an accepted request.
 pub fn is_accepted(response: &Response) -> bool
     ensures { result ≡ is_accepted response.now }
 {
@@ -84,7 +83,7 @@ pub fn is_accepted(response: &Response) -> bool
     }
 }
 
-/// Tells a job that is handed out.
+/// Prints a job that is handed out.
 fn tell_job(rt: &impl Print, job: &Job) -> Result<()> {
     match job {
         Job::Cut(job) => Ok(println!(rt; "    taken cut {}", job.run)?),
@@ -92,10 +91,10 @@ fn tell_job(rt: &impl Print, job: &Job) -> Result<()> {
     }
 }
 
-/// Tells a response, in lines that begin with four blanks.
+/// Prints a response, in lines that begin with four blanks.
 ///
 /// # Errors
-/// Where it can't be printed, or isn't one of those that are told.
+/// It can't be printed, or isn't one of those that are printed.
 pub fn tell_response(rt: &impl Print, response: &Response) -> Result<()> {
     match response {
         Response::Told(reply) => tell_reply(rt, reply),
@@ -110,7 +109,7 @@ pub fn tell_response(rt: &impl Print, response: &Response) -> Result<()> {
 /// The events of calls, in order.
 ///
 /// # Errors
-/// Where there is no memory.
+/// Out of memory.
 pub fn events_of(alloc: Global, calls: &[Call]) -> Result<Vec<Event>, AllocError>
     ensures { IfOk result (λ events. events.items ≡ map event_in calls.now) }
 {
@@ -121,10 +120,10 @@ pub fn events_of(alloc: Global, calls: &[Call]) -> Result<Vec<Event>, AllocError
     Ok(events)
 }
 
-/// A copy of the job that a response hands out, or nothing.
+/// A copy of the job that a response hands out, or none.
 ///
 /// # Errors
-/// Where there is no memory.
+/// Out of memory.
 pub fn job_of(alloc: Global, response: &Response) -> Result<Option<Job>, AllocError>
     ensures { IfOk result (λ job. job ≡ job_in response.now) }
 {

@@ -1,4 +1,4 @@
-//! Scripts with their replies, one below the other.
+//! Scripts with their replies, one after another.
 //!
 //! - `> TEXT` is a line of the input;
 //! - `| TEXT` is text of the input, in which `\n`, `\r`, `\t`, `\0`, `\1`, `\2` and `\7` are those bytes;
@@ -7,7 +7,7 @@
 //! - `= NOTATION` is a library in the notation of samples;
 //! - `= N NOTATION` is its first N bytes;
 //! - `? N TEXT` is a line of the replies N times;
-//! - `# TEXT`, and an empty line, is a remark;
+//! - `# TEXT`, and an empty line, is a comment;
 //! - every other line is one of the replies.
 
 use gate_samples::text_of_library;
@@ -20,7 +20,7 @@ pub enum TranscriptFault {
     /// A line isn't one of a script.
     #[error("a line of a script is of no form")]
     Form,
-    /// There was no room for what the lines spell.
+    /// Memory ran out.
     #[error("out of memory")]
     Memory,
 }
@@ -37,7 +37,7 @@ impl<T: Drop> From<AllocFailed<T>> for TranscriptFault {
     }
 }
 
-/// A script and the replies that are written for it.
+/// A script and its replies.
 #[derive(Drop)]
 pub struct Transcript {
     /// What the desk reads.
@@ -46,7 +46,7 @@ pub struct Transcript {
     pub replies: Vec<u8>,
 }
 
-/// A number and the text behind it.
+/// A number and the text after it.
 fn counted(text: &str) -> Result<(usize, &str), TranscriptFault> {
     let Some((number, rest)) = text.split_once(' ') else {
         return Err(TranscriptFault::Form);
@@ -57,7 +57,7 @@ fn counted(text: &str) -> Result<(usize, &str), TranscriptFault> {
     }
 }
 
-/// The byte that stands for a letter behind a backslash.
+/// The byte of a letter after a backslash.
 fn escaped(letter: u8) -> u8 {
     match letter {
         b'n' => b'\n',
@@ -94,7 +94,7 @@ fn push_line(bytes: &mut Vec<u8>, line: &str) -> Result<(), TranscriptFault> {
     Ok(())
 }
 
-/// Adds a text so many times.
+/// Adds a text that many times.
 fn push_times(bytes: &mut Vec<u8>, count: usize, text: &str) -> Result<(), TranscriptFault> {
     for _ in 0..count {
         push_text(bytes, text)?;
@@ -102,7 +102,7 @@ fn push_times(bytes: &mut Vec<u8>, count: usize, text: &str) -> Result<(), Trans
     Ok(())
 }
 
-/// Adds a line so many times.
+/// Adds a line that many times.
 fn push_lines(bytes: &mut Vec<u8>, count: usize, line: &str) -> Result<(), TranscriptFault> {
     for _ in 0..count {
         push_line(bytes, line)?;
@@ -186,10 +186,10 @@ fn push(alloc: Global, script: &mut Transcript, line: &str) -> Result<(), Transc
     }
 }
 
-/// The script that a text is.
+/// The script in a text.
 ///
 /// # Errors
-/// `Form` at a line of no form, `Memory` where there is none.
+/// `Form` at a line of no form, `Memory` if out of memory.
 pub fn read_transcript(alloc: Global, text: &str) -> Result<Transcript, TranscriptFault> {
     let mut script = Transcript {
         input: Vec::new(alloc),

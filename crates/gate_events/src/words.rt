@@ -24,12 +24,12 @@ const OPERATIONS: [(&str, Operation); 11] = [
 /// The name that a word is.
 ///
 /// # Errors
-/// Where it is none, or there is no memory.
+/// It is none, or out of memory.
 pub fn name(alloc: Global, word: &str) -> Result<Name> {
     Ok(Name::read(alloc, word.as_bytes())?)
 }
 
-/// What stands for a token's digest: its bytes, and zeros behind them.
+/// A stand-in for a token's digest: its bytes, and zeros after them.
 pub fn digest(token: &str) -> Digest {
     let bytes = token.as_bytes();
     let mut digest = [0u8; 32];
@@ -42,7 +42,7 @@ pub fn digest(token: &str) -> Digest {
 /// The operation of a word.
 ///
 /// # Errors
-/// Where it is no operation's word.
+/// No operation has the word.
 pub fn operation(word: &str) -> Result<Operation> {
     for (text, operation) in OPERATIONS {
         if text == word {
@@ -65,7 +65,7 @@ pub fn operation_word(operation: Operation) -> &'static str {
 /// The object that a word is.
 ///
 /// # Errors
-/// Where it is no name, or there is no room for it.
+/// It is no name, or out of memory.
 pub fn object(alloc: Global, word: &str) -> Result<Object> {
     if word == "desk" {
         return Ok(Object::Desk);

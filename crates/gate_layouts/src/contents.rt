@@ -1,16 +1,16 @@
-//! What of layouts meets windows, as lists of shapes and arrays.
+//! What of layouts touches windows, as lists of shapes and arrays.
 //!
-//! Each line is repeated, with the answer below. A line that begins with `#`, and an empty one, says nothing. A library is as
+//! Each line is printed, with the answer below it. A line that begins with `#`, and an empty one, prints nothing. A library is as
 //! `gate_samples` reads it, with its top `TOP`. A window is four coordinates in nm.
-//! - `see MOST WIDTH AXIS WINDOW | LIBRARY` tells the contents of a window, a thing a line, or `none`: at most MOST things, where what is wider than
-//!   WIDTH nm along the AXIS `x` or `y` is opened. A shape is told by its structure, its element and its placing, an array by its structure, its first
-//!   placing, its columns and rows, and its steps;
-//! - `alike MOST WIDTH AXIS WINDOW WINDOW | LIBRARY` tells by which displacement the contents of the second window are those of the first, or `other`,
-//!   and whether both have the same number;
-//! - `part MOST INSTANCES SHAPES WINDOW | LIBRARY` tells what of the top meets a window, as `see` does, or `none`: at most MOST things, where arrays of at
-//!   most INSTANCES instances are opened whose structure shows more than SHAPES shapes;
-//! - `boxes STRUCTURE | LIBRARY` tells how many boxes are held of the elements of the structure at that place of the library, and where they are at most
-//!   nine each of them, or `none` for a reference.
+//! - `see MOST WIDTH AXIS WINDOW | LIBRARY` prints the contents of a window, one entry a line, or `none`. There are at most MOST entries.
+//!   What is wider than WIDTH nm along the AXIS `x` or `y` is opened. A shape has its structure, its element and its placing, an array its
+//!   structure, its first placing, its columns and rows, and its steps;
+//! - `alike MOST WIDTH AXIS WINDOW WINDOW | LIBRARY` prints the displacement by which the contents of the second window are those of the
+//!   first, or `other`, and whether both have the same number;
+//! - `part MOST INSTANCES SHAPES WINDOW | LIBRARY` prints what of the top touches a window, as `see` does, or `none`. There are at most
+//!   MOST entries. Arrays of at most INSTANCES instances are opened if their structure has more than SHAPES flat shapes;
+//! - `boxes STRUCTURE | LIBRARY` prints how many boxes are stored for the elements of the structure at that index of the library, and, if
+//!   they are at most nine, each of them, or `none` for a reference.
 mod part;
 mod seen;
 

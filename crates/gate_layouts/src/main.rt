@@ -1,6 +1,6 @@
-//! Golden tests of placed layouts: structures and walks, tiles, contents of columns, the top's placings, and waivers.
+//! Golden tests of placed layouts: structures and walks, tiles, contents of columns, placements, and waivers.
 //!
-//! The standard input has tables of lines. A line `== NAME` begins a table; the module of that name says what its lines are.
+//! The standard input has tables of lines. A line `== NAME` begins a table. The module of that name says what its lines are.
 #![tactic(auto)]
 
 mod contents;

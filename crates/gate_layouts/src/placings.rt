@@ -1,15 +1,11 @@
-//! The table of placings over a shelf, and texts of decks.
+//! The table of placements over a shelf, and texts of decks.
 //!
-//! Each line is repeated, with the answer below. A line that begins with `#`, and an empty one, says nothing.
-//! - `new` begins with an empty shelf and no placings, `submit CELL TOP | ..` puts a library in the notation of
-//!   `gate_samples` on the shelf;
-//! - `place CELL LABEL R90 x y` places a cell and tells the version that is placed, and `unplace CELL LABEL` takes a placing
-//!   away, or each tells why not;
-//! - `fill CELL N` places a cell N times where it was drawn, under the labels 0 to N - 1, and tells how many placings there
-//!   are;
-//! - `list` tells the placings, and `tiles SIDE` how many tiles of a side there are over them;
-//! - `deck | ..` tells the deck of a text whose lines stand behind one another with `; ` between them, of a copy of the
-//!   text, and of its bytes alone.
+//! Each line is printed, with the answer below it. A line that begins with `#`, and an empty one, prints nothing.
+//! - `new` begins with an empty shelf and no placements, `submit CELL TOP | ..` puts a library in the notation of `gate_samples` on the shelf;
+//! - `place CELL LABEL R90 x y` places a cell and prints its version, and `unplace CELL LABEL` removes a placement; each prints a reason if it fails;
+//! - `fill CELL N` places a cell N times as it is drawn, under the labels 0 to N - 1, and prints how many placements there are;
+//! - `list` prints the placements, and `tiles SIDE` how many tiles of a side there are over them;
+//! - `deck | ..` prints the deck of a text whose lines have `; ` between them, of a copy of the text, and of its bytes alone.
 mod decks;
 mod top;
 
@@ -17,7 +13,7 @@ use crate::placings::top::Top;
 use anyhow::{Result, bail};
 use gate_words::placing;
 
-/// Commands over the placings.
+/// Commands about the placements.
 fn answer_top(rt: &(impl Print + AllocGlobal), top: &mut Top, words: &[&str]) -> Result<()> {
     match words {
         ["place", cell, label, turn, x, y] => {

@@ -1,13 +1,12 @@
-//! Plans of tiles, the windows that cuts make, and random ones compared with plain second bodies.
+//! Plans of tiles, the windows that cuts make, and random ones compared with plain second implementations.
 //!
-//! Each line is repeated, with the answer below. A line that begins with `#`, and an empty one, says nothing.
-//! - `plan X0 Y0 X1 Y1 SIDE DISTANCE` tells the number of tiles, and the core and the window of the last one, or that
-//!   there are too many;
-//! - `random N` sorts N times some rectangles into the windows of a plan, and compares each window with the list of the
-//!   rectangles that share a square with it;
+//! Each line is printed, with the answer below it. A line that begins with `#`, and an empty one, prints nothing.
+//! - `plan X0 Y0 X1 Y1 SIDE DISTANCE` prints the number of tiles, and the core and the window of the last one, or that there are too many;
+//! - `random N` sorts some rectangles into the windows of a plan, N times, and compares each window with the list of the rectangles that
+//!   share a square with it;
 //! - `new` begins with an empty shelf, `submit CELL TOP | ..` puts a library in the notation of `gate_samples` on it;
-//! - `cut SIDE DISTANCE | N R90 x y, ..` tells what each window lists for placed submissions, by number: of each rectangle
-//!   its layer, the submission from which it comes, and its corners; of many windows only how many there are;
+//! - `cut SIDE DISTANCE | N R90 x y, ..` prints what each window lists for placed submissions, by number: of each rectangle its layer, the
+//!   submission that it comes from, and its corners; of many windows only how many there are;
 //! - `cuts N` cuts N random layouts by five sides, and compares each window square by square with a plain flattening.
 mod cuts;
 mod plans;
@@ -17,7 +16,7 @@ mod windows;
 use anyhow::{Result, bail};
 use mpw_hier::Shelf;
 
-/// Commands over the shelf.
+/// Commands about the shelf.
 fn answer_shelf(
     rt: &(impl Print + AllocGlobal),
     shelf: &mut Shelf,

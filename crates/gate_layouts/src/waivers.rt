@@ -1,11 +1,11 @@
 //! Waivers of a book's markers, over a shelf.
 //!
-//! Each line is repeated, with the answer below. A line that begins with `#`, and an empty one, says nothing.
+//! Each line is printed, with the answer below it. A line that begins with `#`, and an empty one, prints nothing.
 //! - `new N` begins with an empty shelf and N markers without a waiver;
-//! - `submit CELL USER` puts a version of a cell on the shelf, which that user submitted, and tells its number;
-//! - `ask PLACE USER` asks for a waiver of the marker at a place, and `sign PLACE USER N ..` signs it, where the marker
-//!   meets the submissions of these numbers: each tells the word for it, or why not;
-//! - `list` tells the waivers, and `open` how many markers have no signed one.
+//! - `submit CELL USER` puts a version of a cell on the shelf, which that user submitted, and prints its number;
+//! - `ask PLACE USER` asks for a waiver of the marker at an index, and `sign PLACE USER N ..` signs it; the marker touches the submissions
+//!   of these numbers. Each prints the word for it, or why it failed;
+//! - `list` prints the waivers, and `open` how many markers have no signed one.
 mod shelves;
 mod signing;
 

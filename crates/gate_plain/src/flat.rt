@@ -1,5 +1,5 @@
-//! The flat list of placed submissions by plain recursion, and the unit squares of its shapes by their definition: a second
-//! opinion of walks, placings and rectangles.
+//! The flat list of placed submissions by plain recursion, and the unit squares of its shapes by their definition: a second implementation
+//! for walks, placings and rectangles.
 
 use crate::named::{bound, own};
 use anyhow::{Context, Result, bail};
@@ -12,7 +12,7 @@ use std::alloc::Global;
 /// More levels than a random layout has.
 const LEVELS: u32 = 8;
 
-/// No coordinate of a random shape is farther from its origin, with half a wire's width.
+/// No coordinate of a random shape is farther from its origin, including half a wire's width.
 const REACH: i64 = 90;
 
 /// A unit square, by its lower left corner.
@@ -29,7 +29,7 @@ pub struct Cell {
 pub struct Shown<'a> {
     /// The submission's number, from 0.
     pub origin: u32,
-    /// A boundary or a path, as its library has it.
+    /// A boundary or a path, as it is in its library.
     pub element: &'a Element,
     placings: Vec<Placing>,
 }
@@ -77,7 +77,7 @@ fn placed(placing: &Placing, cell: Cell) -> Cell {
 }
 
 impl Shown<'_> {
-    /// Where the shape's square comes.
+    /// The place of the shape's square.
     pub fn placed(&self, cell: Cell) -> Cell {
         let mut cell = cell;
         for placing in &self.placings {
@@ -87,7 +87,7 @@ impl Shown<'_> {
     }
 }
 
-/// The same placings with one more behind them.
+/// The same placings with one more before them.
 fn with(alloc: Global, placings: &[Placing], first: Placing) -> Result<Vec<Placing>> {
     let mut all = Vec::new(alloc);
     all.push(first)?;
@@ -138,7 +138,7 @@ fn instances(alloc: Global, reference: &Reference) -> Result<Vec<Placing>> {
     Ok(all)
 }
 
-/// Adds what a name shows to the submission of a number, under these placings.
+/// Adds the flat shapes of a name to the list, under these placings.
 fn flatten<'a>(
     list: &mut Vec<Shown<'a>>,
     shelf: &'a Shelf,
@@ -179,7 +179,7 @@ fn flatten<'a>(
 /// The shapes of placed submissions, each with its placings.
 ///
 /// # Errors
-/// Where a submission or a bound name is not there, where there are more levels than a random layout has, or no memory.
+/// A submission or a bound name doesn't exist, there are more levels than a random layout has, or out of memory.
 pub fn flat_list<'a>(alloc: Global, shelf: &'a Shelf, roots: &[Root]) -> Result<Vec<Shown<'a>>> {
     let mut list = Vec::new(alloc);
     for root in roots {
@@ -212,7 +212,7 @@ fn boundary_has(boundary: &Boundary, cell: Cell) -> bool {
     winding != 0
 }
 
-/// Whether the coordinate lies on a segment's span, lengthened on both sides.
+/// Whether the coordinate is on a segment's span, extended on both sides.
 fn is_along(from: i64, to: i64, before: i64, behind: i64, z: i64) -> bool {
     if from <= to {
         from.wrapping_sub(before) <= z && z < to.wrapping_add(behind)
@@ -259,7 +259,7 @@ pub fn has(element: &Element, cell: Cell) -> bool {
     }
 }
 
-/// The layer of a shape; none of a reference.
+/// The layer of a shape, or none for a reference.
 pub fn layer(element: &Element) -> Option<Layer> {
     match element {
         Element::Boundary(boundary) => Some(boundary.layer),
@@ -268,10 +268,10 @@ pub fn layer(element: &Element) -> Option<Layer> {
     }
 }
 
-/// The squares of a random layout's shape where they come.
+/// The squares of a random layout's shape at their places.
 ///
 /// # Errors
-/// Where there is no memory.
+/// Out of memory.
 pub fn squares_of(alloc: Global, shown: &Shown<'_>) -> Result<Vec<Cell>> {
     let mut squares = Vec::new(alloc);
     for x in -REACH..REACH {

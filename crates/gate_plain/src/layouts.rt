@@ -80,7 +80,7 @@ fn pad(alloc: Global, random: &mut Random) -> Result<String, AllocError> {
     Ok(text)
 }
 
-/// A chip that places pads and a structure of its own.
+/// A chip that places pads and its own structure.
 fn chip(alloc: Global, random: &mut Random) -> Result<String, AllocError> {
     let mut text = format!(in alloc; "CHIP:")?;
     text.push_str(shape(alloc, random)?.as_str())?;

@@ -1,9 +1,9 @@
-//! Random layouts for stored runs, and what they show, by plain second bodies.
+//! Random layouts for golden tests, and their shapes and markers by plain second implementations.
 //!
-//! [`layout`] makes a shelf with a pad and a chip that places it, alone and in arrays, in any orientation; [`roots`] places
-//! them. [`flat_list`] flattens placed submissions by plain recursion, [`squares_of`] tells the unit squares of a shape by
-//! their definition, and [`Picture`] paints them all and finds the markers of a rule square by square. Nothing here uses
-//! the walks, rectangles, bands or windows with which it is compared.
+//! [`layout`] makes a shelf with a pad and a chip that places it, alone and in arrays, in any orientation. [`roots`] places them.
+//! [`flat_list`] flattens placed submissions by plain recursion. [`squares_of`] gives the unit squares of a shape by their definition.
+//! [`Picture`] paints them all and finds the markers of a rule square by square. Nothing here uses the walks, rectangles, bands or windows
+//! that it is compared with.
 #![tactic(auto)]
 
 mod flat;

@@ -1,4 +1,4 @@
-//! What a name stands for in a submission, by a plain search.
+//! What a name refers to in a submission, by a plain search.
 
 use anyhow::{Result, bail};
 use mpw_geom::Name;
@@ -15,10 +15,10 @@ pub fn own<'a>(submission: &'a Submission, name: &Name) -> Option<&'a Structure>
     None
 }
 
-/// The submission to which the name is bound.
+/// The submission that the name is bound to.
 ///
 /// # Errors
-/// Where it isn't bound.
+/// It isn't bound.
 pub fn bound(submission: &Submission, name: &Name) -> Result<u32> {
     for binding in submission.bound.as_slice() {
         if binding.name.as_str() == name.as_str() {

@@ -17,7 +17,7 @@ pub struct Picture {
     reach: Box2,
 }
 
-/// The square's place in the picture; none outside.
+/// The square's index in the picture, or none outside.
 fn place(x: i64, y: i64) -> Option<usize> {
     let column = usize::try_from(x.wrapping_sub(CORNER)).ok()?;
     let row = usize::try_from(y.wrapping_sub(CORNER)).ok()?;
@@ -28,7 +28,7 @@ fn place(x: i64, y: i64) -> Option<usize> {
     }
 }
 
-/// The least box that has those squares and this one.
+/// The smallest box that has those squares and this one.
 fn reaching(reach: &Box2, cell: Cell) -> Box2 {
     Box2 {
         x0: reach.x0.min(cell.x),
@@ -42,7 +42,7 @@ impl Picture {
     /// The picture without squares.
     ///
     /// # Errors
-    /// Where there is no memory.
+    /// Out of memory.
     pub fn new(alloc: Global) -> Result<Picture> {
         let mut squares = Vec::with_capacity(alloc, SIDE * SIDE)?;
         squares.resize(SIDE * SIDE, 0u8)?;
@@ -68,7 +68,7 @@ impl Picture {
     /// Paints a shape.
     ///
     /// # Errors
-    /// Where it is on another layer, of another submission or outside, or there is no memory.
+    /// It is on another layer, of another submission or outside, or out of memory.
     pub fn paint(&mut self, alloc: Global, shown: &Shown<'_>) -> Result<()> {
         let layer = layer(shown.element).context("a shape")?.layer;
         if layer > 1 || shown.origin > 5 {
@@ -93,7 +93,7 @@ impl Picture {
         }
     }
 
-    /// Which of the two layers have the square: a bit each.
+    /// Which of the two layers have the square: one bit each.
     pub fn layers(&self, x: i64, y: i64) -> u8 {
         self.marks(x, y) & 3
     }

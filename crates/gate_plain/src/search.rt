@@ -1,4 +1,4 @@
-//! The markers of a picture, square by square: each pair of edges in each row is asked by the definition of its check.
+//! The markers of a picture, square by square: each pair of edges in each row is tested by the definition of its check.
 
 use crate::picture::Picture;
 use anyhow::Result;
@@ -17,14 +17,14 @@ struct Step {
     row: i64,
 }
 
-/// A maximal run of rows, from `y0` to before `y1`, with the submissions that it meets.
+/// A maximal run of rows, from `y0` to before `y1`, with the submissions that it touches.
 #[derive(Drop)]
 pub struct PlainMarker {
-    /// The rule's place in the deck, from 0.
+    /// The rule's index in the deck, from 0.
     pub rule: u32,
-    /// Whether its edges are horizontal; its coordinates are exchanged then.
+    /// Whether its edges are horizontal. Then its coordinates are exchanged.
     pub is_horizontal: bool,
-    /// Which of the two kinds of pairs that a rule of two layers finds; 0 of other rules.
+    /// Which of its two kinds of pairs a rule of two layers found; 0 for other rules.
     pub side: u8,
     /// The first edge, in nm.
     pub x1: i64,
@@ -32,9 +32,9 @@ pub struct PlainMarker {
     pub x2: i64,
     /// The first row, in nm.
     pub y0: i64,
-    /// The row behind the last one, in nm.
+    /// The row after the last one, in nm.
     pub y1: i64,
-    /// The numbers of the submissions that it meets, ascending, each once.
+    /// The numbers of the submissions that it touches, ascending, each once.
     pub met: Vec<u32>,
 }
 
@@ -178,7 +178,7 @@ fn meets(picture: &Picture, origin: u32, x0: i64, x1: i64, y0: i64, y1: i64) -> 
     )).any(|y| picture.is_of(origin, x, y)))
 }
 
-/// The submissions that the run meets, ascending.
+/// The submissions that the run touches, ascending.
 fn met(alloc: Global, picture: &Picture, run: &PlainMarker) -> Result<Vec<u32>> {
     let mut met = Vec::new(alloc);
     for origin in 0..6u32 {
@@ -194,7 +194,7 @@ fn met(alloc: Global, picture: &Picture, run: &PlainMarker) -> Result<Vec<u32>> 
     Ok(met)
 }
 
-/// Whether the step goes on the run.
+/// Whether the step continues the run.
 fn goes_on(run: &PlainMarker, step: &Step) -> bool {
     run.rule == step.rule
         && run.is_horizontal == (step.axis == 1)
@@ -228,10 +228,10 @@ fn runs(alloc: Global, steps: &[Step]) -> Result<Vec<PlainMarker>> {
     Ok(runs)
 }
 
-/// The markers of the rules, in order: a pass over all squares for each rule and axis.
+/// The markers of the rules, in order. Cost: a pass over all squares for each rule and axis.
 ///
 /// # Errors
-/// Where there is no memory.
+/// Out of memory.
 pub fn plain_markers(alloc: Global, picture: &Picture, rules: &[Rule]) -> Result<Vec<PlainMarker>> {
     let mut steps = Vec::new(alloc);
     for (place, rule) in rules.iter().enumerate() {

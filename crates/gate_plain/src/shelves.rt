@@ -13,7 +13,7 @@ use mpw_structures::Library;
 use mpw_walk::Root;
 use std::alloc::Global;
 
-/// Submits the top of a library, which may show so many shapes, as a cell.
+/// Submits the top of a library, which may have at most that many shapes, as a cell.
 fn put(
     alloc: Global,
     shelf: &mut Shelf,
@@ -41,7 +41,7 @@ fn put(
 /// Submits the top of a library in the samples' notation as a cell.
 ///
 /// # Errors
-/// Where the notation, the library or a name is refused, or there is no memory.
+/// The notation, the library or a name is refused, or out of memory.
 pub fn submit(
     alloc: Global,
     shelf: &mut Shelf,
@@ -52,11 +52,11 @@ pub fn submit(
     submit_text(alloc, shelf, cell, top, &text_of_library(alloc, notation)?)
 }
 
-/// Submits the top of a library, which may show so many shapes, as a cell: the number of the submission, or why the shelf
-/// refuses it.
+/// Submits the top of a library, which may have at most that many shapes, as a cell. It returns the number of the submission, or why the
+/// shelf refuses it.
 ///
 /// # Errors
-/// Where the library or a name is refused, or there is no memory.
+/// The library or a name is refused, or out of memory.
 pub fn put_text(
     alloc: Global,
     shelf: &mut Shelf,
@@ -76,7 +76,7 @@ pub fn put_text(
 /// Submits the top of a library as a cell.
 ///
 /// # Errors
-/// Where the library, a name or the submission is refused, or there is no memory.
+/// The library, a name or the submission is refused, or out of memory.
 pub fn submit_text(
     alloc: Global,
     shelf: &mut Shelf,
@@ -98,7 +98,7 @@ fn root(words: &[&str]) -> Result<Root> {
     })
 }
 
-/// Roots with commas between them.
+/// Roots, from a text with commas between them.
 pub fn placed_roots(alloc: Global, text: &str) -> Result<Vec<Root>> {
     let mut roots = Vec::new(alloc);
     for part in text.split(',') {

@@ -1,14 +1,13 @@
-//! What placings, boxes, names, reals and decks answer to the lines of the standard input.
+//! Placings, boxes, names, reals and decks: the answers to the lines of the standard input.
 //!
-//! Each line is repeated, with the answer below. A line that begins with `#`, and an empty one, says nothing.
-//! - `point R90 x y | x y` is where a placing takes a point, `box R90 x y | x y x y` where it takes a box;
-//! - `point R90 x y M0 x y | x y` is where one placing and then another take a point;
-//! - `inverse R90` undoes an orientation; `between x y x y` is a box by two corners;
-//! - `meets x y x y | x y x y` tells whether two closed boxes meet;
+//! Each line is printed, with the answer below it. A line that begins with `#`, and an empty one, prints nothing.
+//! - `point R90 x y | x y` prints the place of a point after a placing, `box R90 x y | x y x y` that of a box;
+//! - `point R90 x y M0 x y | x y` prints the place of a point after one placing and then another;
+//! - `inverse R90` inverts an orientation; `between x y x y` is a box by two corners;
+//! - `meets x y x y | x y x y` prints whether two closed boxes touch;
 //! - `name HEX` reads a name; `names N` sorts the names `n0` to `n(N-1)`, each twice; `order A B` compares names;
-//! - `real HEX` tells how many nm a real is, in metres; `real HEX | N` whether it is a whole number;
-//! - `deck [TEXT]` reads a deck, where `;` is a line feed, `\r` and `\t` what they are in Rust, and `rules N` in place
-//!   of a line is so many rules.
+//! - `real HEX` prints how many nm a real is, in metres; `real HEX | N` whether it is a whole number;
+//! - `deck [TEXT]` reads a deck, where `;` is a line feed, and `\r` and `\t` are as in Rust. `rules N` in place of a line gives N rules.
 mod decks;
 mod names;
 mod planes;
@@ -16,7 +15,7 @@ mod reals;
 
 use anyhow::{Result, bail};
 
-/// Answers the words before the bar and those behind it.
+/// Answers the words before the bar and those after it.
 fn answer_words(rt: &(impl Print + AllocGlobal), words: &[&str], more: &[&str]) -> Result<()> {
     match words {
         ["name", word] => names::name(rt, word),

@@ -1,6 +1,6 @@
-//! Golden tests of what the reader takes in: placings, names, reals and decks, libraries, hostile texts, and shapes.
+//! Golden tests of the readers: placings, names, reals and decks, libraries, hostile texts, and shapes.
 //!
-//! The standard input has tables of lines. A line `== NAME` begins a table; the module of that name says what its lines are.
+//! The standard input has tables of lines. A line `== NAME` begins a table. The module of that name says what its lines are.
 #![tactic(auto)]
 
 mod geometry;

@@ -1,4 +1,4 @@
--- The text of records, and the data of points, from a place on.
+-- The text of records, and the data of points, from an index on.
 use Rattle.std.proofs.Common.{◌≡◌, ℕ, ◌+◌, ◌<◌, ◌||◌, ℤ, IsTrue, Err, refl, sym, ap, ◌∙◌, List, ◌++◌, length, get_or, drop, map}
 use Rattle.std.proofs.lemmas.List.{at_drop_more}
 use Rattle.gate_samples.specs.declared.record.NewRecord.{NewRecord}
@@ -30,7 +30,7 @@ pub gives_err : {X : Type 0} (view : X → List ℕ) (front : List ℕ) (rs : Li
 gives_err view front rs errors.TooLong h = h refl
 gives_err view front rs errors.Memory h = tt
 
--- a record that is too long is among those from its place on
+-- a record that is too long is among those from its index on
 pub found_too_long : (rs : List NewRecord) (i : ℕ) (d : NewRecord) → i < length rs
     → has_too_long (map raw (drop i rs)) ≡ has_too_long (map raw rs)
     → IsTrue (is_too_long (raw (get_or rs i d))) → IsTrue (has_too_long (map raw rs))

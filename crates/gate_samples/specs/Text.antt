@@ -13,7 +13,7 @@ pub record RecordData : Type 0 where
   pub data_type : ℕ
   pub bytes : List ℕ
 
--- A record without where its data lies in memory.
+-- A record, whatever address its data has.
 abbrev pub raw : NewRecord → RecordData
 raw r = record { kind = r.0; data_type = r.1; bytes = r.2.now }
 
@@ -21,24 +21,24 @@ raw r = record { kind = r.0; data_type = r.1; bytes = r.2.now }
 abbrev pub record_bytes : RecordData → List ℕ
 record_bytes r = bytes_high_first 2 (length r.bytes + 4) ++ r.kind ∷ r.data_type ∷ r.bytes
 
--- Records one behind another.
+-- Records one after another.
 unfoldable pub text_of : List RecordData → List ℕ
 text_of rs = flat_map record_bytes rs
 
--- A length of two bytes tells of at most 65531 bytes of data.
+-- A length of two bytes allows at most 65531 bytes of data.
 abbrev pub is_too_long : RecordData → Bool
 is_too_long r = nat_lt 65531 (length r.bytes)
 
 unfoldable pub has_too_long : List RecordData → Bool
 has_too_long rs = list_any is_too_long rs
 
--- A call that adds records: they stand behind the old text, or nothing has changed.
+-- A call that adds records: they come after the old text, or nothing has changed.
 abbrev pub Adds : {X : Type 0} → Result X SampleError → List ℕ → List ℕ → List RecordData → Type 0
 Adds (Ok x) old new rs = (has_too_long rs ≡ false) × (new ≡ old ++ text_of rs)
 Adds (Err errors.TooLong) old new rs = IsTrue (has_too_long rs) × (new ≡ old)
 Adds (Err errors.Memory) old new rs = new ≡ old
 
--- What a call gives, seen by view: the records behind a front.
+-- The result of a call, as contracts see it: the records after a front.
 abbrev pub Gives : {X : Type 0} → (X → List ℕ) → Result X SampleError → (front : List ℕ)
     → List RecordData → Type 0
 Gives view (Ok x) front rs = (has_too_long rs ≡ false) × (view x ≡ front ++ text_of rs)

@@ -17,7 +17,7 @@ pub fn pad(alloc: Global, text: &str) -> Result<Vec<u8>, AllocError>
     Ok(bytes)
 }
 
-/// Adds the coordinates of a point. After an error some of them may stand there.
+/// Adds the coordinates of a point. After an error some of them may have been added.
 fn add_point(bytes: &mut Vec<u8>, point: &(i32, i32)) -> Result<(), AllocError>
     ensures { OnOk result (bytes.new.items ≡ bytes.old.items ++ point_bytes point.now) }
 {

@@ -12,7 +12,7 @@ pub enum SampleError {
     /// A record's data has more than 65531 bytes.
     #[error("a record has at most 65531 bytes of data")]
     TooLong,
-    /// There was no room for the record.
+    /// Memory ran out.
     #[error("out of memory")]
     Memory,
 }

@@ -1,6 +1,6 @@
-//! Small GDSII libraries for stored runs, built record by record or by a short notation ([`text_of_library`]).
+//! Small GDSII libraries for golden tests, built record by record or by a short notation ([`text_of_library`]).
 //!
-//! A [`Sample`] begins with a unit, takes structures with their elements, and gives its bytes:
+//! A [`Sample`] begins with a unit, takes structures with their elements, and returns its bytes:
 //! ```text
 //! let mut text = Sample::new(alloc, NANOMETRE)?;
 //! text.begin("TOP")?;

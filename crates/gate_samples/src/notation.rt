@@ -6,10 +6,10 @@
 //! - `w L/D type width begin end x y ..` is a path; a field that is `.` has no record;
 //! - `s NAME x y` places a structure, and `s NAME x y R90` with STRANS and ANGLE (`M` mirrors first);
 //! - `a NAME columns rows x y x y x y` places an array, with the three points of its XY, `R90` as before;
-//! - four hex digits are a record's type and data type, with its data behind: numbers of two bytes (02) or of
-//!   four (03), a text (06), else bytes in hex; a word `=..` gives the bytes of any type in hex;
+//! - four hex digits are a record's type and data type, followed by its data: numbers of two bytes (02) or of four (03), a text (06), else
+//!   bytes in hex; a word `=..` gives the bytes of any type in hex;
 //! - `unit ..`, first, is the unit in metres, eight bytes in hex; `bare`, first, leaves out the head;
-//! - `chain N` is structures `S0` to `S(N-1)`, a square and then each placing the one before;
+//! - `chain N` is structures `S0` to `S(N-1)`: a square, and then each places the one before;
 //! - `fan N` is structures `F0` to `F(N-1)` with a square each, and `places NAME N` places `NAME0` to `NAME(N-1)`;
 //! - `grid N` is N squares, and `stairs N` a path of width 2 through N points, with steps of 1; `open` leaves a structure without its end.
 
@@ -20,7 +20,7 @@ use crate::shapes::{add_grid, add_path, add_polygon, add_rectangle, add_stairs};
 use crate::words::{NotationError, hex_bytes};
 use std::alloc::Global;
 
-/// Adds one item behind the others.
+/// Adds one item after the others.
 fn add_words(text: &mut Sample, alloc: Global, words: &[&str]) -> Result<(), NotationError> {
     let [key, rest @ ..] = words else {
         return Ok(());
@@ -40,7 +40,7 @@ fn add_words(text: &mut Sample, alloc: Global, words: &[&str]) -> Result<(), Not
     }
 }
 
-/// A text in the making, and whether a structure was begun.
+/// A text that is being made, and whether a structure was begun.
 #[derive(Drop)]
 struct Draft {
     text: Sample,
@@ -115,8 +115,7 @@ impl Draft {
 /// The text of a library in the notation.
 ///
 /// # Errors
-/// `Notation` where an item or a word isn't one of the notation, or a record gets more than 65531 bytes of data;
-/// `Memory`.
+/// `Notation` if an item or a word isn't one of the notation, or a record gets more than 65531 bytes of data; `Memory` if out of memory.
 pub fn text_of_library(alloc: Global, notation: &str) -> Result<Vec<u8>, NotationError> {
     let mut draft = Draft::new(alloc)?;
     for item in notation.split(';') {

@@ -6,14 +6,14 @@ ghost use Rattle.gate_samples.specs.Text.{raw, record_bytes, is_too_long, Gives}
 use crate::error::SampleError;
 use std::alloc::Global;
 
-/// The most bytes of data that a record's length of two bytes can tell of.
+/// The most bytes of data that a record's length of two bytes allows.
 pub const MAX_DATA: usize = 65531;
 
 /// A record to be written: its type, its data type (0 to 6 in the standard), and its data.
 #[derive(Clone, Copy)]
 pub struct NewRecord<'a>(pub u8, pub u8, pub &'a [u8]);
 
-/// Adds a record behind `text`. After an error some of it may stand there.
+/// Adds a record after `text`. After an error a part of it may have been added.
 fn add(text: &mut Vec<u8>, new: NewRecord<'_>) -> Result<(), SampleError>
     ensures ok { OnOk result (text.new.items ≡ text.old.items ++ record_bytes (raw new.entry)) }
     ensures fits { OnOk result (is_too_long (raw new.entry) ≡ false) }
@@ -29,10 +29,10 @@ fn add(text: &mut Vec<u8>, new: NewRecord<'_>) -> Result<(), SampleError>
     Ok(())
 }
 
-/// The text of records, one behind another.
+/// The text of records, one after another.
 ///
 /// # Errors
-/// `TooLong` where a record's data has more than 65531 bytes; `Memory`.
+/// `TooLong` if a record's data has more than 65531 bytes; `Memory` if out of memory.
 pub fn text_of(alloc: Global, records: &[NewRecord<'_>]) -> Result<Vec<u8>, SampleError>
     ensures { Gives (λ text. text.items) result [] (map raw records.now) }
 {

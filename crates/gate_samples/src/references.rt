@@ -32,7 +32,7 @@ fn add_orientation(text: &mut Sample, words: &[&str]) -> Result<(), NotationErro
     Ok(text.record(kind::ANGLE, 5, &[first, second, third, 0, 0, 0, 0, 0])?)
 }
 
-/// An SREF: a name, x and y, and an orientation where there is a word more. Coordinates are in database units.
+/// An SREF: a name, x and y, and an orientation if there is one more word. Coordinates are in database units.
 pub fn add_single(text: &mut Sample, words: &[&str]) -> Result<(), NotationError> {
     let [name, x, y, rest @ ..] = words else {
         return Err(NotationError::Notation);
@@ -51,8 +51,8 @@ fn add_columns_and_rows(text: &mut Sample, columns: &str, rows: &str) -> Result<
     Ok(text.record(kind::COLROW, 2, &[c1, c0, r1, r0])?)
 }
 
-/// An AREF: a name, columns and rows, the origin and the points behind the last column and the last row, and an
-/// orientation where there is a word more. Coordinates are in database units.
+/// An AREF: a name, columns and rows, the origin and the points after the last column and the last row, and an orientation if there is one
+/// more word. Coordinates are in database units.
 pub fn add_array(text: &mut Sample, alloc: Global, words: &[&str]) -> Result<(), NotationError> {
     let [name, columns, rows, x0, y0, x1, y1, x2, y2, rest @ ..] = words else {
         return Err(NotationError::Notation);
@@ -65,7 +65,7 @@ pub fn add_array(text: &mut Sample, alloc: Global, words: &[&str]) -> Result<(),
     Ok(text.record(kind::ENDEL, 0, &[])?)
 }
 
-/// Places of names with a number behind.
+/// Places structures whose names are a name and a number.
 pub fn add_places(text: &mut Sample, alloc: Global, words: &[&str]) -> Result<(), NotationError> {
     let [name, count] = words else {
         return Err(NotationError::Notation);
@@ -86,7 +86,7 @@ fn add_link(text: &mut Sample, alloc: Global, level: u32) -> Result<(), Notation
     Ok(text.end()?)
 }
 
-/// So many structures `S0`, `S1` and so on, of which each places the one before; `S0` has a square.
+/// Structures `S0`, `S1` and so on, of which each places the one before. `S0` has a square.
 pub fn add_chain(text: &mut Sample, alloc: Global, words: &[&str]) -> Result<(), NotationError> {
     let [count] = words else {
         return Err(NotationError::Notation);
@@ -97,7 +97,7 @@ pub fn add_chain(text: &mut Sample, alloc: Global, words: &[&str]) -> Result<(),
     Ok(())
 }
 
-/// So many structures `F0`, `F1` and so on, each with a square.
+/// Structures `F0`, `F1` and so on, each with a square.
 pub fn add_fan(text: &mut Sample, alloc: Global, words: &[&str]) -> Result<(), NotationError> {
     let [count] = words else {
         return Err(NotationError::Notation);

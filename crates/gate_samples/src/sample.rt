@@ -1,7 +1,7 @@
 //! A text that grows by records.
 //!
-//! To contracts it is the list of its bytes. The records of a call are written aside and then added
-//! at once, so that an error leaves the text as it was.
+//! Contracts see the list of its bytes. The records of a call are written elsewhere and then added at once, so that an error leaves the
+//! text unchanged.
 
 ghost use Rattle.std.specs.Prelude.{◌≡◌, [], ◌∷◌, map};
 ghost use Rattle.gate_samples.specs.Text.{raw, Adds, Gives, short, long, string, xy, head, begin, end, boundary, single, array, last};
@@ -19,7 +19,7 @@ pub const NANOMETRE: [u8; 8] = [0x39, 0x44, 0xB8, 0x2F, 0xA0, 0x9B, 0x5A, 0x54];
 /// The real of 0.001, the database unit in user units.
 const USER_UNIT: [u8; 8] = [0x3E, 0x41, 0x89, 0x37, 0x4B, 0xC6, 0xA7, 0xF0];
 
-/// A GDSII text in the making.
+/// A GDSII text that is being made.
 #[derive(Drop)]
 pub struct Sample {
     bytes: Vec<u8>,
@@ -34,7 +34,7 @@ impl Model for Sample {
 }
 
 impl Sample {
-    /// A text with nothing in it. Takes no memory.
+    /// An empty text. It takes no memory.
     pub fn empty(alloc: Global) -> Sample
         ensures { result ≡ [] }
     {
@@ -46,7 +46,7 @@ impl Sample {
     /// A library with this unit in metres, up to UNITS.
     ///
     /// # Errors
-    /// Want of memory.
+    /// Out of memory.
     pub fn new(alloc: Global, unit: [u8; 8]) -> Result<Sample, SampleError>
         ensures { Gives (λ sample. sample) result [] (head unit) }
     {
@@ -71,7 +71,7 @@ impl Sample {
         Ok(Sample { bytes })
     }
 
-    /// Adds records behind the others: all of them, or none.
+    /// Adds records after the others: all of them, or none.
     fn add(&mut self, records: &[NewRecord<'_>]) -> Result<(), SampleError>
         ensures { Adds result self.old self.new (map raw records.now) }
     {
@@ -83,8 +83,7 @@ impl Sample {
     /// A record of a type and a data type, with this data.
     ///
     /// # Errors
-    /// `TooLong` where the data has more than 65531 bytes; `Memory`. The text is then as it was.
-    /// The same holds for the calls below.
+    /// `TooLong` if the data has more than 65531 bytes; `Memory` if out of memory. Then the text is unchanged. The same holds for the calls below.
     pub fn record(&mut self, kind: u8, data_type: u8, bytes: &[u8]) -> Result<(), SampleError>
         ensures { Adds result self.old self.new (record { kind = kind; data_type = data_type; bytes = bytes.now } ∷ []) }
     {
@@ -205,7 +204,7 @@ impl Sample {
         Ok(self.bytes)
     }
 
-    /// The bytes so far. Takes no memory.
+    /// The bytes so far. It takes no memory.
     pub fn into_bytes(self) -> Vec<u8>
         ensures { result.items ≡ self }
     {

@@ -16,7 +16,7 @@ pub fn add_rectangle(text: &mut Sample, words: &[&str]) -> Result<(), NotationEr
     Ok(text.boundary(layer, datatype, &corners)?)
 }
 
-/// A BOUNDARY: its layer, and its points in database units, the closing one too where it is wanted.
+/// A BOUNDARY: its layer, and its points in database units, including the closing one if it is wanted.
 pub fn add_polygon(text: &mut Sample, alloc: Global, words: &[&str]) -> Result<(), NotationError> {
     let [on, rest @ ..] = words else {
         return Err(NotationError::Notation);
@@ -45,8 +45,7 @@ fn add_path_head(text: &mut Sample, on: &str, form: &str) -> Result<(), Notation
     Ok(text.short(kind::PATHTYPE, short(form)?)?)
 }
 
-/// A PATH: its layer, PATHTYPE, WIDTH, BGNEXTN and ENDEXTN, each left out where its word is `.`, and its points, all in
-/// database units.
+/// A PATH: its layer, PATHTYPE, WIDTH, BGNEXTN and ENDEXTN, each left out if its word is `.`, and its points, all in database units.
 pub fn add_path(text: &mut Sample, alloc: Global, words: &[&str]) -> Result<(), NotationError> {
     let [on, form, width, begin, end, rest @ ..] = words else {
         return Err(NotationError::Notation);
@@ -59,7 +58,7 @@ pub fn add_path(text: &mut Sample, alloc: Global, words: &[&str]) -> Result<(), 
     Ok(text.record(kind::ENDEL, 0, &[])?)
 }
 
-/// So many squares with sides of 4 database units, each 1 to the right of the one before, so that they overlap.
+/// Squares with sides of 4 database units, each 1 to the right of the one before, so that they overlap.
 pub fn add_grid(text: &mut Sample, words: &[&str]) -> Result<(), NotationError> {
     let [count] = words else {
         return Err(NotationError::Notation);

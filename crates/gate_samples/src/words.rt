@@ -11,7 +11,7 @@ pub enum NotationError {
     /// A word or an item isn't one of the notation.
     #[error("not in the notation of samples")]
     Notation,
-    /// There was no room for the text.
+    /// Memory ran out.
     #[error("out of memory")]
     Memory,
 }

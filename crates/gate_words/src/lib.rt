@@ -1,5 +1,4 @@
-//! What the lines of golden tests are made of: tables of lines, numbers, placings, boxes and checks by their words; and random numbers
-//! that are the same on each run.
+//! The words in lines of golden tests: tables of lines, numbers, placings, boxes and checks; and random numbers that are the same in each run.
 #![tactic(auto)]
 
 mod markers;

@@ -9,7 +9,7 @@ use std::alloc::Global;
 /// The axis `V` or `H`.
 ///
 /// # Errors
-/// At another word.
+/// Another word.
 pub fn axis(word: &str) -> Result<Axis> {
     match word {
         "V" => Ok(Axis::V),
@@ -21,7 +21,7 @@ pub fn axis(word: &str) -> Result<Axis> {
 /// The side `0` or `1`.
 ///
 /// # Errors
-/// At another word.
+/// Another word.
 pub fn side(word: &str) -> Result<u8> {
     match word {
         "0" => Ok(0),
@@ -38,10 +38,10 @@ fn letter(axis: Axis) -> &'static str {
     }
 }
 
-/// Prints a marker on a line of its own: its key, and the submissions that it meets.
+/// Prints a marker on its own line: its key, and the submissions that it touches.
 ///
 /// # Errors
-/// Where the output fails.
+/// The output fails.
 pub fn print_marker(rt: &impl Print, marker: &Marker) -> Result<()> {
     let axis = letter(marker.axis);
     print!(rt;
@@ -54,10 +54,10 @@ pub fn print_marker(rt: &impl Print, marker: &Marker) -> Result<()> {
     Ok(println!(rt; "")?)
 }
 
-/// The marker of a line of seven words: rule, axis, side, x1, x2, y0, y1. It meets no submission.
+/// The marker of a line of seven words: rule, axis, side, x1, x2, y0, y1. It touches no submission.
 ///
 /// # Errors
-/// Where a word is none, or there is no memory.
+/// A word is wrong, or out of memory.
 pub fn marker(alloc: Global, line: &str) -> Result<Marker> {
     let words: Vec<&str> = line.split_whitespace().collect(alloc)?;
     let [rule, on, of, x1, x2, y0, y1] = words.as_slice() else {

@@ -6,7 +6,7 @@ use std::alloc::Global;
 /// The coordinate of a word, in nm.
 ///
 /// # Errors
-/// Where the word is no 64-bit number.
+/// The word is no 64-bit number.
 pub fn coordinate(word: &str) -> Result<i64> {
     match word.parse::<i64>() {
         Ok(number) => Ok(number),
@@ -14,7 +14,7 @@ pub fn coordinate(word: &str) -> Result<i64> {
     }
 }
 
-/// The coordinate of a word; 0 without one, or where it is no 64-bit number.
+/// The coordinate of a word. It is 0 without a word, or if the word is no 64-bit number.
 pub fn coordinate_or_zero(word: Option<&str>) -> i64 {
     match word {
         Some(word) => word.parse::<i64>().unwrap_or(0),
@@ -25,7 +25,7 @@ pub fn coordinate_or_zero(word: Option<&str>) -> i64 {
 /// The number of a word.
 ///
 /// # Errors
-/// Where the word is no 32-bit number.
+/// The word is no 32-bit number.
 pub fn number(word: &str) -> Result<u32> {
     match word.parse::<u32>() {
         Ok(number) => Ok(number),
@@ -36,7 +36,7 @@ pub fn number(word: &str) -> Result<u32> {
 /// The numbers of words, in order.
 ///
 /// # Errors
-/// Where a word is no 32-bit number, or there is no memory.
+/// A word is no 32-bit number, or out of memory.
 pub fn numbers(alloc: Global, words: &[&str]) -> Result<Vec<u32>> {
     let mut numbers = Vec::new(alloc);
     for word in words {

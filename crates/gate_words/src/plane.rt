@@ -25,7 +25,7 @@ pub const ORIENTS: [(&str, Orient); 8] = [
 /// The orientation of a word.
 ///
 /// # Errors
-/// Where the word is none's.
+/// No orientation has the word.
 pub fn orient(word: &str) -> Result<Orient> {
     for (name, orient) in ORIENTS {
         if name == word {
@@ -48,7 +48,7 @@ pub fn orient_word(wanted: Orient) -> &'static str {
 /// An orientation and a displacement in nm.
 ///
 /// # Errors
-/// Where a word is no orientation or no coordinate.
+/// A word is no orientation or no coordinate.
 pub fn placing(turn: &str, x: &str, y: &str) -> Result<Placing> {
     let orient = orient(turn)?;
     let by = Point {
@@ -61,7 +61,7 @@ pub fn placing(turn: &str, x: &str, y: &str) -> Result<Placing> {
 /// The box of four words.
 ///
 /// # Errors
-/// Where there are more or fewer words, or one is no coordinate.
+/// There are more or fewer words, or one is no coordinate.
 pub fn coordinates(words: &[&str]) -> Result<Box2> {
     let [x0, y0, x1, y1] = words else {
         bail!("four coordinates");
@@ -74,14 +74,14 @@ pub fn coordinates(words: &[&str]) -> Result<Box2> {
     })
 }
 
-/// Whether a coordinate lies within -2^48 to 2^48 nm.
+/// Whether a coordinate is from -2^48 to 2^48 nm.
 pub fn is_coordinate(z: i64) -> bool
     ensures { (result ≡ true) ↔ IsCoordinate z }
 {
     -FAR <= z && z <= FAR
 }
 
-/// Whether the box's corners lie within -2^48 to 2^48 nm.
+/// Whether the coordinates of the box's corners are from -2^48 to 2^48 nm.
 pub fn is_near(b: &Box2) -> bool
     ensures { (result ≡ true) ↔ IsBoxInPlane b.now }
 {

@@ -1,4 +1,4 @@
-//! Random numbers that are the same on each run.
+//! Random numbers that are the same in each run.
 
 /// A linear congruential generator.
 #[derive(Drop)]
@@ -12,7 +12,7 @@ impl Random {
         Random { state: seed }
     }
 
-    /// A number from 0 up to before `bound`; 0 where that is 0.
+    /// A number from 0 up to before `bound`, or 0 if `bound` is 0.
     pub fn below(&mut self, bound: u32) -> u32 {
         self.state = self
             .state

@@ -3,7 +3,7 @@
 use anyhow::{Result, bail};
 use std::alloc::Global;
 
-/// What a line begins with that names the next table.
+/// The beginning of a line that names the next table.
 const HEAD: &str = "== ";
 
 /// A table of lines.

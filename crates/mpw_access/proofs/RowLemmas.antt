@@ -1,4 +1,4 @@
--- What the first tests of a row deny.
+-- What the first tests of a decision table deny.
 use Rattle.std.proofs.Common.{◌≡◌, ℕ, Bool, true, false, cond, Ok, Err, refl}
 use Rattle.std.specs.Prelude.{is_some}
 use Rattle.mpw_permissions.specs.declared.permission.Operation.{Operation}

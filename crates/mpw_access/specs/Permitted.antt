@@ -1,4 +1,4 @@
--- The tests with which most rows begin.
+-- The first tests of most decision tables.
 use Rattle.std.specs.Prelude.{◌≡◌, ℕ, Bool, false, [], ◌∷◌, is_some, Result, Err}
 use Rattle.mpw_roles.specs.Decided.{decided}
 use Rattle.mpw_permissions.specs.declared.permission.Operation.{Operation}
@@ -14,7 +14,7 @@ abbrev pub in_session : Policy → ℕ → Bool × Ending
 in_session policy connection =
     (is_some (session_of policy connection), ending.Denied denial.Session)
 
--- What a row that needs no permission tests first.
+-- The first test of a decision table that needs no permission.
 abbrev pub session_test : Policy → ℕ → Result (Unit {0}) Ending
 session_test policy connection = decided (in_session policy connection ∷ []) tt
 

@@ -1,4 +1,4 @@
-//! What a session may enter, and which submissions it sees: the first tests of most rows, and what listings ask of the policy.
+//! What a session may do, and which submissions it sees: the first tests of most decision tables, and what listings need to know of the policy.
 #![tactic(auto)]
 
 mod seen;

@@ -7,10 +7,10 @@ use mpw_permissions::{Object, Operation};
 use mpw_rbac::Policy;
 use std::alloc::{AllocError, Global};
 
-/// Which submissions are of cells that the connection's session may read, by number: one look-up each.
+/// Which submissions are of cells that the connection's session may read, by number. Cost: one look-up each.
 ///
 /// # Errors
-/// Where there is no room.
+/// Out of memory.
 pub fn seen_by(
     alloc: Global,
     policy: &Policy,

@@ -1,4 +1,4 @@
-//! The tests with which most rows begin: that the connection has a session, and that this may do an operation.
+//! The first tests of most decision tables: the connection has a session, and this may do an operation.
 ghost use Rattle.std.specs.Prelude.{◌≡◌, IfOk, IfErr};
 ghost use Rattle.mpw_rbac.specs.Rows.{user_of};
 ghost use Rattle.mpw_replies.specs.Rows.{Answers};
@@ -10,10 +10,10 @@ use mpw_permissions::{Object, Operation};
 use mpw_rbac::Policy;
 use mpw_replies::{Denial, Ending, Fault};
 
-/// The connection has a session: what rows test that need no permission. A look through the sessions.
+/// Tests that the connection has a session. Decision tables that need no permission begin with this test. Cost: a search of the sessions.
 ///
 /// # Errors
-/// A denial where there is none.
+/// A denial if there is no session.
 pub fn need_session(policy: &Policy, connection: u32) -> Result<(), Fault>
     ensures row { Answers (λ x. x) result (session_test policy.now connection) }
     ensures told { IfErr result (λ fault. fault ≡ Fault.Told (Ending.Denied Denial.Session)) }
@@ -24,11 +24,11 @@ pub fn need_session(policy: &Policy, connection: u32) -> Result<(), Fault>
     Ok(())
 }
 
-/// The user of the connection's session, which may do the operation on the object: what most rows test first. A look through the
-/// sessions, and a look-up of the object.
+/// The user of the connection's session, if it may do the operation on the object. Most decision tables begin with this test. Cost: a
+/// search of the sessions, and a look-up of the object.
 ///
 /// # Errors
-/// A denial where there is no session, or where it lacks the permission; want of memory for the user's name.
+/// A denial if there is no session, or it lacks the permission. Out of memory for the user's name.
 pub fn enter(
     policy: &Policy,
     connection: u32,
@@ -47,7 +47,7 @@ pub fn enter(
     Ok(user.copy()?)
 }
 
-/// The denial that [`enter`] tells names a permission that the connection's session lacks. A law: the function does nothing.
+/// If [`enter`] denies a permission, the connection's session lacks it. A law: the function does nothing.
 pub fn entering_denies_what_is_lacked()
     ensures { EnteringDeniesWhatIsLacked }
 {}

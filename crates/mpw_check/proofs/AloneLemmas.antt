@@ -10,13 +10,13 @@ use Rattle.mpw_hier.specs.Shelf.{bound_to, present}
 use Rattle.mpw_structures.specs.declared.structures.Structure.{Structure}
 use Rattle.mpw_check.specs.Drawn.{offered, told, IsOfTop}
 
--- No names are bound to nothing.
+-- The bindings of no names are empty.
 pub none-bound : (names : List (List ℕ)) (bound : List Binding) → names ≡ [] → bound ≡ []
     → bound_to [] names ≡ Some bound
 unfolding bound_to
 none-bound names bound no_names no_bound = rw (no_names, no_bound) refl
 
--- What keeps it from an empty shelf is told.
+-- The refusal of an empty shelf is that of the structures.
 pub refused-alone : (top : List ℕ) (library : List Structure) (fault : HierFault)
     → AreExternals library top [] → IsRefused (2 ^ 40) [] (offered top library) fault
     → IsOfTop top library (told fault)
@@ -30,7 +30,7 @@ refused-alone top library limits.Shapes whole why = (whole, why)
 refused-alone top library limits.Deep whole why = (whole, why)
 refused-alone top library limits.Full whole why = absurd (let full = why.1.1.1 in cc)
 
--- The same of a shelf that is empty, and a submission that is the top's.
+-- The same for a shelf that is empty, and a submission that is the top's.
 pub refused-from-empty : (shelf : List Submission) (submission : Submission) (top : List ℕ)
     (library : List Structure) (fault : HierFault) → shelf ≡ [] → submission ≡ offered top library
     → AreExternals library top [] → IsRefused (2 ^ 40) shelf submission fault

@@ -30,7 +30,7 @@ module _ {X : Type 0} (most : ℕ) (xs : List X) (x : X) where
       ap (λ (ys : List X). ys ++ x ∷ []) (take_all most xs (omega (arith, lt)))
       ∙ sym (take_all most (xs ++ x ∷ []) (omega (arith, lt, long)))
 
--- none was looked at
+-- no marker was read
 pub none_seen : (most rules : ℕ) (book : List Marker) (f : FirstMarkers) → f.markers.items ≡ []
     → f.counts.items ≡ replicate rules 0 → AreFirstSeen most (take 0 book) f
 none_seen most rules book f none zeros = record {
@@ -50,7 +50,7 @@ rule_counted rules book i m counts inside at below long =
     (All-get_or (λ m. m.rule < rules) book i m inside below) in
     omega (arith, own, long)
 
--- the counts are at most as many as were looked at
+-- the counts are at most the number of markers that were read
 pub count_few : (most : ℕ) (book : List Marker) (i place : ℕ) (f : FirstMarkers)
     → i < length book → AreFirstSeen most (take i book) f → place < length f.counts.items
     → slice_index f.counts.items place ≤ i
@@ -67,7 +67,7 @@ count_few most book i place f inside seen within =
 module _ (most : ℕ) (book : List Marker) (i : ℕ) (m : Marker) (old new : FirstMarkers)
     (inside : i < length book) (at : m ≡ get_or book i m) (there : m.rule < length old.counts.items)
     (adds : AddsOne most m old new) (seen : AreFirstSeen most (take i book) old) where
-  -- one of the rule more, or the same
+  -- one more of the rule, or the same
   seen_more : (place : ℕ)
       → of_rule (take (i + 1) book) place
       ≡ of_rule (take i book) place ++ cond (m.rule == place) (m ∷ []) []

@@ -1,4 +1,4 @@
--- Lists of tiles that follow on one another, and the lists of all tiles.
+-- Lists of consecutive tiles, and the lists of all tiles.
 use Rattle.std.proofs.Common.{◌≡◌, ◌∙◌, ◌+◌, ◌-◌, inl, inr, ap, sym, subst, length, ℕ, zero, suc, ◌<◌, [], ◌∷◌, ◌++◌, List, Option, Some, None, arith, refl, rules, get_or, length-append}
 use Rattle.std.specs.Prelude.{Contains, Result, Ok, Err, IfOk}
 use Rattle.std.proofs.lemmas.Bool.{cases_lt}
@@ -18,7 +18,7 @@ use Rattle.mpw_tiles.specs.Snapshots.{Snapshot, IsSnapshot, shown, shown_extent,
 use Rattle.mpw_check.specs.Lists.{only_run, tile_job_with, IsOfTile, AreOfTiles, tile_count, TilesFollowOn, TilesMakeTheLayout}
 use Rattle.mpw_check.proofs.TileLemmas.{count-planned, count-unplanned}
 
--- ---- lists that follow on one another
+-- ---- consecutive lists
 
 pub no_lists : (s : Snapshot) (first : ℕ) → AreOfTiles s first first []
 no_lists s first = record { count = omega arith; own = λ k less. absurd (omega (arith, less)) }
@@ -51,7 +51,7 @@ follow_on s first mid end lists more front back = record { count = counted; own 
 
 -- ---- a window for each tile
 
--- What is so of the head at 0 and of the tail behind it is so at each place.
+-- What holds for the head at 0 and for the tail after it holds at each index.
 at_each : {W : Type 0} (P : ℕ → W → Type 0) (d w : W) (ws : List W) (n : ℕ) → P 0 w
     → ((k : ℕ) → k < n → P (suc k) (get_or ws k d))
     → (k : ℕ) → k < suc n → P k (get_or (w ∷ ws) k d)
@@ -63,7 +63,7 @@ record Chosen {W : Type 0} (P : ℕ → W → Type 0) (d : W) (n : ℕ) : Type 0
   count : length items ≡ n
   each : (k : ℕ) → k < n → P k (get_or items k d)
 
--- Where there is something for each place, there is a list with something for each.
+-- If there is something for each index, there is a list with something for each.
 choose : {W : Type 0} (P : ℕ → W → Type 0) (d : W) (n : ℕ)
     → ((k : ℕ) → k < n → (w : W) × P k w) → Chosen P d n
 choose P d zero some =
@@ -162,7 +162,7 @@ make_the_layout answers determine without s total lists book sound counted of st
         planned_layout answers s plan total lists book sound e
         (count-planned s.deck (shown_extent s) plan total e counted) of stitched
 
--- What is stitched from the lists of all tiles has the layout's markers.
+-- The book stitched from the lists of all tiles has the layout's markers.
 pub of_stitched : TilesMakeTheLayout → {E : Type 0} (s : Snapshot) (total : ℕ)
     (lists : List (List Marker)) (stitched : Result (List Marker) E) → IsSnapshot s
     → tile_count s ≡ Some total → AreOfTiles s 0 total lists

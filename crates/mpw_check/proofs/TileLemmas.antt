@@ -1,4 +1,4 @@
--- Answers of tiles' jobs have a list for each tile, and each is the tile's.
+-- The answers of tiles' jobs have a list for each tile, and each is the tile's.
 use Rattle.std.proofs.Common.{◌≡◌, ◌∙◌, ◌+◌, ◌-◌, ap, sym, subst, map, length, ℕ, ◌<◌, ◌≤◌, [], List, Option, Some, None, arith, refl, inl, inr, get_or}
 use Rattle.std.specs.Prelude.{All, option_map}
 use Rattle.std.specs.List.{slice_index_or}
@@ -30,13 +30,13 @@ answered-job (answers.Cut a) tile_job e answered = absurd cc
 answered-job (answers.Tile a) tile_job e answered =
     let same : a.job ≡ tile_job = cc in rw (← same) answered
 
--- As many answers as tiles.
+-- There are as many answers as tiles.
 as-many : (s : Snapshot) (plan : Tiling) (windows : List (List Rectangle)) (first end : ℕ)
     (xs : List Answer) → map job_of xs ≡ jobs_of s plan windows first end → length xs ≡ end - first
 as-many s plan windows first end xs e = sym (length-map xs job_of) ∙ ap length e
     ∙ length-map-range_with_len (job_at s plan windows) first (end - first)
 
--- The answer at a place.
+-- The answer at an index.
 answered-at : (s : Snapshot) (plan : Tiling) (windows : List (List Rectangle)) (first end : ℕ)
     (xs : List Answer) (k : ℕ) (x : Answer) → map job_of xs ≡ jobs_of s plan windows first end
     → All IsAnswered xs → k < length xs → k < end - first → get_or xs k x ≡ x
@@ -51,7 +51,7 @@ answered-at s plan windows first end xs k x e all within small at =
     rw (get_or-map markers_in xs k x [] within, at)
     (answered-job x (tile_job_of s plan windows only_run (first + k)) job answered)
 
--- The window of a tile shows it.
+-- The window of a tile represents it.
 shows-tile : (s : Snapshot) (plan : Tiling) (windows : List (List Rectangle)) (tile : ℕ)
     → plan_for s ≡ Some plan → StandFor s windows → tile < tiles plan
     → IsWindow (IsShown (shown s)) (tile_window plan tile) (slice_index_or windows tile [])
@@ -97,7 +97,7 @@ of_tiles s plan windows first end xs lists is_cut ordered within e all is =
 
 -- ---- how many tiles there are
 
--- With a plan there are its tiles.
+-- With a plan, the tiles are its tiles.
 pub count-planned : (deck : Deck) (extent : Option Box2) (plan : Tiling) (total : ℕ)
     → plan_over deck extent ≡ Some plan
     → count_over extent (plan_over deck extent) ≡ Some total → total ≡ tiles plan
@@ -116,14 +116,14 @@ count-unplanned deck (Some extent) total e counted = absurd (
     subst (λ p. option_map tiles p ≡ Some total) e counted in cc
     )
 
--- Tiles that are there are tiles of the plan.
+-- Tiles that exist are tiles of the plan.
 pub within_plan : (s : Snapshot) (first end : ℕ) (plan : Tiling) → AreTiles s first end
     → plan_for s ≡ Some plan → (first ≤ end) × (end ≤ tiles plan)
 within_plan s first end plan there planned =
     let total = count-planned s.deck (shown_extent s) plan there.total planned there.counted in
     (there.ordered, let within = there.within in omega (arith, within, total))
 
--- Without a plan none are there.
+-- Without a plan there are none.
 pub none_there : (s : Snapshot) (first end : ℕ) (lists : List (List Marker))
     → AreTiles s first end → plan_for s ≡ None → lists ≡ [] → AreOfTiles s first end lists
 none_there s first end lists there unplanned none =
@@ -135,7 +135,7 @@ none_there s first end lists there unplanned none =
       own = λ k less. absurd (omega (arith, less));
     })
 
--- All tiles are there.
+-- All tiles exist.
 pub all_there : (s : Snapshot) (total : ℕ) → tile_count s ≡ Some total → AreTiles s 0 total
 all_there s total counted =
     record { ordered = omega arith; total = total; counted = counted; within = omega arith }

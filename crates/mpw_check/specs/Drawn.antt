@@ -1,4 +1,4 @@
--- A library's top, placed where it was drawn, under a deck; and why it can't be.
+-- A library's top, placed where it was drawn, under a deck; and why that can fail.
 use Rattle.std.specs.Prelude.{◌≡◌, ℕ, ◌^◌, List, [], ◌∷◌, None, Ok, Err}
 use Rattle.mpw_deck.specs.Decks.{Deck}
 use Rattle.mpw_hier.specs.declared.fault.HierFault.{HierFault}
@@ -20,7 +20,7 @@ abbrev pub offered : List ℕ → List Structure → Submission
 offered top library =
     record { cell = top; version = 0; submitter = top; library = library; top = top; bound = [] }
 
--- The shelf that has it alone, and what is checked: that submission, where it was drawn.
+-- The shelf that has only this submission, and what is checked: the submission where it was drawn.
 abbrev pub drawn_shelf : List ℕ → List Structure → List Submission
 drawn_shelf top library = numbered [] (offered top library) ∷ []
 
@@ -35,13 +35,13 @@ pub record IsDrawn (deck : Deck) (top : List ℕ) (library : List Structure) (sn
   pub limited : KeepsLimits (2 ^ 40) [] (offered top library)
   pub snapshot_is : snapshot ≡ drawn deck top library
 
--- The text is a library's, which is drawn.
+-- The text is that of a valid library, which is drawn.
 pub record IsDrawnFrom (deck : Deck) (top text : List ℕ) (snapshot : Snapshot) : Type 0 where
   pub library : List Structure
   pub read : library_of text ≡ Ok library
   pub drawn : IsDrawn deck top library snapshot
 
--- Why the top's structures can't be checked: there is no top, one stands below itself, or they go beyond a limit.
+-- Why the top's structures can't be checked: there is no top, one contains itself, or they exceed a limit.
 abbrev pub IsOfStructures : List ℕ → List Structure → HierFault → Type 0
 IsOfStructures top library limits.NoTop = place_of library top ≡ None
 IsOfStructures top library limits.Cycle = IsCyclic library top
@@ -55,14 +55,14 @@ IsOfStructures top library limits.Memory = ⊥
 IsOfStructures top library limits.NoCell = ⊥
 IsOfStructures top library limits.Full = ⊥
 
--- Why a library's top can't be checked: its structures, or names outside the library. Want of memory may come at any place.
+-- Why a library's top can't be checked: its structures, or names outside the library. Out of memory may come at any time.
 abbrev pub IsOfTop : List ℕ → List Structure → CheckFault → Type 0
 IsOfTop top library faults.Memory = Unit {0}
 IsOfTop top library (faults.Library fault) = ⊥
 IsOfTop top library (faults.Outside names) = AreExternals library top names × (names ≡ [] → ⊥)
 IsOfTop top library (faults.Structure fault) = IsOfStructures top library fault
 
--- The text is a library's, whose top can't be checked.
+-- The text is that of a valid library whose top can't be checked.
 pub record IsOfLibrary (top text : List ℕ) (fault : CheckFault) : Type 0 where
   pub library : List Structure
   pub read : library_of text ≡ Ok library
@@ -75,7 +75,7 @@ IsOfText top text (faults.Library fault) = library_of text ≡ Err fault
 IsOfText top text (faults.Outside names) = IsOfLibrary top text (faults.Outside names)
 IsOfText top text (faults.Structure fault) = IsOfLibrary top text (faults.Structure fault)
 
--- What is told of a structure's fault.
+-- The fault that reports a structure's fault.
 abbrev pub told : HierFault → CheckFault
 told limits.Memory = faults.Memory
 told limits.NoTop = faults.Structure limits.NoTop

@@ -1,4 +1,4 @@
--- The markers of tiles, a list for each, and what comes of the lists of all tiles.
+-- The markers of tiles, a list for each, and what follows for the lists of all tiles.
 use Rattle.std.specs.Prelude.{◌≡◌, ◌≤◌, ◌<◌, ◌+◌, ℕ, List, [], ◌++◌, length, slice_index_or, Option, Some, None, option_map}
 use Rattle.mpw_geom.specs.declared.plane.Box2.{Box2}
 use Rattle.mpw_job.specs.Answers.{TileJob, Answers}
@@ -25,7 +25,7 @@ tile_job_with s plan window tile = record {
   rules = s.deck.rules;
 }
 
--- The markers are those of the tile of the snapshot's plan: they answer its job with a window that shows the layout there.
+-- The markers are those of the tile of the snapshot's plan: they answer its job with a window that represents the layout there.
 pub record IsOfTile (s : Snapshot) (tile : ℕ) (markers : List Marker) : Type 0 where
   pub plan : Tiling
   pub planned : plan_for s ≡ Some plan
@@ -39,7 +39,7 @@ pub record AreOfTiles (s : Snapshot) (first end : ℕ) (lists : List (List Marke
   pub count : first + length lists ≡ end
   pub own : (k : ℕ) → k < length lists → IsOfTile s (first + k) (slice_index_or lists k [])
 
--- How many tiles there are: none without shapes; nothing is told where there would be more than 4096.
+-- How many tiles there are: 0 without shapes; none if there would be more than 4096.
 abbrev pub count_over : Option Box2 → Option Tiling → Option ℕ
 count_over None plan = Some 0
 count_over (Some extent) plan = option_map tiles plan
@@ -47,7 +47,7 @@ count_over (Some extent) plan = option_map tiles plan
 abbrev pub tile_count : Snapshot → Option ℕ
 tile_count s = count_over (shown_extent s) (plan_for s)
 
--- The tiles from `first` to below `end` are there.
+-- The tiles from `first` to below `end` exist.
 pub record AreTiles (s : Snapshot) (first end : ℕ) : Type 0 where
   pub ordered : first ≤ end
   pub total : ℕ
@@ -56,14 +56,14 @@ pub record AreTiles (s : Snapshot) (first end : ℕ) : Type 0 where
 
 -- ---- laws
 
--- The lists of tiles, and behind them those of the tiles that follow, are the lists of all these tiles.
+-- The lists of some tiles, followed by those of the next tiles, are the lists of all these tiles.
 abbrev pub TilesFollowOn : Type 0
 TilesFollowOn =
     (s : Snapshot) (first mid end : ℕ) (lists more : List (List Marker))
     → AreOfTiles s first mid lists → AreOfTiles s mid end more
     → AreOfTiles s first end (lists ++ more)
 
--- The book stitched from the lists of all tiles has just the markers of the flat layout.
+-- The book stitched from the lists of all tiles has exactly the markers of the flat layout.
 abbrev pub TilesMakeTheLayout : Type 0
 TilesMakeTheLayout =
     (s : Snapshot) (total : ℕ) (lists : List (List Marker)) (book : List Marker)

@@ -1,4 +1,4 @@
-//! Checking: by tiles, with the cut, a job a tile, and the stitching, or by columns.
+//! Checks a layout: by tiles, with a cut, a job for each tile, and the stitching; or by columns.
 
 ghost use Rattle.std.specs.Prelude.{◌≡◌, ◌≤◌, Some, length, map, All, IfOk, IfSome};
 ghost use Rattle.mpw_job.specs.Layout.{AreLayoutMarkers};
@@ -24,10 +24,10 @@ const ONLY_RUN: u32 = 1;
 /// The greatest number of tiles of a batch.
 const MAX_BATCH: u32 = 128;
 
-/// The most shapes of a layout that is checked by tiles, whose windows are all held at once.
+/// The most flat shapes of a layout that is checked by tiles. All its windows are in memory at once.
 const MAX_IN_TILES: u64 = 1 << 20;
 
-/// More shapes than these go by columns where few structures show them.
+/// A layout with more flat shapes than this is checked by columns if few structures have them.
 const MANY_PLACED: u64 = 1 << 16;
 
 /// A snapshot with its plan, and the windows into which it is cut for it.
@@ -58,7 +58,7 @@ fn tile_jobs(
     Ok(jobs)
 }
 
-/// The markers of an answer; none of a cut.
+/// The markers of an answer; none for a cut.
 fn markers_in(answer: &Answer) -> Result<TileMarkers, AllocError>
     ensures { IfOk result (λ markers. markers ≡ markers_in answer.now) }
 {
@@ -79,7 +79,7 @@ fn lists_of(alloc: Global, answers: &[Answer]) -> Result<Vec<TileMarkers>, Alloc
     Ok(lists)
 }
 
-/// Each answer's markers answer its job. A law: the function does nothing.
+/// A law; the function does nothing. Each answer's markers answer its job.
 fn is_answered(answer: &Answer)
     ensures { IsAnswered answer.now }
 {
@@ -88,7 +88,7 @@ fn is_answered(answer: &Answer)
     }
 }
 
-/// The same of answers, one by one.
+/// The same for answers, one by one.
 fn are_answered(answers: &[Answer])
     ensures { All IsAnswered answers.now }
 {
@@ -126,7 +126,7 @@ fn marker_count(lists: &[TileMarkers]) -> usize {
     markers
 }
 
-/// The same, one batch after another; progress is told before the first and after each.
+/// The same, batch by batch. Progress is reported before the first batch and after each.
 fn tile_lists<P: Progress>(
     rt: &(impl Threads + Sync),
     alloc: Global,
@@ -155,7 +155,7 @@ fn tile_lists<P: Progress>(
     Ok(lists)
 }
 
-/// The same of a snapshot with that plan, which is cut for them.
+/// The same for a snapshot with that plan. It is cut first.
 fn planned_lists<P: Progress>(
     rt: &(impl Threads + Sync),
     alloc: Global,
@@ -180,7 +180,7 @@ fn planned_lists<P: Progress>(
     tile_lists(rt, alloc, &layout, first, end, progress)
 }
 
-/// How many tiles there are to check, at most 4096: 0 without shapes, and none where there would be more. Linear in the roots and
+/// How many tiles there are to check, at most 4096. It is 0 without shapes, and `None` if there would be more than 4096. Cost: linear in the roots and
 /// the rules; takes no memory.
 pub fn tile_count(snapshot: &Snapshot) -> Option<u32>
     ensures count { result ≡ tile_count snapshot.now }
@@ -195,15 +195,15 @@ pub fn tile_count(snapshot: &Snapshot) -> Option<u32>
     }
 }
 
-/// The markers of the tiles from `first` to below `end`, counted from 0, a list for each. Lists of all tiles, found anywhere, are
+/// The markers of the tiles from `first` to below `end`, counted from 0, one list for each. The lists of all tiles, wherever they were found, can be
 /// stitched to the markers of the layout ([`tiles_make_the_layout`]).
 ///
-/// The layout is cut once; each of these tiles is a job, and the jobs are done in at most two threads for each
-/// processor, in batches of up to 128 tiles, whose jobs alone are held at a time. Progress is told after the cut and after
-/// each batch. It costs what [`mpw_tiles::cut`] and [`mpw_work::do_job`] for each of these tiles do.
+/// The layout is cut once. Each of these tiles is a job, and the jobs are executed in at most two threads for each processor, in batches of
+/// up to 128 tiles. Only the jobs of a batch are in memory at a time. Progress is reported after the cut and after each batch. Cost: that
+/// of [`mpw_tiles::cut`], and of [`mpw_work::do_job`] for each of these tiles.
 ///
 /// # Errors
-/// Want of memory.
+/// Out of memory.
 #[tactic(auto, using(crate::proofs::TileLemmas::within_plan, crate::proofs::TileLemmas::none_there))]
 pub fn check_tiles<P: Progress>(
     rt: &(impl Threads + Sync),
@@ -222,7 +222,7 @@ pub fn check_tiles<P: Progress>(
     }
 }
 
-/// The markers of so many tiles, which are all.
+/// The book of a layout that is checked by tiles. `tiles` is the number of all tiles.
 #[tactic(auto, using(crate::proofs::TileLemmas::all_there))]
 pub(crate) fn check_all<P: Progress>(
     rt: &(impl Threads + Sync),
@@ -240,7 +240,7 @@ pub(crate) fn check_all<P: Progress>(
     stitch(alloc, &lists)
 }
 
-/// How many shapes the layout shows, up to 2^64 - 1.
+/// How many flat shapes the layout has, up to 2^64 - 1.
 fn shape_count(snapshot: &Snapshot) -> u64 {
     let mut count = 0u64;
     for root in snapshot.roots() {
@@ -249,10 +249,13 @@ fn shape_count(snapshot: &Snapshot) -> u64 {
     count
 }
 
-/// How many tiles [`check_layout`] checks a layout by; none where it goes by columns, as it does where the layout shows more than 2^20 shapes, where more than
-/// 4096 tiles of the deck's side cover it, where arrays show half of it, since equal columns of these are checked once, and where it shows more than 2^16 and
-/// four at least for each that is drawn and each reference, since equal parts of columns are. A look at the children of
-/// a structure each level of these arrays, and one pass over the structures.
+/// By how many tiles [`check_layout`] checks a layout. `None` if it checks the layout by columns. It does so in each of these cases:
+/// - if there are more than 2^20 flat shapes;
+/// - if more than 4096 tiles of the deck's side cover the layout;
+/// - if arrays have at least half of its flat shapes, since equal columns of these are checked once;
+/// - if there are more than 2^16 flat shapes, and at least four for each drawn shape and each reference, since equal parts of columns are checked once.
+///
+/// Cost: a visit of the children of a structure on each level of these arrays, and one pass over the structures.
 pub fn checked_tiles(snapshot: &Snapshot) -> Option<u32>
     ensures { IfSome result (λ tiles. tile_count snapshot.now ≡ Some tiles) }
 {
@@ -266,19 +269,19 @@ pub fn checked_tiles(snapshot: &Snapshot) -> Option<u32>
     tile_count(snapshot)
 }
 
-/// The markers of the flat layout of a snapshot's roots under its deck, in the order of their keys, where the shelf has one submission
-/// alone.
+/// The markers of the flat layout of a snapshot's roots under its deck, in the order of their keys, if the shelf has exactly one
+/// submission.
 ///
-/// A layout of at most 2^20 shapes that at most 4096 tiles of the deck's side cover is checked by tiles, unless few structures show most of it ([`checked_tiles`]):
-/// that costs what [`check_tiles`] does for all tiles, and [`mpw_markers::stitch`]. Every other one goes by columns, and costs what [`check_columns`] does with
-/// [`MAX_SHOWN`]: which way it goes takes no part in what is found. Progress is told of tiles or of columns. What goes by columns may be
-/// made to take long, or much memory, since
-/// - a column holds the rectangles of all shapes that meet its window, however many stand there;
-/// - wires over all columns are listed in each, so columns that halving would ease by less than a quarter stay whole;
-/// - each column walks over all instances of an array that meets its window.
+/// A layout of at most 2^20 flat shapes that at most 4096 tiles of the deck's side cover is checked by tiles, unless few structures have most of it
+/// ([`checked_tiles`]). The cost is that of [`check_tiles`] for all tiles, and of [`mpw_markers::stitch`]. All other layouts are checked by columns, at the
+/// cost of [`check_columns`] with [`MAX_SHOWN`]. The result is the same either way. Progress reports tiles or columns. Some layouts make a check by columns
+/// slow, or make it need much memory:
+/// - a column holds the rectangles of all shapes that touch its window, however many there are;
+/// - wires across all columns are listed in each, so columns that halving would ease by less than a quarter stay whole;
+/// - each column walks over all instances of an array that touches its window.
 ///
 /// # Errors
-/// Want of memory.
+/// Out of memory.
 pub fn check_layout<P: Progress>(
     rt: &(impl Threads + Sync),
     alloc: Global,

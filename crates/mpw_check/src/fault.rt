@@ -1,4 +1,4 @@
-//! Why a library's top isn't checked.
+//! The reasons why a library's top isn't checked.
 
 ghost use Rattle.std.specs.Prelude.{◌≡◌};
 ghost use Rattle.mpw_check.specs.Drawn.{told};
@@ -12,13 +12,13 @@ use std::alloc::AllocError;
 /// Why a library's top isn't checked.
 #[derive(Drop)]
 pub enum CheckFault {
-    /// Want of memory.
+    /// Out of memory.
     Memory,
-    /// The text isn't a library's: its first fault.
+    /// The text is not a valid library: its first fault.
     Library(ReadFault),
-    /// The top shows names outside the library: these, in order, each once.
+    /// The top reaches names outside the library: these, in order, each once.
     Outside(Names),
-    /// There is no top, one of its structures stands below itself, or they go beyond a limit.
+    /// There is no top, one of its structures contains itself, or they exceed a limit.
     Structure(HierFault),
 }
 

@@ -1,7 +1,7 @@
-//! The first markers of each rule of a layout, as many as are wanted, and how many there are.
+//! Finds the first markers of each rule of a layout, and how many markers there are.
 //!
-//! A layout that goes by tiles has its whole book stitched, and one pass over that counts and takes them. One that goes by columns, which may have
-//! more markers than there is memory for, is left to [`first_of_columns`], which doesn't keep the others.
+//! If a layout is checked by tiles, its whole book is stitched, and one pass over it counts and selects them. A layout that is checked by columns can have
+//! more markers than there is memory for. It is left to [`first_of_columns`], which doesn't store the others.
 
 ghost use Rattle.std.specs.Prelude.{◌≡◌, ◌<◌, ◌+◌, ◌^◌, [], Some, length, replicate, slice_index, All, IfOk, OnOk};
 ghost use Rattle.mpw_columns.specs.First.{IsFirstOfLayout};
@@ -16,7 +16,7 @@ use mpw_tiles::Snapshot;
 use std::alloc::{AllocError, Global};
 use std::thread::Threads;
 
-/// Counts a marker, and takes it where fewer of its rule than are wanted were. An error is want of memory.
+/// Counts a marker, and stores it if fewer than `most` of its rule were stored. The only error is out of memory.
 fn add_one(first: &mut FirstMarkers, marker: &Marker, most: usize) -> Result<(), AllocError>
     requires there { marker.now.rule < length first.old.counts.items }
     requires room { slice_index first.old.counts.items marker.now.rule + 1 < 2 ^ 64 }
@@ -31,7 +31,7 @@ fn add_one(first: &mut FirstMarkers, marker: &Marker, most: usize) -> Result<(),
     Ok(())
 }
 
-/// None of so many rules yet, where there are so many markers. An error is want of memory.
+/// No markers of `rules` rules yet, out of `all`. The only error is out of memory.
 fn none_yet(alloc: Global, rules: usize, all: usize) -> Result<FirstMarkers, AllocError>
     ensures none { IfOk result (λ f. f.markers.items ≡ []) }
     ensures zeros { IfOk result (λ f. f.counts.items ≡ replicate rules 0) }
@@ -44,7 +44,7 @@ fn none_yet(alloc: Global, rules: usize, all: usize) -> Result<FirstMarkers, All
     })
 }
 
-/// The first markers of each of so many rules of a book. One pass; an error is want of memory.
+/// The first markers of each of `rules` rules of a book. One pass; the only error is out of memory.
 fn first_of_book(
     alloc: Global,
     rules: usize,
@@ -61,7 +61,7 @@ fn first_of_book(
     Ok(first)
 }
 
-/// Those of a layout of so many tiles, which are all, by way of its whole book.
+/// The first markers of a layout, from its whole book. `tiles` is the number of all tiles.
 fn first_of_tiles<P: Progress>(
     rt: &(impl Threads + Sync),
     alloc: Global,
@@ -78,14 +78,14 @@ fn first_of_tiles<P: Progress>(
     first_of_book(alloc, rules, book.as_slice(), most)
 }
 
-/// The first markers of each rule of the flat layout of a snapshot's roots under its deck, as many as are wanted, with how many each rule
-/// has and how many there are, where the shelf has one submission alone: those of [`check_layout`](crate::check_layout).
+/// The first markers of each rule of the flat layout of a snapshot's roots under its deck, at most `most` of each, with how many each rule
+/// has and how many there are, if the shelf has exactly one submission. They are the first of [`check_layout`](crate::check_layout).
 ///
-/// It goes the way of that, by tiles or by columns. By tiles, of which there are at most 4096, the whole book is held before it is looked through once;
-/// by columns it costs what [`first_of_columns`] does with [`MAX_SHOWN`], which doesn't hold the others. Which way it goes takes no part in what is found.
+/// It checks in the same way, by tiles or by columns. By tiles, of which there are at most 4096, the whole book is in memory before one pass over it.
+/// By columns it costs what [`first_of_columns`] does with [`MAX_SHOWN`], which doesn't store the others. The result is the same either way.
 ///
 /// # Errors
-/// Want of memory.
+/// Out of memory.
 pub fn first_of_layout<P: Progress>(
     rt: &(impl Threads + Sync),
     alloc: Global,

@@ -1,4 +1,4 @@
-//! Laws of the definitions alone.
+//! Laws about the definitions.
 
 ghost use Rattle.mpw_check.specs.Lists.{TilesFollowOn, TilesMakeTheLayout};
 ghost use Rattle.mpw_check.specs.Tiled.{MarkersAreTheLibrarys};
@@ -7,21 +7,21 @@ use mpw_job::{answers_make_the_layout, no_shapes_no_markers};
 use mpw_markers::lists_determine_the_book;
 use mpw_walk::roots_at_origin_show_their_submission;
 
-/// The markers of what [`crate::read_layout`] gives are those of the flat list of the library's top, by itself, under the
-/// deck's rules: no placing, no tile and no shelf of others has a part in them.
+/// The markers of a layout that [`crate::read_layout`] returns are those of the flat list of the library's top, by itself, under the
+/// deck's rules. Placings, tiles and other submissions don't matter.
 pub fn markers_are_the_librarys()
     ensures { MarkersAreTheLibrarys }
 {
     roots_at_origin_show_their_submission();
 }
 
-/// The lists of tiles, and behind them those of the tiles that follow, are the lists of all these tiles. A law: the function does
-/// nothing.
+/// A law; the function does nothing. The lists of some tiles, followed by those of the next tiles, are the lists of all these
+/// tiles.
 pub fn tiles_follow_on()
     ensures { TilesFollowOn }
 {}
 
-/// The book stitched from the lists of all tiles, wherever each was found, has just the markers of the flat layout.
+/// The book stitched from the lists of all tiles, wherever each was found, has exactly the markers of the flat layout.
 pub fn tiles_make_the_layout()
     ensures { TilesMakeTheLayout }
 {

@@ -1,4 +1,4 @@
-//! What is checked: the top of a library, placed where it was drawn.
+//! Reads what is checked: the top of a library, placed where it was drawn.
 
 ghost use Rattle.std.specs.Prelude.{◌≡◌, ◌∷◌, [], IfOk, IfErr};
 ghost use Rattle.mpw_hier.specs.Outline.{IsOutline};
@@ -22,7 +22,7 @@ use mpw_walk::{Root, roots_at_origin_show_their_submission};
 use std::alloc::{AllocError, Global};
 use std::sync::Arc;
 
-/// The outline of a library, whose top shows no name outside it.
+/// The outline of a library whose top reaches no name outside it.
 fn outline_of(alloc: Global, library: &Library, top: &Name) -> Result<Outline, CheckFault>
     ensures outline { IfOk result (IsOutline library.now top.now) }
     ensures whole { IfOk result (λ outline. outline.names ≡ []) }
@@ -49,7 +49,7 @@ fn offer(alloc: Global, library: Library, top: &Name) -> Result<Submission, Allo
     })
 }
 
-/// The shelf that has the top of a library alone, which shows no name outside it.
+/// The shelf whose only submission is the top of a library. The top reaches no name outside the library.
 fn shelve(
     alloc: Global,
     library: Library,
@@ -70,7 +70,7 @@ fn shelve(
     }
 }
 
-/// The shelf that has the top of a library alone.
+/// The shelf whose only submission is the top of a library.
 fn shelf_of(alloc: Global, library: Library, top: &Name) -> Result<Shelf, CheckFault>
     requires { IsLibrary library }
     ensures ok { IfOk result (IsShelved top.now library) }
@@ -93,7 +93,7 @@ fn root() -> Root
     }
 }
 
-/// What is checked of a shelf that has a top alone.
+/// The snapshot of a shelf that has only a top.
 fn snapshot_of(alloc: Global, deck: Deck, shelf: Shelf) -> Result<Snapshot, AllocError>
     requires { AreRoots shelf (root_at_origin 0 ∷ []) }
     ensures { IfOk result (λ s. s ≡ record { deck = deck; roots = root_at_origin 0 ∷ []; shelf = shelf }) }
@@ -103,7 +103,7 @@ fn snapshot_of(alloc: Global, deck: Deck, shelf: Shelf) -> Result<Snapshot, Allo
     Snapshot::new(alloc, deck, roots, shelf)
 }
 
-/// A library's top under a deck.
+/// The snapshot of a library's top under a deck.
 fn draw(alloc: Global, deck: Deck, library: Library, top: &Name) -> Result<Snapshot, CheckFault>
     requires { IsLibrary library }
     ensures ok { IfOk result (IsDrawn deck top.now library) }
@@ -117,12 +117,12 @@ fn draw(alloc: Global, deck: Deck, library: Library, top: &Name) -> Result<Snaps
 }
 
 /// Reads a library's text, and places its structure `top` where it was drawn (orientation R0, at the origin, in nm) under a
-/// deck. Its points stay in the text, which the layout shares. It costs what reading takes, a search for each name, and a pass
-/// over the structures that the top shows.
+/// deck. Its points stay in the text, which the layout shares. Cost: that of reading, a search for each name, and a pass
+/// over the structures that the top reaches.
 ///
 /// # Errors
-/// The first fault of the text; a top that isn't in it, stands below itself, shows names outside the library, or goes beyond a
-/// limit (2^30 nm, 2^40 shapes, 64 levels); or want of memory.
+/// The first fault of the text; a top that isn't in it, contains itself, reaches names outside the library, or exceeds a
+/// limit (2^30 nm, 2^40 shapes, 64 levels); or out of memory.
 pub fn read_layout(
     alloc: Global,
     deck: Deck,

@@ -1,14 +1,14 @@
-//! A library's top checked by itself, under a deck, as a firm does before it submits.
+//! Checks a library's top by itself, under a deck, as a firm does before it submits.
 //!
-//! [`read_layout`] reads a library and places its top where it was drawn; [`check_layout`] cuts it into tiles, finds each
-//! tile's markers in at most two threads for each processor, and stitches them, or where it has too many tiles or shapes for that goes by
-//! columns ([`mpw_columns::check_columns`]). The markers are those of the flat
-//! layout of that top alone, whatever the tiles' side ([`markers_are_the_librarys`]). A [`Progress`] is told how many tiles or
-//! columns are checked. [`first_of_layout`] goes the same way, and gives the first markers of each rule, as many as are wanted, and how many
-//! there are.
-//!
-//! [`check_tiles`] finds the markers of some tiles: the lists of all tiles, stitched, are the layout's markers again
-//! ([`tiles_make_the_layout`]).
+//! - [`read_layout`] reads a library and places its top where it was drawn.
+//! - [`check_layout`] cuts it into tiles, finds each tile's markers in at most two threads for each processor, and stitches them. If there are
+//!   too many tiles or shapes for that, it checks by columns ([`mpw_columns::check_columns`]). The markers are those of the flat layout of
+//!   that top alone, whatever the tiles' side ([`markers_are_the_librarys`]). It reports to a [`Progress`] how many tiles or columns are
+//!   checked.
+//! - [`first_of_layout`] checks in the same way. It returns the first markers of each rule, and how many
+//!   there are.
+//! - [`check_tiles`] finds the markers of some tiles. The lists of all tiles, stitched, are the layout's markers again
+//!   ([`tiles_make_the_layout`]).
 #![tactic(auto)]
 
 mod check;

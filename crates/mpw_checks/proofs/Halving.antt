@@ -23,7 +23,7 @@ use Rattle.mpw_checks.specs.Strips.{IsStrip, HasStepIn, FindsIn}
 use Rattle.mpw_checks.specs.Internal.Strips.{AddsStrips}
 use Rattle.mpw_checks.specs.Internal.Cells.{StepsIn, window_of, AreAlikeIn, AreHalves, IsMiddle, left_of, right_of}
 
--- a pair step belongs to just one half
+-- a pair step belongs to exactly one half
 step_in_half : (rule : Rule) (a b : Squares) (core low high : Box2) → AreHalves core low high
     → (axis : Axis) (side : ℕ) (x1 x2 j : ℤ) → HasStep rule a b core axis side x1 x2 j
     → HasStep rule a b low axis side x1 x2 j ⊎ HasStep rule a b high axis side x1 x2 j
@@ -108,7 +108,7 @@ AddsStrips-halves distance old mid new first second f s f' s' core low high axis
               (inr (seen rule distance le first second f' s' high p' q' axis line j u))
         ]
 
--- a strip with just the steps of P is added
+-- a strip with exactly the steps of P is added
 pub AddsStrips-push : (distance : ℕ) (old new : List Strip) (s : Strip) (P : Rule → Line → ℤ
     → Type 0) → new ≡ old ++ s ∷ [] → IsStrip s
     → ((rule : Rule) (line : Line) (j : ℤ) → HasStepIn rule line j s ↔ P rule line j)
@@ -129,7 +129,7 @@ AddsStrips-push distance old new s P e is h =
     from rule line j (inl o) = Held-push_left (HasStepIn rule line j) old s o
     from rule line j (inr p) = Held-push_new (HasStepIn rule line j) old s ((h rule line j).1 p)
 
--- strips that were added to none, seen in a window of the boxes
+-- strips that were added to none, from a window of the boxes
 pub all_steps : (distance : ℕ) (new : List Strip) (first second f s : List Box2) (core : Box2)
     (axis : Axis) → AreAlikeIn (window_of core distance) first f
     → AreAlikeIn (window_of core distance) second s
@@ -145,7 +145,7 @@ all_steps distance new first second f s core axis p q added rule le line j = (
       (inr (seen rule distance le first second f s core p q axis line j t)),
 )
 
--- runs that hold just the places of P are added
+-- runs that have exactly the positions of P are added
 pub Adds-found : (old found new : List Run) (P : Line → ℤ → Type 0) → new ≡ old ++ found
     → ((line : Line) (j : ℤ) → CoversPlace found line j ↔ P line j) → All IsFilled found
     → Adds old new P
@@ -202,7 +202,7 @@ in_plane_columns core at p h =
       record { x0 = m; y0 = p.y0; x1 = p.x1; y1 = p.y1 },
     )
 
--- the slices that code hands on
+-- the slices that the code passes on
 pub seen_slices : (slice boxes : List Box2) → slice ≡ boxes → (window : Box2) (parts : List Box2)
     → AreAlikeIn window slice parts → AreAlikeIn window boxes parts
 seen_slices slice boxes e window parts h = subst (λ (x : List Box2). AreAlikeIn window x parts) e h
@@ -230,7 +230,7 @@ joined_places runs joined P h same line j = (
     to (inl c) = absurd (omega (arith, c.1.1))
     to (inr p) = p
 
--- the places of runs, told of the list that holds the strips
+-- the positions of runs, for the list that has the strips
 pub places_of : (runs : List Run) (seen strips : List Strip) (rule : Rule) (a b : Squares)
     (core : Box2) (axis : Axis) → seen ≡ strips
     → ((line : Line) (j : ℤ) → CoversPlace runs line j ↔ FindsIn seen rule line j)
@@ -243,7 +243,7 @@ places_of runs seen strips rule a b core axis e h g line j =
     (h line j) in
     (λ c. (g line j).0 (told.0 c), λ s. told.1 ((g line j).1 s))
 
--- the places of runs, told of a strip's bands
+-- the positions of runs, for a strip's bands
 pub places_in : (runs : List Run) (rule : Rule) (first second : List Box2) (s : Strip)
     → first ≡ s.first.items → second ≡ s.second.items
     → ((line : Line) (j : ℤ) → CoversPlace runs line j ↔ HasStep rule (covers first) (covers second)

@@ -1,4 +1,4 @@
--- The parts of boxes in a window have its squares of them.
+-- The parts of boxes in a window have the boxes' squares there.
 use Rattle.std.proofs.Common.{◌≡◌, ℕ, ◌+◌, ◌<◌, ◌≤◌, ℤ, List, [], ◌∷◌, ◌++◌, length, get_or, take, inl, inr, subst, sym, arith}
 use Rattle.std.specs.Prelude.{◌↔◌}
 use Rattle.std.proofs.lemmas.Int.{ints, clamps}
@@ -12,7 +12,7 @@ use Rattle.mpw_region.proofs.Held.{Held-nil, Held-push_left, Held-push_new, Held
 use Rattle.mpw_region.proofs.Sweeping.{in_some, from_some}
 use Rattle.mpw_edges.specs.Laws.{AreSameIn}
 
--- the list has just the squares of the boxes in the window
+-- the list has exactly the squares of the boxes in the window
 pub record ArePartsOf (window : Box2) (boxes list : List Box2) : Type 0 where
   pub squares : (i j : ℤ) → IsCovered list i j ↔ (IsCovered boxes i j × HoldsSquare window i j)
 

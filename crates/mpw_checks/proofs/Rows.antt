@@ -14,7 +14,7 @@ use Rattle.mpw_region.proofs.Held.{Held-nil, Held-push_left, Held-push_new, Held
 use Rattle.mpw_region.proofs.Joins.{no_run}
 use Rattle.mpw_checks.specs.Internal.Across.{HasRowIn, IsAcross}
 
--- the box has just the columns of the window and the rows of the run
+-- the box has exactly the columns of the window and the rows of the run
 pub record IsAcrossBy (window : Box2) (b : Box2) (run : Run) : Type 0 where
   pub left : b.x0 ≡ window.x0
   pub right : b.x1 ≡ window.x1
@@ -193,7 +193,7 @@ pub HasAdded-end : (window : Box2) (old new : List Box2) (runs : List Run) (n : 
 HasAdded-end window old new runs n l h =
     subst (λ (rs : List Run). HasAdded window old new rs) (take_all n runs l) h
 
--- the rows of runs on whatever line are those of the joined ones
+-- the rows of runs on any line are those of the joined ones
 rows_joined : (runs joined : List Run)
     → ((line : Line) (at : ℤ) → CoversPlace joined line at ↔ CoversPlace runs line at) → (j : ℤ)
     → HasRowIn joined j ↔ HasRowIn runs j

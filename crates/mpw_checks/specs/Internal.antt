@@ -1,4 +1,4 @@
--- What private functions and proofs alone need: no public contract speaks of it.
+-- Definitions for private functions and proofs. No public contract refers to them.
 pub mod Across
 pub mod Cells
 pub mod Strips

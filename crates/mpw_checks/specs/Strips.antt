@@ -10,7 +10,7 @@ use Rattle.mpw_edges.specs.Edges.{Squares}
 use Rattle.mpw_edges.specs.Pieces.{HasStep, HasVerticalStep}
 use Rattle.mpw_checks.specs.declared.strips.Strip.{Strip}
 
--- the strip holds bands
+-- the strip has bands
 pub record IsStrip (s : Strip) : Type 0 where
   pub first : AreBands s.first.items
   pub second : AreBands s.second.items
@@ -29,7 +29,7 @@ pub record BothWays : Type 0 where
   pub rows : List Strip
   pub columns : List Strip
 
--- for each rule up to that distance, the strips have just the pair steps of the squares in the core
+-- for each rule with at most that distance, the strips have exactly the pair steps of the squares in the core
 pub record AreStrips (distance : ℕ) (a b : Squares) (core : Box2) (strips : BothWays) : Type 0 where
   pub rows : (rule : Rule) → rule.distance ≤ distance → (line : Line) (j : ℤ)
       → FindsIn strips.rows rule line j ↔ HasStep rule a b core V line.side line.first line.second j

@@ -1,8 +1,8 @@
-//! Boxes that reach across a window from side to side, made into as few as have their rows.
+//! Merges boxes that reach across a window from side to side into as few as possible.
 //!
 //! Of the boxes in a strip only those that begin or end in it bound its bands from left to right.
-//! The others are whole rows, and however many there are, they are few once those that overlap or
-//! touch are one.
+//! The others are whole rows. However many they are, few are left once those that overlap or touch
+//! are joined.
 
 ghost use Rattle.std.specs.Prelude.{◌≡◌, ◌↔◌, ◌⊎◌, ◌<ℤ◌, ℤ, All, IfOk, OnOk, IsTrue};
 ghost use Rattle.mpw_region.specs.Runs.{IsFilled};
@@ -14,7 +14,7 @@ use mpw_geom::Box2;
 use mpw_region::{Line, Run, join_runs};
 use std::alloc::{AllocError, Global};
 
-/// The boxes of a window that begin or end within it, and the rows of those that reach across.
+/// The boxes of a window that begin or end within it, and the rows of those that reach across it.
 #[derive(Drop)]
 struct Apart {
     within: Vec<Box2>,
@@ -89,14 +89,14 @@ fn add_across(boxes: &mut Vec<Box2>, runs: &[Run], window: &Box2) -> Result<(), 
     Ok(())
 }
 
-/// Whether many of the boxes reach across the window: one in four.
+/// Whether many of the boxes reach across the window: more than one, and at least one in four.
 pub(crate) fn are_many(boxes: &[Box2], window: &Box2) -> bool {
     let across = boxes.iter().filter(|b| reaches_across(b, window)).count();
     across > 1 && across >= boxes.len() / 4
 }
 
 /// The squares of the boxes, by boxes of which no two that reach across the window overlap or
-/// touch. A sort of their rows.
+/// touch. Cost: a sort of their rows.
 pub(crate) fn merge_across(
     alloc: Global,
     boxes: &[Box2],

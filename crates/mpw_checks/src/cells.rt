@@ -1,9 +1,9 @@
-//! A core in strips: halves of halves, each with bands of its own.
+//! Cuts a core into strips, by halving it again and again. Each strip has its own bands.
 //!
-//! Looking along rows, a core is halved left and right of the middle of its rectangles while the
-//! halves are less work together. So a strip has few rectangles in a row, however many it has from
-//! below to above; rectangles that all share a place are not divided for nothing, and the passes
-//! over a rectangle are about as many as the halvings.
+//! Along rows, a core is cut at the middle of its rectangles as long as the halves together are
+//! less work. So a strip has few rectangles in a row, however many it has from below to above.
+//! Rectangles at a common position aren't divided in vain, and the number of passes over a
+//! rectangle is about the number of halvings.
 
 ghost use Rattle.std.specs.Prelude.{◌≡◌, ◌↔◌, ◌≤◌, ℤ, IfOk, OnOk, All, Contains, AllPairs};
 ghost use Rattle.mpw_geom.specs.Plane.{IsBoxInPlane};
@@ -25,7 +25,7 @@ use mpw_geom::Box2;
 use mpw_region::{exchange, exchanged_box, row_bands};
 use std::alloc::{AllocError, Global};
 
-/// Halvings of a core.
+/// The most halvings of a core.
 const MAX_DEPTH: u32 = 60;
 
 /// Adds a strip with the bands of the layers.
@@ -49,7 +49,7 @@ fn add_strip(
     Ok(())
 }
 
-/// Adds at most two to the `depth` strips of a core, along rows.
+/// Adds the strips of a core along rows: at most 2^`depth`.
 fn add_core(
     alloc: Global,
     strips: &mut Vec<Strip>,
@@ -77,7 +77,7 @@ fn add_core(
     add_core(alloc, strips, &high, right, distance, depth - 1)
 }
 
-/// The strips of a core along rows, for rules up to that distance.
+/// The strips of a core along rows, for rules with at most that distance.
 fn along_rows(
     alloc: Global,
     distance: u32,
@@ -96,7 +96,7 @@ fn along_rows(
     Ok(strips)
 }
 
-/// The strips of a core along columns, for rules up to that distance.
+/// The strips of a core along columns, for rules with at most that distance.
 fn along_columns(
     alloc: Global,
     distance: u32,
@@ -115,16 +115,16 @@ fn along_columns(
     along_rows(alloc, distance, first.as_slice(), second.as_slice(), core)
 }
 
-/// The half-open core in strips, with the bands of two layers, from rectangles in any order that
-/// may overlap. They serve each rule up to that distance whose first layer has the rectangles of
-/// `first` and whose second has those of `second`; a check of one layer ignores `second`.
+/// The half-open core in strips, with the bands of two layers, from rectangles in any order that may overlap.
+/// The strips serve each rule with at most that distance whose first layer has the rectangles of `first` and
+/// whose second layer has those of `second`; a check of one layer ignores `second`.
 ///
-/// Along rows and along columns the core is halved into strips with few rectangles side by side.
-/// The cost is a pass over the rectangles a halving, and the bands of each strip, which stay in
+/// Along rows and along columns, the core is halved into strips with few rectangles side by side.
+/// Cost: a pass over the rectangles for each halving, and the bands of each strip, which stay in
 /// memory.
 ///
 /// # Errors
-/// Where there is no room.
+/// Out of memory.
 pub fn strips_of(
     alloc: Global,
     distance: u32,
@@ -140,14 +140,14 @@ pub fn strips_of(
     Ok(Strips::of(rows, columns))
 }
 
-/// What the rule finds in the half-open core, as [`mpw_edges::pieces`] tells it, from rectangles in
-/// any order that may overlap. `first` are those of the check's first layer, `second` those of its
-/// second; a check of one layer ignores `second`, which is then best empty.
+/// What the rule finds in the half-open core, as [`mpw_edges::pieces`] does, from rectangles in any
+/// order that may overlap. `first` are those of the check's first layer, `second` those of its
+/// second; a check of one layer ignores `second`, which should then be empty.
 ///
-/// The cost is that of [`strips_of`] and of [`pieces_in`].
+/// Cost: that of [`strips_of`] and of [`pieces_in`].
 ///
 /// # Errors
-/// Where there is no room.
+/// Out of memory.
 pub fn pieces(
     alloc: Global,
     rule: &Rule,

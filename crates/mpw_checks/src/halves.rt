@@ -32,7 +32,7 @@ struct Loaded {
     load: Load,
 }
 
-/// The core widened on each side by the distance and 1.
+/// The core extended on each side by the distance plus 1.
 fn window(core: &Box2, distance: u32) -> Box2
     requires { IsBoxInPlane core.now }
     ensures { result ≡ window_of core.now distance }
@@ -46,7 +46,7 @@ fn window(core: &Box2, distance: u32) -> Box2
     }
 }
 
-/// A point in the middle of the extent, or where that is outside the core, at its side.
+/// A point in the middle of the extent. If that is outside the core, the point is at the core's side.
 fn middle(core: &Box2, extent: &Box2) -> Point
     ensures { IsMiddle core.now result }
 {
@@ -104,7 +104,7 @@ fn parts(alloc: Global, boxes: &[Box2], window: &Box2) -> Result<Loaded, AllocEr
     Ok(Loaded { boxes: found, load })
 }
 
-/// The boxes as far as the window has them, few of them from side to side of all.
+/// The parts of the boxes in the window. Those that reach across it are merged.
 fn merged_parts(alloc: Global, boxes: &[Box2], window: &Box2) -> Result<Loaded, AllocError>
     ensures { IfOk result (λ s. AreAlikeIn window.now boxes.now s.boxes.items) }
 {

@@ -1,11 +1,13 @@
-//! The four checks over many rectangles: a core in strips.
+//! The four checks over many rectangles: a core is cut into strips.
 //!
-//! A band reaches across its whole region, so those of a wide core have many more boxes than there
-//! are rectangles. [`strips_of`] looks along rows and along columns one after the other, and each
-//! time halves the core across as long as that pays: each half takes the parts of the rectangles
-//! that lie in its window, and a narrow strip gets bands of its own. [`pieces_in`] checks each
-//! strip by itself for a rule, and joins the runs that go on from one strip to the next; rules of
-//! the same layers share the strips. [`pieces`] is both in one.
+//! A band reaches across its whole region, so the bands of a wide core have many more boxes than there
+//! are rectangles.
+//!
+//! - [`strips_of`] halves the core across, first along rows and then along columns, as long as that pays. Each half takes the parts of the rectangles
+//!   in its window, and a narrow strip gets its own bands.
+//! - [`pieces_in`] checks each strip for a rule, and joins the runs that continue from one strip to the next. Rules of
+//!   the same layers share the strips.
+//! - [`pieces`] does both.
 #![tactic(auto)]
 
 mod across;

@@ -1,17 +1,17 @@
-//! Whether a core is halved, and where: guesses that decide the cost and nothing else.
+//! Estimates whether halving a core pays, and where. The estimates decide the cost, never the result.
 
 use mpw_geom::Box2;
 
-/// So few rectangles are a strip.
+/// A core with at most this many rectangles is one strip.
 const FEW: u64 = 16;
 
-/// So many may crowd in some rows.
+/// With more rectangles than this, some rows may be crowded.
 const MANY: u64 = 512;
 
-/// What a rectangle costs beside the bands that it shares.
+/// The cost of a rectangle in addition to its bands.
 const ITSELF: u64 = 12;
 
-/// How many rectangles there are, the sum of their heights, and the box about them all.
+/// How many rectangles there are, the sum of their heights, and the box around all of them.
 #[derive(Clone, Copy)]
 pub(crate) struct Load {
     count: u64,
@@ -19,7 +19,7 @@ pub(crate) struct Load {
     pub(crate) extent: Box2,
 }
 
-/// How many of those in the whole width a part of it has.
+/// How many of the rectangles in the whole width a part of that width has.
 fn share(count: u64, part: u64, whole: u64) -> u64 {
     count
         .saturating_mul(part)
@@ -57,21 +57,21 @@ impl Load {
         }
     }
 
-    /// How many rectangles a row has.
+    /// How many rectangles a row has on average.
     fn in_a_row(&self) -> u64 {
         let height = self.extent.y0.abs_diff(self.extent.y1);
         self.heights.checked_div(height).unwrap_or(0)
     }
 
-    /// About how many boxes the bands have: two borders a rectangle, each with as many rectangles as a row has.
+    /// An estimate of how many boxes the bands have: two borders for each rectangle, each with as many rectangles as a row has.
     fn work(&self) -> u64 {
         self.count
             .saturating_mul(self.in_a_row().saturating_add(ITSELF))
     }
 
-    /// Whether halves of a core may be a gain: there are more than a few rectangles, and either many or such that halves
-    /// of narrow and evenly spread ones, whose windows overlap by a margin on each side of the cut, would be less work by
-    /// more than one part in eight. It saves the passes that make halves in vain.
+    /// Whether it may pay to halve a core. There must be more than a few rectangles, and either many of them, or such that the halves are less work
+    /// by more than one part in eight. This estimate takes the rectangles as narrow and evenly spread, and the windows of the halves as overlapping
+    /// by a margin on each side of the cut. It saves the passes that would make halves in vain.
     pub(crate) fn may_be_eased(&self, core: &Box2, distance: u32) -> bool {
         if self.count <= FEW || self.count > MANY {
             return self.count > FEW;

@@ -1,7 +1,7 @@
 //! The strips of a core, and what rules find in them.
 //!
-//! The bands of a strip are made once, and serve each rule of the same layers whose distance the
-//! strip's window allows for.
+//! The bands of a strip are made once. They serve each rule of the same layers whose distance the
+//! strip's window allows.
 
 ghost use Rattle.std.specs.Prelude.{◌≡◌, ◌↔◌, ◌≤◌, ℕ, ℤ, IfOk, OnOk, All, Contains, AllPairs};
 ghost use Rattle.mpw_geom.specs.declared.plane.Box2.{Box2 as BoxValue};
@@ -41,7 +41,7 @@ impl Drop for Strip {
 }
 
 /// A core in strips, along rows and along columns, with the bands of two layers. [`pieces_in`]
-/// looks for what rules find in it.
+/// finds the pieces of rules in it.
 pub struct Strips {
     rows: Vec<Strip>,
     columns: Vec<Strip>,
@@ -124,13 +124,13 @@ fn runs_in(alloc: Global, rule: &Rule, strips: &[Strip]) -> Result<Vec<Run>, All
     join_runs(alloc, found)
 }
 
-/// What the rule finds in a core, as [`mpw_edges::pieces`] tells it, where these are the core's
-/// strips of the squares of its layers for distances as great as the rule's.
+/// What the rule finds in a core, as [`mpw_edges::pieces`] does. The strips must be those of the core, made from
+/// the squares of the rule's layers, for a distance at least as great as the rule's.
 ///
-/// The cost is that of pairs in each strip, and a sort of what is found.
+/// Cost: that of the pairs in each strip, and a sort of what is found.
 ///
 /// # Errors
-/// Where there is no room.
+/// Out of memory.
 pub fn pieces_in(alloc: Global, rule: &Rule, strips: &Strips) -> Result<Vec<Piece>, AllocError>
     ensures exact { (distance : ℕ) (a b : Squares) (core : BoxValue) → AreStrips distance a b core strips.now
         → rule.now.distance ≤ distance → IfOk result (λ v. (p : PieceValue) →

@@ -1,2 +1,2 @@
--- The lemmas of what a check is given.
+-- The lemmas about the options of a check.
 mod Names

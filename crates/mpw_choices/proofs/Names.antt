@@ -1,4 +1,4 @@
--- Names by what they are seen as.
+-- Names by a view of them.
 use Rattle.std.proofs.Common.{◌≡◌, ◌∙◌, ◌*◌, ◌^◌, ltb, length, ◌∷◌, ℕ, List, [], Bool, true, false, map, filter, not, cond, refl, sym, ap, ◌||◌}
 use Rattle.std.specs.List.{list_any}
 use Rattle.std.proofs.lemmas.List.{length-map}
@@ -27,7 +27,7 @@ filter_seen h f (x ∷ xs) =
     ap (λ more. cond (h (f x)) (f x ∷ more) more) (filter_seen h f xs)
     ∙ if_seen f (h (f x)) x (filter (λ x. h (f x)) xs)
 
--- Those that aren't placed, by what they are seen as.
+-- Those that aren't placed, by the view.
 pub unplaced_seen : {N P : Type 0} (f : N → List ℕ) (g : P → List ℕ) (names : List N)
     (placed : List P)
     → unplaced (λ n. n) (λ p. p) (map f names) (map g placed) ≡ map f (unplaced f g names placed)
@@ -49,7 +49,7 @@ only_by f g names placed =
     ap (only_of (λ n. n)) (unplaced_seen f g names placed)
     ∙ only_seen f (unplaced f g names placed)
 
--- The same where the test says that they aren't too many.
+-- The same if the test says that they aren't too many.
 pub only_short : {N P : Type 0} (f : N → List ℕ) (g : P → List ℕ) (names : List N) (placed : List P)
     (long : Bool) → long ≡ ltb (2 ^ 28) (length names * length placed) → long ≡ false
     → only_in (map f names) (map g placed) ≡ only_of f (unplaced f g names placed)

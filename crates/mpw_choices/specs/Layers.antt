@@ -1,4 +1,4 @@
--- Layers in a word: L/D, and further ones behind commas.
+-- Layers in a word: L/D, and more of them after commas.
 use Rattle.std.specs.Prelude.{ℕ, ◌==◌, List, [], ◌∷◌, Option, None, Some}
 use Rattle.std.specs.List.{slice_split}
 use Rattle.mpw_deck.specs.Reading.{layer_from}

@@ -1,4 +1,4 @@
--- The structures of a library that nothing places, by the names in its records, but for those in texts and nodes.
+-- The structures of a library that nothing places, by the names in its records, without those in texts and nodes.
 use Rattle.std.specs.Prelude.{ℕ, ◌*◌, ◌^◌, Bool, not, nat_lt, List, [], ◌∷◌, length, filter, Option, None, Some, Result, Ok, Err, if◌then◌else◌}
 use Rattle.std.specs.List.{list_any}
 use Rattle.mpw_elements.specs.Values.{name_of}
@@ -29,7 +29,7 @@ only_of name [] = None
 only_of name (n ∷ []) = name_in (name n)
 only_of name (n ∷ m ∷ rest) = None
 
--- Those that nothing places; none where the names are very many.
+-- The names that nothing places; none if there are too many names.
 abbrev pub unplaced_in : (names placed : List (List ℕ)) → List (List ℕ)
 unplaced_in names placed =
     if nat_lt (2 ^ 28) (length names * length placed) then []
@@ -38,7 +38,7 @@ unplaced_in names placed =
 abbrev pub unplaced_of : List ℕ → List (List ℕ)
 unplaced_of text = unplaced_in (names_of STRNAME text) (names_of SNAME text)
 
--- The only structure that nothing places, unless the names are very many.
+-- The only structure that nothing places, unless the names are too many.
 abbrev pub only_in : (names placed : List (List ℕ)) → Option (List ℕ)
 only_in names placed =
     if nat_lt (2 ^ 28) (length names * length placed) then None

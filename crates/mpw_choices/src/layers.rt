@@ -1,4 +1,4 @@
-//! Layers in a word of a command line.
+//! Reads layers from a word of a command line.
 ghost use Rattle.std.specs.Prelude.{◌≡◌, map, option_map, IfOk};
 ghost use Rattle.mpw_deck.specs.Reading.{layer_from};
 ghost use Rattle.mpw_choices.specs.Layers.{layer_in, layers_in, layers_of};
@@ -44,10 +44,10 @@ fn layers_in(alloc: Global, words: &[&[u8]]) -> Result<Option<Vec<Layer>>, Alloc
     Ok(Some(layers))
 }
 
-/// The layers that a word `L/D,L/D,..` spells, in order, if it is one: each part two numbers from 0 to 65535.
+/// The layers that a word `L/D,L/D,..` spells, in order, if it has that form: each part is two numbers from 0 to 65535.
 ///
 /// # Errors
-/// Want of memory.
+/// Out of memory.
 pub fn read_layers(alloc: Global, word: &[u8]) -> Result<Option<Vec<Layer>>, AllocError>
     ensures { IfOk result (λ read. layers_of word.now ≡ option_map (λ layers. layers.items) read) }
 {

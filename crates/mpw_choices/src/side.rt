@@ -1,4 +1,4 @@
-//! A side for tiles in the place of a deck's.
+//! A side for tiles that replaces the deck's.
 ghost use Rattle.std.specs.Prelude.{◌≡◌, ◌≤◌, ◌^◌, IfOk, option_map};
 ghost use Rattle.mpw_text.specs.Text.{number_of};
 ghost use Rattle.mpw_choices.specs.Sides.{with_side};
@@ -14,7 +14,7 @@ const MIN_SIDE: u32 = 256;
 /// The greatest side that a deck may have, in nm.
 const MAX_SIDE: u32 = 1 << 30;
 
-/// A side that a deck may have, 256 to 2^30 nm, which contracts see as that number.
+/// A side that a deck may have, 256 to 2^30 nm. Contracts see it as that number.
 #[derive(Drop)]
 pub struct TileSide {
     nm: u32,
@@ -51,10 +51,10 @@ impl TileSide {
     }
 }
 
-/// A deck with the rules of this one, and with that side where there is one. Constant time, without further memory.
+/// A deck with the rules of this one, and with that side if there is one. Constant time, without more memory.
 ///
 /// # Errors
-/// Where no more copies of the rules can be counted.
+/// If no more copies of the rules can be counted.
 pub fn with_side(deck: Deck, side: &Option<TileSide>) -> Result<Deck, AllocError>
     ensures { IfOk result (λ made. made ≡ with_side side.now deck) }
 {

@@ -1,4 +1,4 @@
-//! The structure of a library that nothing places.
+//! Finds the structures of a library that nothing places.
 ghost use Rattle.std.specs.Prelude.{◌≡◌, ◌*◌, ◌^◌, nat_lt, map, take, IfOk};
 ghost use Rattle.mpw_choices.specs.Tops.{is_placed, name_in, only_in, only_of, only_top, unplaced, unplaced_in, unplaced_of};
 
@@ -9,10 +9,10 @@ use mpw_records::kind::{SNAME, STRNAME};
 use mpw_skipping::names_of;
 use std::alloc::{AllocError, Global};
 
-/// How many comparisons of names are made at most.
+/// The most comparisons of names.
 const MAX_WORK: usize = 1 << 28;
 
-/// Whether a name is one of these.
+/// Whether the list has the name.
 fn is_placed(placed: &[&[u8]], name: &[u8]) -> bool
     ensures { result ≡ is_placed (λ p. p.now) placed.now name.now }
 {
@@ -24,7 +24,7 @@ fn is_placed(placed: &[&[u8]], name: &[u8]) -> bool
     false
 }
 
-/// Those of the names that aren't placed.
+/// The names out of these that aren't placed.
 fn unplaced<'a>(
     alloc: Global,
     names: &[&'a [u8]],
@@ -41,7 +41,7 @@ fn unplaced<'a>(
     Ok(found)
 }
 
-/// The name that a record's data is, if it is one.
+/// The name in a record's data, if it is a valid name.
 fn name_in(alloc: Global, bytes: &[u8]) -> Result<Option<Name>, AllocError>
     ensures { IfOk result (λ name. name ≡ name_in bytes.now) }
 {
@@ -58,7 +58,7 @@ fn name_in(alloc: Global, bytes: &[u8]) -> Result<Option<Name>, AllocError>
     }
 }
 
-/// The name that is the only one of these.
+/// The only one of these names, if there is exactly one and it is valid.
 fn only_of(alloc: Global, names: &[&[u8]]) -> Result<Option<Name>, AllocError>
     ensures { IfOk result (λ name. name ≡ only_of (λ n. n.now) names.now) }
 {
@@ -68,14 +68,14 @@ fn only_of(alloc: Global, names: &[&[u8]]) -> Result<Option<Name>, AllocError>
     }
 }
 
-/// Whether so many names and so many that are placed are too many to be compared.
+/// Whether `names` and `placed` names are too many to be compared.
 fn is_long(names: usize, placed: usize) -> bool
     ensures { result ≡ nat_lt (2 ^ 28) (names * placed) }
 {
     names.saturating_mul(placed) > MAX_WORK
 }
 
-/// The only one of the names that isn't placed, unless they are too many.
+/// The only one of the names that isn't placed. `None` if they are too many.
 fn only_among(alloc: Global, names: &[&[u8]], placed: &[&[u8]]) -> Result<Option<Name>, AllocError>
     ensures { IfOk result (λ name. name ≡ only_in (map (λ n. n.now) names.now) (map (λ p. p.now) placed.now)) }
 {
@@ -86,13 +86,12 @@ fn only_among(alloc: Global, names: &[&[u8]], placed: &[&[u8]]) -> Result<Option
     only_of(alloc, found.as_slice())
 }
 
-/// The structure of a library's text that nothing places, where there is just one, by the names in its records as long as their
-/// lengths are sound, but for those in texts and nodes: none where there are none or several, and where the structures and the
-/// references are so many that their product is over 2^28. Each record is looked at twice, and each structure's name compared with
-/// each reference's.
+/// The structure of a library's text that nothing places, if there is exactly one. It is found by the names in the text's records, without those in texts and
+/// nodes, as long as the lengths of records are sound. `None` if there are no such structures or several, or if the number of structures times the number of
+/// references exceeds 2^28. Cost: two visits of each record, and a comparison of each structure's name with each reference's.
 ///
 /// # Errors
-/// Want of memory.
+/// Out of memory.
 pub fn only_top(alloc: Global, text: &[u8]) -> Result<Option<Name>, AllocError>
     ensures { IfOk result (λ name. name ≡ only_top text.now) }
 {
@@ -101,7 +100,7 @@ pub fn only_top(alloc: Global, text: &[u8]) -> Result<Option<Name>, AllocError>
     only_among(alloc, names.as_slice(), placed.as_slice())
 }
 
-/// Those of the names that aren't placed, unless they are too many.
+/// The names out of these that aren't placed. Empty if they are too many.
 fn unplaced_among<'a>(
     alloc: Global,
     names: &[&'a [u8]],
@@ -115,12 +114,12 @@ fn unplaced_among<'a>(
     unplaced(alloc, names, placed)
 }
 
-/// The first so many of the structures of a library's text that nothing places, as their names stand in the records that
-/// [`only_top`] looks at; none where the structures and the references are so many that their product is over 2^28. It costs what
-/// [`only_top`] does.
+/// The first `most` structures of a library's text that nothing places, with their names as they are in the records that
+/// [`only_top`] reads. There are none if the number of structures times the number of references exceeds 2^28. The cost is that of
+/// [`only_top`].
 ///
 /// # Errors
-/// Want of memory.
+/// Out of memory.
 pub fn unplaced_structures<'a>(
     alloc: Global,
     text: &'a [u8],

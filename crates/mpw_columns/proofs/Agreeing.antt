@@ -1,4 +1,4 @@
--- What a column finds depends on the squares of its window alone, which is no higher and no deeper than the column.
+-- What a column finds depends only on the squares of its window, which has the same rows as the column, as it is seen along its axis.
 use Rattle.std.proofs.Common.{ℕ, ◌+◌, ◌≤◌, ℤ, pos, ◌-ℤ◌, ◌≤ℤ◌, ◌<ℤ◌, List, refl, sym, arith}
 use Rattle.std.specs.Prelude.{All}
 use Rattle.std.proofs.lemmas.Int.{ints}
@@ -100,7 +100,7 @@ pub agree_back : (layers : List Layer) (window : Box2) (on other : Coverage)
 agree_back layers window on other h layer c =
     back window (on layer) (other layer) (h layer c)
 
--- what is found where two coverages agree in the window
+-- what is found if two coverages agree in the window
 pub found_same : (rules : List Rule) (layers : List Layer) (distance : ℕ) (axis : Axis)
     (on other : Coverage) (core : Box2) (k : Key) → All (λ (r : Rule). r.distance ≤ distance) rules
     → All (λ (r : Rule). HasLayers layers r.check) rules

@@ -1,4 +1,4 @@
--- Columns whose contents are the same, displaced, are alike.
+-- Columns with the same contents, displaced, are identical up to translation.
 use Rattle.std.proofs.Common.{◌≡◌, ◌∙◌, ℕ, ◌+◌, ℤ, List, map, Option, Some, None, Ok, Err, inl, inr, refl, sym, subst, ap, arith, IfOk, IfSome}
 use Rattle.std.specs.Prelude.{All}
 use Rattle.std.specs.declared.result.Result.{Result}
@@ -70,7 +70,7 @@ contents_tell l c window shelf (Ok (Some things)) w s f whole sound =
           (subst (λ (is : List Item). AreSound is (things_items shelf things)) f sound);
     }
 
--- ---- what is kept
+-- ---- what is held
 
 pub kept_more : (l : Layout) (k : Kept) (old new : List Kept) → All (IsKept l) old → IsKept l k
     → MayAdd k old new → All (IsKept l) new

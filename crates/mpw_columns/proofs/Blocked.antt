@@ -1,4 +1,4 @@
--- The columns of blocks that are alike.
+-- Columns of blocks that repeat each other.
 use Rattle.std.proofs.Common.{◌≡◌, ◌∙◌, ℕ, ◌+◌, ◌<◌, ◌≤◌, ℤ, ◌-ℤ◌, List, [], ◌∷◌, ◌++◌, length, get_or, zero, suc, Option, Some, None, Ok, Err, IfSome, OnOk, inl, inr, sym, subst, ap, arith, append_assoc}
 use Rattle.std.specs.Prelude.{All}
 use Rattle.std.specs.declared.result.Result.{Result}
@@ -73,7 +73,7 @@ all_alike l columns whole other from place count before h each = record {
   each = λ k c lt. part_alike l whole other _ _ h (each k c lt);
 }
 
--- ---- what is told of columns
+-- ---- what is decided about columns
 
 -- one more
 pub told_more : (l : Layout) (columns : List Column) (n : ℕ) (old new : List (Option ℕ)) (o : Option ℕ)
@@ -160,7 +160,7 @@ told_one l columns start k old now new o h same like e =
     (subst (λ (n : ℕ). IfSome o (λ earlier. AreAlike l columns earlier n 1)) h.long like))
     (e ∙ ap (λ (p : List (Option ℕ)). p ++ o ∷ []) same))
 
--- what is told of a block
+-- what is decided about a block
 pub told_block : {A B : Type 0} (r : Result A B) (l : Layout) (columns : List Column) (from count : ℕ)
     (old mid new : Earlier) → IsTold l columns (length old.likes.items) old
     → AreAlike l columns from (length old.likes.items) count → mid.likes.items ≡ old.likes.items

@@ -1,4 +1,4 @@
--- The lists of columns, put together, are the book of the layout.
+-- The joined lists of columns are the book of the layout.
 use Rattle.std.proofs.Common.{◌≡◌, ◌∙◌, ℕ, zero, suc, ◌+◌, ◌*◌, ◌<◌, pos, ◌+ℤ◌, ◌≤ℤ◌, ◌<ℤ◌, Bool, true, false, List, [], ◌∷◌, ◌++◌, length, get_or, map, cond, Less, nat_cmp, eqb-true, eq-eqb, Some, refl, sym, subst, ap, ◌⊎◌, inl, inr, arith}
 use Rattle.std.specs.Prelude.{Contains, All, AllPairs, filter, ◌↔◌}
 use Rattle.std.specs.List.{AllZip}
@@ -67,7 +67,7 @@ module _ (laws : Laws) (s : Snapshot) (rule side : ℕ) (small : side < 2) where
   abbrev keeps : Key → Bool
   keeps = is_of_list (2 * rule + side)
 
-  -- what is kept of a column's list is the list for the rule and the side
+  -- the part of a column's list for the rule and the side
   list_for : (c : Column) (keys : List Key) → IsColumnList s c keys
       → IsListFor s rule side c (filter keeps keys)
   list_for c keys h = record {
@@ -120,7 +120,7 @@ module _ (laws : Laws) (s : Snapshot) (rule side : ℕ) (small : side < 2) where
 
 -- ---- lists of runs, in the order of a book
 
--- the list has just the keys with P, in order
+-- the list has exactly the keys with P, in order
 pub record IsJust (P : Key → Type 0) (keys : List Key) : Type 0 where
   pub exact : (k : Key) → Contains keys k ↔ P k
   pub ordered : AllPairs Before keys
@@ -159,7 +159,7 @@ either_axis V = inl refl
 either_axis H = inr refl
 
 module _ (laws : Laws) (s : Snapshot) (extent : Box2) (found : shown_extent s ≡ Some extent) where
-  -- a run stands in the extent
+  -- a run lies in the extent
   stands : (k : Key) → IsRunOf s k → StandsIn (seen_box k.axis extent) k.x1 k.y0
   stands k run = steps_stand laws s extent (line_of_key k) k.y0 found
       (run.rows k.y0 (omega (arith, ints)) run.filled)

@@ -1,4 +1,4 @@
--- Each pair step of a layout lies in a column of its axis, and columns follow on one another.
+-- Each pair step of a layout lies in a column of its axis, and the columns are adjacent and in order.
 use Rattle.std.proofs.Common.{◌≡◌, ℕ, ◌-◌, ◌^◌, ◌<◌, ℤ, pos, ◌+ℤ◌, ◌-ℤ◌, ◌≤ℤ◌, ◌<ℤ◌, true, List, [], ◌∷◌, ◌++◌, inl, inr, refl, sym, subst, ◌∙◌, arith}
 use Rattle.std.specs.Prelude.{Contains}
 use Rattle.std.proofs.lemmas.Bool.{false≢true, cases_lt}
@@ -21,7 +21,7 @@ use Rattle.mpw_columns.specs.Seen.{seen_on}
 use Rattle.mpw_columns.specs.Internal.Found.{AreFew}
 use Rattle.mpw_columns.proofs.Showing.{seen_has}
 
--- ---- columns that follow on one another
+-- ---- adjacent columns
 
 pub columns_push : (axis : Axis) (low mid : ℤ) (cs : List Column) (c : Column)
     → AreColumns axis low mid cs → c.axis ≡ axis → c.from ≡ mid → c.from <ℤ c.to
@@ -38,7 +38,7 @@ forwards axis low high (c ∷ cs) h =
     let at = h.1 in let lt = h.2 in
     omega (arith, ints, more, at, lt)
 
--- a column of the list that has the place
+-- a column of the list that has the position
 pub record HasPlace (axis : Axis) (cs : List Column) (x : ℤ) : Type 0 where
   pub column : Column
   pub there : Contains cs column
@@ -112,7 +112,7 @@ moved a b low x y cs e f h =
 
 -- ---- how many columns there are
 
--- those of the left half, and behind them those of the right one, where not too many stand before them
+-- those of the left half, and after them those of the right one, unless too many come before them
 pub few_behind : (depth before mid now : ℕ) → 0 < depth → before < 2 ^ 20
     → AreFew (depth - 1) before mid → AreFew (depth - 1) mid now → AreFew depth before now
 few_behind depth before mid now some few first second = record {
@@ -126,7 +126,7 @@ few_behind depth before mid now some few first second = record {
   late = λ more. absurd (omega (arith, few, more));
 }
 
--- ---- where the first edge of a step stands
+-- ---- where the first edge of a step lies
 
 -- squares that lie in the box
 first_lies : (check : Check) (axis : Axis) (on : Coverage) (extent : Box2)
@@ -152,7 +152,7 @@ seen_lies V on extent h layer i j e = h layer i j e
 seen_lies H on extent h layer i j e =
     seen_has H extent (record { column = j; row = i }) ∙ h layer j i e
 
--- the first edge stands at the box's first place or later, and at the one behind its last or earlier; and the row is one of its
+-- the first edge is at the box's first position or later, and at most at the one after its last; and the row is one of its
 pub record StandsIn (b : Box2) (x j : ℤ) : Type 0 where
   pub left : b.x0 ≤ℤ x
   pub right : x <ℤ (b.x1 +ℤ pos 1)

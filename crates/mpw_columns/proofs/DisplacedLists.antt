@@ -1,4 +1,4 @@
--- The list of a column that shows what another shows, displaced, is that one's, displaced.
+-- The list of a column that repeats another one is that one's, displaced.
 use Rattle.std.proofs.Common.{◌≡◌, ◌∙◌, ℕ, ◌<◌, ◌≤◌, ◌^◌, ℤ, pos, neg_ℤ, ◌+ℤ◌, ◌-ℤ◌, ◌≤ℤ◌, ◌<ℤ◌, List, map, get_or, sym, subst, ap, arith}
 use Rattle.std.specs.Prelude.{◌↔◌, All, Contains, Some}
 use Rattle.std.proofs.lemmas.Int.{ints}
@@ -52,7 +52,7 @@ core_is extent by c e d =
       y1 = seen.y1;
     } in b) d.to
 
--- what is found in the column's core, of what the items show
+-- what is found in the column's core, from what the items have
 abbrev FoundIn : Snapshot → Box2 → Column → Key → Type 0
 FoundIn s extent c k = IsFound s.deck.rules c.axis (seen_on c.axis (shown_on (shown s)))
     (core_in extent c) k
@@ -114,7 +114,7 @@ displaced_lists law whole finds s extent layers greatest by c e keys found short
           λ r. here.0 (step.1 (same.0 (other.1 r))),
         )
 
--- ---- keys of a column that is not far off
+-- ---- keys of a column that is within bounds
 
 ordered : (check : Check) (a b : Squares) (side : ℕ) (x1 x2 j : ℤ) → IsPair check a b side x1 x2 j
     → x1 ≤ℤ x2

@@ -1,4 +1,4 @@
--- What is displaced across the edges has the same pair steps, displaced, and so the same runs.
+-- What is displaced across the edges has the same pair steps, displaced, and so the same runs, displaced.
 use Rattle.std.proofs.Common.{◌≡◌, ℕ, ◌+◌, ℤ, pos, ◌+ℤ◌, ◌-ℤ◌, ◌≤ℤ◌, ◌<ℤ◌, true, false, List, ◌⊎◌, inl, inr, refl, sym, subst, arith}
 use Rattle.std.specs.Prelude.{◌↔◌}
 use Rattle.std.proofs.lemmas.Int.{ints}
@@ -23,7 +23,7 @@ use Rattle.mpw_columns.proofs.Agreeing.{run_same, agree_back, found_same}
 
 -- ---- one row
 
--- the squares, of which each is the one that lies so much further
+-- the squares, displaced by -`by` across the edges: each is the one that lies `by` further right
 abbrev pub shifted : ℤ → Squares → Squares
 shifted by a i j = a (i +ℤ by) j
 

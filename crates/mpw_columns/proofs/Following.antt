@@ -1,4 +1,4 @@
--- The lists of columns that follow on one another, one behind another.
+-- The lists of adjacent columns, one after another.
 use Rattle.std.proofs.Common.{◌≡◌, ℕ, suc, ℤ, ◌≤ℤ◌, ◌<ℤ◌, List, [], ◌∷◌, ◌++◌, get_or, ◌⊎◌, inl, inr, refl, subst, ap, ◌∙◌, arith}
 use Rattle.std.specs.Prelude.{Contains, AllPairs, ◌↔◌}
 use Rattle.std.specs.Ordering.{int_cmp, ordering_then}
@@ -36,7 +36,7 @@ first_by k l h = ap (λ (o : Ordering). ordering_then o
 abbrev span : Axis → ℤ → ℤ → Column
 span axis low high = record { axis = axis; from = low; to = high }
 
--- a run of the whole lies in the first column or behind it
+-- a run of the whole lies in the first column or after it
 split : (s : Snapshot) (axis : Axis) (low mid high : ℤ) (k : Key) → low ≤ℤ mid → mid ≤ℤ high
     → IsRunWithin s (span axis low high) k
     ↔ (IsRunWithin s (span axis low mid) k ⊎ IsRunWithin s (span axis mid high) k)
@@ -81,7 +81,7 @@ none_between : (s : Snapshot) (axis : Axis) (low high : ℤ) (k : Key) → low �
 none_between s axis low high k e r =
     let l = r.left in let u = r.right in omega (arith, ints, e, l, u)
 
--- the lists of two columns that follow on one another
+-- the lists of two adjacent columns
 together : (s : Snapshot) (rule side : ℕ) (axis : Axis) (low mid high : ℤ) (first rest : List Key)
     → IsListFor s rule side (span axis low mid) first
     → IsListFor s rule side (span axis mid high) rest → low ≤ℤ mid → mid ≤ℤ high

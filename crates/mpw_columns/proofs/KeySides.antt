@@ -1,4 +1,4 @@
--- Keys whose lines lie elsewhere by sums.
+-- Keys whose lines are displaced by sums.
 use Rattle.std.proofs.Common.{◌≡◌, ℤ, pos, neg_ℤ, ◌+ℤ◌, ap, ◌∙◌, arith}
 use Rattle.std.proofs.lemmas.Int.{ints}
 use Rattle.mpw_markers.specs.declared.marker.Key.{Key}
@@ -15,7 +15,7 @@ with_lines f k = record {
   y1 = k.y1;
 }
 
--- two sums that come to one
+-- two sums that are equal
 same_lines : (f g : ℤ → ℤ) (k : Key) → ((x : ℤ) → f x ≡ g x) → with_lines f k ≡ with_lines g k
 same_lines f g k same =
     ap (λ (x : ℤ). let l : Key = record {

@@ -1,4 +1,4 @@
--- The keys of runs that stand apart are those of the maximal runs of their places.
+-- The keys of separate runs are those of the maximal runs at their positions.
 use Rattle.std.proofs.Common.{◌≡◌, ℕ, ◌<◌, ◌+◌, ℤ, List, [], ◌∷◌, ◌++◌, length, get_or, take, map, Option, Some, ◌⊎◌, inl, inr, subst, refl, sym, ap, ◌∙◌, arith, append_assoc}
 use Rattle.std.specs.Prelude.{◌↔◌, Contains, slice_get}
 use Rattle.std.proofs.lemmas.List.{map_more}
@@ -18,7 +18,7 @@ use Rattle.mpw_job.specs.Layers.{Coverage, first_squares, second_squares}
 use Rattle.mpw_columns.specs.Found.{IsRun, HasStepAt, IsFound}
 use Rattle.mpw_columns.specs.Internal.Found.{AddsRule, AddsFirst, key_of_run}
 
--- ---- runs that stand apart
+-- ---- separate runs
 
 pub run_is_maximal : (runs : List Run) (P : Line → ℤ → Type 0) (r : Run) → AreApart runs
     → HoldJust runs P → Contains runs r → IsRun (P r.line) r.from r.to

@@ -1,4 +1,4 @@
--- The lists of columns of which some are like earlier ones.
+-- The lists of columns, some of which repeat earlier ones.
 use Rattle.std.proofs.Common.{◌≡◌, ◌∙◌, ℕ, ◌+◌, ◌<◌, List, [], ◌∷◌, ◌++◌, length, get_or, take, drop, Option, Some, None, sym, subst, ap, arith, refl, ◌≤◌, length-take-le, get_or-take, true, false, append_assoc, replicate}
 use Rattle.std.specs.Prelude.{is_none, is_some, not, Bool}
 use Rattle.std.proofs.lemmas.Bool.{false≢true}
@@ -42,7 +42,7 @@ more Is columns place c lists new list within h e is =
     (subst (λ (cs : List Column). AllZip Is cs (lists ++ list ∷ [])) (sym (take_more columns place c within))
     (zip_append Is (take place columns) (get_or columns place c ∷ []) lists (list ∷ []) h (is, tt)))
 
--- the next own list is that of the column at the place
+-- the next own list is that of the column at that index
 pub next_own : {Y : Type 0} (Is : Column → Y → Type 0) (own : List Column) (c : Column)
     (rest : List Column) (items left : List Y) (list : Y) → AllZip Is own items → own ≡ c ∷ rest
     → items ≡ list ∷ left → Is c list × AllZip Is rest left
@@ -103,14 +103,14 @@ module _ (columns : List Column) (likes : List (Option ℕ)) (place : ℕ) (c : 
       let p = some_from (get_or likes place o) e in
       ap (λ (cs : List Column). own ++ cs) (sym (of_some columns likes place c o within long p.0 p.1)) ∙ h
 
--- what the test tells
+-- what the test decides
 pub none_is : (o : Option ℕ) (r : Bool) → is_some o ≡ not r → r ≡ true → is_none o ≡ true
 none_is o r e f = ap not (e ∙ ap not f)
 
 pub some_is : (o : Option ℕ) (r : Bool) → is_some o ≡ not r → r ≡ false → is_none o ≡ false
 some_is o r e f = ap not (e ∙ ap not f)
 
--- what holds of all columns holds of the own ones
+-- what holds for all columns holds for the own ones
 own_rec : (P : Column → Type 0) (columns : List Column) (likes : List (Option ℕ))
     → AllByRecursion P columns → AllByRecursion P (own_columns columns likes)
 own_rec P [] likes h = h
@@ -123,7 +123,7 @@ pub own_all : (P : Column → Type 0) (columns : List Column) (likes : List (Opt
 own_all P columns likes h =
     All-from_recursion P (own_columns columns likes) (own_rec P columns likes (recursion_from_All P columns h))
 
--- where none is told
+-- if no column is known to repeat another
 pub none_alike : (l : Layout) (columns : List Column) (likes : List (Option ℕ)) (n : ℕ)
     → likes ≡ replicate n None → length columns ≡ n → AreLikes l columns likes
 none_alike l columns likes n e f = record {

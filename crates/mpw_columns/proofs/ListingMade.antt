@@ -32,7 +32,7 @@ use Rattle.mpw_columns.proofs.DisplacedLists.{list_near}
 use Rattle.mpw_columns.proofs.OneLine.{ruled}
 use Rattle.mpw_columns.proofs.Zipped.{zip_append, zip_at, zip_length}
 
--- ---- lists, place by place
+-- ---- lists, index by index
 
 zip_both : {X Y Z : Type 0} (R : X → Y → Type 0) (S : Y → Z → Type 0) (T : X → Z → Type 0)
     → ((x : X) (y : Y) (z : Z) → R x y → S y z → T x z) → (xs : List X) (ys : List Y) (zs : List Z)
@@ -131,7 +131,7 @@ still (k ∷ ks) = ap (λ (l : Key). l ∷ map (displaced_key (pos 0)) ks) (one_
 
 -- ---- which lists a column has
 
--- what stands at a place of a list that is seen from there on
+-- what is at an index of a list that is seen from there on
 module _ (own rest : List Column) (n : ℕ) (c : Column) (e : drop n own ≡ c ∷ rest) where
   pub within : n < length own
   within =
@@ -149,7 +149,7 @@ module _ (own rest : List Column) (n : ℕ) (c : Column) (e : drop n own ≡ c �
       let more = drop_more own n c within in
       ap (λ (cs : List Column). drop 1 cs) (sym more ∙ e)
 
-  -- a column of its own is the next of those
+  -- a column of its own takes the next of those
   pub placed_own : (s : Snapshot) (p : Placed) → p.list ≡ n → p.by ≡ pos 0 → IsSpot c.from
       → IsPlacedAt s own c p
   placed_own s p f g spot = record {
@@ -162,7 +162,7 @@ module _ (own rest : List Column) (n : ℕ) (c : Column) (e : drop n own ≡ c �
         (sym (ap (λ (x : ℤ). map (displaced_key x) keys) g ∙ still keys)) h;
   }
 
--- one that is like an earlier one has the lists of that
+-- one that repeats an earlier column has the lists of that
 pub placed_like : DisplacedColumnsHaveDisplacedLists → (l : Layout) (own : List Column)
     (earlier c : Column) (p q : Placed) → IsLayout l → IsSpot c.from
     → IsPlacedAt l.snapshot.now own earlier p → IsLike l earlier c → q.list ≡ p.list
@@ -221,7 +221,7 @@ module _ (s : Snapshot) (most lists : ℕ) (own : List Column) (firsts : List Fi
       let rest = all_listed cs ps h.1 in
       (one.0 ∷ rest.0, (one.1, rest.1), (one.2, rest.2))
 
--- nothing of them is far off
+-- no coordinate is out of bounds
 module _ (law : TestDecidesPairSteps) (l : Layout) (h : IsLayout l) (most lists : ℕ) where
   one_near : (c : Column) (f : Firsts) → IsUpright (upright (seen_box c.axis l.extent) c)
       → HasFirsts l.snapshot.now most lists c f → AreNear f
@@ -260,7 +260,7 @@ same_first most rules book first made counts counted all summed e f g h =
     (subst (λ (ns : List ℕ). AreFirstOf most rules book made ns all) (sym f)
     (subst (λ (ms : List Marker). AreFirstOf most rules book ms counts all) (sym e) h))
 
--- where nothing is shown
+-- if there are no shapes
 pub none_found : (s : Snapshot) (most : ℕ) (columns : List Column) (listing : Listing)
     → shown_extent s ≡ None → All (IsColumnWithin s) columns → listing.firsts.items ≡ []
     → listing.placed.items ≡ [] → HasListing s most columns listing

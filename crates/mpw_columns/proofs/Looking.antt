@@ -1,4 +1,4 @@
--- What is looked at of a layout, and how far it lies.
+-- What is read of a layout, and the bounds of its coordinates.
 use Rattle.std.proofs.Common.{◌≡◌, ℕ, ◌+◌, ◌<◌, ◌≤◌, ◌^◌, pos, ◌+ℤ◌, ◌≤ℤ◌, true, Option, Some, List, [], length, get_or, inl, inr, sym, subst, ap, ◌∙◌, arith}
 use Rattle.std.specs.Prelude.{All, Contains, ◌↔◌}
 use Rattle.std.proofs.lemmas.Int.{ints}
@@ -34,7 +34,7 @@ use Rattle.mpw_columns.specs.Internal.Listed.{ShowSeen}
 use Rattle.mpw_columns.proofs.Dividing.{added_agree}
 use Rattle.mpw_columns.proofs.Windowed.{agree_listed}
 
--- ---- how far it lies
+-- ---- bounds of coordinates
 
 pub window_in_plane : (axis : Axis) (core : Box2) (n : ℕ) (s : Square) → IsUpright core → n ≤ 2 ^ 33
     → has_square (seen_box axis (across core n)) s ≡ true → IsSquareInPlane s
@@ -155,7 +155,7 @@ keys_from rules seen layers distance axis on listed slice core old new e look ag
       λ h. told.1 (inr h),
     )
 
--- ---- what is looked for
+-- ---- the input of a search
 
 pub look_from : (rules : List Rule) (seen : List Rule) (layers slice : List Layer) (distance : ℕ)
     → seen ≡ rules → slice ≡ layers → length rules ≤ 256

@@ -40,7 +40,7 @@ steps_stand laws s extent line j found e =
     (λ layer. laws.lie (shown s) extent layer (on layer) found (tests_tell (shown s) layer))
     ((step_on_seen laws.decides r.rule on line.axis line.side line.x1 line.x2 j).0 r.step)
 
--- a step whose first edge stands in a column lies in it
+-- a step whose first edge lies in a column lies in it
 in_column : (extent : Box2) (c : Column) (line : Line) (j : ℤ) → line.axis ≡ c.axis
     → StandsIn (seen_box line.axis extent) line.x1 j → c.from ≤ℤ line.x1 → line.x1 <ℤ c.to
     → is_in_column extent c line j ≡ true

@@ -1,4 +1,4 @@
--- Items that are moved show their squares moved, and what meets a window shows its squares.
+-- Displaced items have their squares displaced, and what touches a window has its squares.
 use Rattle.std.proofs.Common.{◌≡◌, ◌∙◌, ℤ, ◌+ℤ◌, Bool, true, ◌&&◌, ◌||◌, List, [], ◌∷◌, map, Option, refl, sym, ap, arith}
 use Rattle.std.proofs.lemmas.Int.{ints}
 use Rattle.mpw_geom.specs.declared.plane.Box2.{Box2}
@@ -27,7 +27,7 @@ same_square s t e f =
     ap (λ (n : ℤ). let q : Square = record { column = n; row = s.row } in q) e
     ∙ ap (λ (n : ℤ). let q : Square = record { column = t.column; row = n } in q) f
 
--- ---- items that are moved
+-- ---- displaced items
 
 moved_has : (d : Point) (item : Item) (p s : Square) → p.column ≡ (s.column +ℤ d.x)
     → p.row ≡ (s.row +ℤ d.y) → item_has (moved d item) p ≡ item_has item s
@@ -46,9 +46,9 @@ moved_shown d (x ∷ xs) layer i j p q e f =
     ∙ ap (λ (b : Bool). (on && item_has x (record { column = i; row = j })) || b)
     (moved_shown d xs layer i j p q e f)
 
--- ---- what meets a window
+-- ---- what touches a window
 
--- where what has the square meets a window, and what meets it is shown, the square is
+-- if what has the square touches a window, and what touches it is included, then the square is
 pub shows_square : SquaresLieInBoxes → (window : Box2) (all shown : List Item)
     → AreWhole window all shown → AreSound all shown → (layer : Layer) (s : Square)
     → ((o : Option Box2) → IsInBox o s → is_met window o ≡ true)

@@ -1,4 +1,4 @@
--- Maximal runs on one line, and where lines stand.
+-- Maximal runs on one line, and the order of lines.
 use Rattle.std.proofs.Common.{◌≡◌, ◌∙◌, ℕ, ◌<◌, ℤ, pos, ◌-ℤ◌, ◌<ℤ◌, Bool, true, List, length, Some, None, nat_cmp, int_cmp, is_eq, Ordering, Less, Equal, Greater, refl, sym, subst, ap, ◌⊎◌, inl, inr, arith}
 use Rattle.std.specs.Prelude.{slice_get}
 use Rattle.std.specs.Ordering.{eq_by_cmp, ordering_then}
@@ -41,13 +41,13 @@ module _ (steps : Line → ℤ → Bool) (k l : Key) (m : IsMaximal steps k) (n 
   on_first : (j : ℤ) → steps (line_of_key l) j ≡ true → steps (line_of_key k) j ≡ true
   on_first j h = subst (λ (line : Line). steps line j ≡ true) (sym e) h
 
-  -- the one that begins later begins behind the other's end, with a gap
+  -- the one that begins later begins after the other's end, with a gap
   pub gap : k.y0 <ℤ l.y0 → k.y1 <ℤ l.y0
   gap h = by_lt_z k.y1 l.y0 (λ less. less)
       (λ more. absurd (false≢true (sym n.below ∙ on_other (l.y0 -ℤ pos 1)
       (m.rows (l.y0 -ℤ pos 1) (omega (arith, ints, h)) (omega (arith, ints, more))))))
 
-  -- those that begin alike end alike
+  -- those that begin at the same row end at the same row
   pub same_end : k.y0 ≡ l.y0 → k.y1 ≡ l.y1
   same_end h =
       let first = m.filled in
@@ -179,7 +179,7 @@ before_by_rule k l h =
     inl (then_less (nat_cmp k.rule l.rule) (ordering_then (axis_cmp k.axis l.axis) sides)
     (nat_less k.rule l.rule h))
 
--- what it is that neither key comes first
+-- what follows if neither key comes first
 pub record IsTied (k l : Key) : Type 0 where
   pub list : list_number k ≡ list_number l
   pub x1 : k.x1 ≡ l.x1

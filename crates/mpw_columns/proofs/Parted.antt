@@ -1,4 +1,4 @@
--- The parts of rectangles in a window have its squares of them.
+-- The parts of rectangles in a window have the rectangles' squares there.
 use Rattle.std.proofs.Common.{◌≡◌, ℕ, ◌+◌, ◌<◌, ◌≤◌, ℤ, ◌≤ℤ◌, ◌<ℤ◌, Bool, true, false, ◌&&◌, ◌||◌, List, [], ◌∷◌, ◌++◌, length, get_or, take, refl, sym, ap, ◌∙◌, arith}
 use Rattle.std.proofs.lemmas.Int.{ints, clamps}
 use Rattle.std.proofs.lemmas.List.{take_all}
@@ -32,7 +32,7 @@ and_none : (t : Bool) → (t && false) ≡ false
 and_none true = refl
 and_none false = refl
 
--- of a square of the window, the part has it where the rectangle does
+-- a square of the window is in the part if it is in the rectangle
 part_squares : (b window part : Box2) (i j : ℤ) → part ≡ intersection b window
     → window.x0 ≤ℤ i → i <ℤ window.x1 → window.y0 ≤ℤ j → j <ℤ window.y1
     → has_square b (at i j) ≡ has_square part (at i j)

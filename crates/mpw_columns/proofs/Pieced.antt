@@ -1,4 +1,4 @@
--- Pieces of cores: put together, in other squares, and as runs.
+-- Pieces of cores: joined, in other squares, and as runs.
 use Rattle.std.proofs.Common.{◌≡◌, ◌∙◌, ℕ, ◌+◌, ◌≤◌, ℤ, pos, ◌-ℤ◌, ◌≤ℤ◌, ◌<ℤ◌, Bool, true, ◌&&◌, List, ◌++◌, get_or, ◌⊎◌, inl, inr, Option, Some, refl, sym, subst, ap, arith, append_assoc}
 use Rattle.std.specs.Prelude.{All, Contains, slice_get, ◌↔◌}
 use Rattle.std.proofs.lemmas.Bool.{and_parts, and_from, false≢true}
@@ -54,9 +54,9 @@ row_cases a b line j r = elim (Contains-append_cases a b r.piece r.there) [
   | inr h ↦ inr (record { piece = r.piece; there = h; on_line = r.on_line; from = r.from; to = r.to })
 ]
 
--- ---- a core that is two
+-- ---- a core that is cut in two
 
--- each step of the core lies in one of its parts, and theirs are its own
+-- each step of the core lies in one of its parts, and their steps are its own
 abbrev pub ArePartsOf : List Rule → Axis → Coverage → (core first second : Box2) → Type 0
 ArePartsOf rules axis on core first second = (line : Line) (j : ℤ) → IsStepIn rules axis on core line j
     ↔ (IsStepIn rules axis on first line j ⊎ IsStepIn rules axis on second line j)
@@ -88,7 +88,7 @@ adds_join rules axis on core first second old mid new parts p q = record {
   pieces = pieces_join rules axis on core first second p.added q.added parts p.pieces q.pieces;
 }
 
--- a step whose core is another
+-- the step is in another core too
 step_in : (rules : List Rule) (axis : Axis) (on : Coverage) (core other : Box2) (line : Line) (j : ℤ)
     → (s : IsStepIn rules axis on core line j)
     → (other.x0 ≤ℤ line.x1) × (line.x1 <ℤ other.x1) × (other.y0 ≤ℤ j) × (j <ℤ other.y1)
@@ -266,7 +266,7 @@ found_pieces law rules axis on core keys found = record {
 same_rule : (o : Option Rule) (a b : Rule) → o ≡ Some a → o ≡ Some b → a ≡ b
 same_rule o a b e f = cc
 
--- the step of a rule that the row's is
+-- the step of a rule to which the row belongs
 step_of : (rules : List Rule) (axis : Axis) (on : Coverage) (core : Box2) (k : Key) (j : ℤ)
     (rule : Rule) → slice_get rules k.rule ≡ Some rule
     → IsStepIn rules axis on core (line_of_key k) j → HasStepAt rule on core k j

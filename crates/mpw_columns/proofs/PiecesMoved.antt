@@ -1,4 +1,4 @@
--- Pieces of what is moved, across the edges and along them.
+-- Pieces of what is displaced, across the edges and along them.
 use Rattle.std.proofs.Common.{◌≡◌, ◌∙◌, ℕ, ℤ, ◌+ℤ◌, ◌-ℤ◌, ◌≤ℤ◌, ◌<ℤ◌, List, map, get_or, refl, sym, subst, ap, arith}
 use Rattle.std.specs.Prelude.{All, ◌↔◌}
 use Rattle.std.proofs.lemmas.Int.{ints}
@@ -27,7 +27,7 @@ use Rattle.mpw_columns.proofs.Telling.{of_map, to_map}
 
 -- ---- along the edges
 
--- the squares, of which each is the one that lies so much higher
+-- the squares, displaced by -`by` along the edges: each is the one that lies `by` higher
 abbrev lowered : ℤ → Squares → Squares
 lowered by a i j = a i (j +ℤ by)
 
@@ -209,7 +209,7 @@ moved_pieces rules axis d on core keys p = record {
           to = omega (arith, ints, u);
         }
 
--- each square is shown, moved, and nothing else
+-- each square is included, displaced, and nothing else
 abbrev pub AreSquaresMoved : Point → Coverage → Coverage → Type 0
 AreSquaresMoved d on other = (layer : Layer) (i j : ℤ) → other layer (i +ℤ d.x) (j +ℤ d.y) ≡ on layer i j
 

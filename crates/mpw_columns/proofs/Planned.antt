@@ -50,7 +50,7 @@ lie_within s columns p = subst (All (IsColumnWithin s)) (sym p.are)
     (λ k d lt. both_within s p.upright p.across (shown_extent s) refl p.cover
     (get_or (p.upright ++ p.across) k d) (Contains-get_or (p.upright ++ p.across) k d lt))
 
--- ---- where nothing is shown
+-- ---- if there are no shapes
 
 pub none_counted : (s : Snapshot) (columns : List Column) → shown_extent s ≡ None → columns ≡ []
     → IsCounted s 0 columns

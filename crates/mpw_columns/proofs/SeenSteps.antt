@@ -1,4 +1,4 @@
--- What is found of what is seen along an axis is what the tests of pair steps tell.
+-- What is found in what is seen along an axis is what the tests of pair steps find.
 use Rattle.std.proofs.Common.{◌≡◌, ℕ, ℤ, pos, ◌-ℤ◌, true, List, Option, Some, refl, sym, subst, ◌∙◌, arith}
 use Rattle.std.specs.Prelude.{◌↔◌, slice_get}
 use Rattle.std.proofs.lemmas.Bool.{false≢true, and_parts, and_from}

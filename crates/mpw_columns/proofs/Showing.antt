@@ -1,4 +1,4 @@
--- Rectangles that are added to a list, by the squares that are seen of them.
+-- Rectangles that are added to a list, by their squares as seen.
 use Rattle.std.proofs.Common.{◌≡◌, ℕ, ◌+◌, ◌<◌, ◌≤◌, List, [], ◌∷◌, ◌++◌, length, get_or, take, ◌⊎◌, inl, inr, refl, sym, subst, ap, ◌∙◌}
 use Rattle.std.specs.Prelude.{◌↔◌}
 use Rattle.std.proofs.lemmas.List.{take_all}
@@ -24,7 +24,7 @@ use Rattle.mpw_keys.specs.Columns.{seen_box}
 use Rattle.mpw_columns.specs.Seen.{seen_square}
 use Rattle.mpw_columns.specs.Internal.Listed.{seen_rectangle, AddsSeen, AddsShown, ShowSeen}
 
--- ---- what is seen of a box
+-- ---- a box as seen
 
 pub seen_has : (axis : Axis) (b : Box2) (s : Square)
     → has_square (seen_box axis b) (seen_square axis s) ≡ has_square b s

@@ -1,4 +1,4 @@
--- Cores that are solved, kept, moved and cut.
+-- Cores that are solved, held, displaced and cut.
 use Rattle.std.proofs.Common.{◌≡◌, ◌∙◌, ◌+◌, ◌+ℤ◌, List, [], ◌∷◌, ◌++◌, map, Option, Some, None, inl, inr, sym, subst, ap, arith, IfSome}
 use Rattle.std.specs.Prelude.{All}
 use Rattle.std.proofs.lemmas.Int.{ints}
@@ -30,9 +30,9 @@ pub some_weaker : {X : Type 0} (o : Option X) (P Q : X → Type 0) → ((x : X) 
 some_weaker None P Q f h = tt
 some_weaker (Some x) P Q f h = f x h
 
--- ---- what is kept
+-- ---- what is held
 
--- a core that is kept with its things and its pieces
+-- a core that is held with its entries and its pieces
 pub solved_new : (l : Layout) (axis : Axis) (core : Box2) (things : List Thing) (keys : List Key)
     (s : Solved) → IsLayout l → s.core ≡ core → s.things ≡ things → s.keys.items ≡ keys
     → AreThingsIn l axis core things → AreLayoutPieces l axis core keys → IsSolved l axis s
@@ -49,12 +49,12 @@ pub solved_more : (l : Layout) (axis : Axis) (s : Solved) (old new : List Solved
 solved_more l axis s old new h one e =
     subst (All (IsSolved l axis)) (sym e) (All-push (IsSolved l axis) old s h one)
 
--- a box is another one, moved
+-- a box is another one, displaced
 pub box_moved : (d : Point) (b o : Box2) → o.x0 ≡ (b.x0 +ℤ d.x) → o.x1 ≡ (b.x1 +ℤ d.x)
     → o.y0 ≡ (b.y0 +ℤ d.y) → o.y1 ≡ (b.y1 +ℤ d.y) → IsMovedCore d b o
 box_moved d b o e f g h = same_box o (moved_box d b) e g f h
 
--- the pieces of a core that is a kept one, moved
+-- the pieces of a core that is a held one, displaced
 pub solved_moved : (l : Layout) (axis : Axis) (s : Solved) (core : Box2) (things : List Thing)
     (d way : Point) (keys slice : List Key) → IsLayout l → IsSolved l axis s
     → things_items l.snapshot.now.shelf things
@@ -166,7 +166,7 @@ cut_joined l axis core first second old mid new c p q =
     adds_join l.snapshot.now.deck.rules axis (seen_layout l axis) core first second old mid new
     (cut_parts l.snapshot.now.deck.rules axis (seen_layout l axis) core first second c) p q
 
--- ---- pieces behind others
+-- ---- pieces after others
 
 pub behind_others : (l : Layout) (axis : Axis) (core : Box2) (old new added : List Key)
     → new ≡ old ++ added → AreLayoutPieces l axis core added → AddsLayoutPieces l axis core old new

@@ -1,4 +1,4 @@
--- What the markers of a layout of one submission meet, and which runs the keys of a column are.
+-- What the markers of a layout of one submission touch, and which runs the keys of a column are.
 use Rattle.std.proofs.Common.{◌≡◌, ℕ, ◌<◌, true, List, [], ◌∷◌, length, map, inl, inr, refl, sym, subst, ap, ◌∙◌, arith}
 use Rattle.std.specs.Prelude.{Contains, All, Some, ◌↔◌}
 use Rattle.std.specs.Ordering.{eq_by_cmp}
@@ -50,7 +50,7 @@ to_map f xs x c =
     let lt = c.1 in
     (c.0, omega arith, get_or-map f xs c.0 x (f x) c.1 ∙ ap f c.2)
 
--- ---- what is met
+-- ---- what is touched
 
 shown_seen : (items : List Item) → TellsSeen (shown_on items) (HasShown items)
 shown_seen items layer i j e =
@@ -85,7 +85,7 @@ one_origin items b some origin h m = (
 ascending_one : IsAscending (0 ∷ [])
 ascending_one i j d lt within = absurd (omega arith)
 
--- the markers of runs, each of which meets the first submission alone, meet what their boxes meet
+-- the markers of runs, each of which touches the first submission alone, touch what their boxes touch
 pub meets_first : TestDecidesPairSteps → (s : Snapshot) (k : Key) → AreOfFirst (shown s)
     → IsRunOf s k → MeetsShown s (of_first k)
 meets_first law s k first run =

@@ -1,4 +1,4 @@
--- The rectangles of things.
+-- The rectangles of entries.
 use Rattle.std.proofs.Common.{◌≡◌, ◌∙◌, ℕ, ◌+◌, ◌<◌, ◌≤◌, ◌^◌, List, [], ◌∷◌, ◌++◌, take, get_or, length, Option, Some, None, Result, Ok, Err, refl, sym, subst, ap, arith, IfOk, IfSome}
 use Rattle.std.specs.Prelude.{All, Contains, option_copied}
 use Rattle.std.specs.Borrow.{Bor}
@@ -38,7 +38,7 @@ use Rattle.mpw_columns.proofs.Looking.{window_in_plane}
 use Rattle.mpw_columns.proofs.Showing.{none_listed, item_listed}
 use Rattle.mpw_columns.proofs.ThingsShown.{things_within, things_on}
 
--- ---- what a part is told to show
+-- ---- what a part contains
 
 pub of_some : {X E : Type 0} (r : Result (Option X) E) (o : Option X) (x : X) (P : X → Type 0)
     → r ≡ Ok o → o ≡ Some x → IfOk r (λ p. IfSome p P) → P x
@@ -60,7 +60,7 @@ part_told law l axis core window things shelf (Ok (Some part)) w s are boxed who
     (subst (λ (ss : List Submission). All (IsBoxed ss) part) s boxed)
     are
 
--- ---- things that are listed
+-- ---- entries that are listed
 
 pub nothing_listed : (layers : List Layer) (axis : Axis) (t : Placing) (o : Option Element)
     (r : Option (Bor Element)) (listed : List Rectangle) → option_copied r ≡ o → r ≡ None
@@ -81,7 +81,7 @@ something_listed layers axis t o r b old new copied is added done h =
     (ap (λ (e : Option Element). done ++ drawn t e) (sym (ap option_copied is) ∙ copied))
     (item_listed layers axis done (record { origin = 0; placing = t; element = b.now }) old new h added)
 
--- one thing more
+-- one entry more
 items_push : (ss : List Submission) (things : List Thing) (thing : Thing)
     → things_items ss (things ++ thing ∷ []) ≡ things_items ss things ++ thing_items ss thing
 unfolding things_items
@@ -156,7 +156,7 @@ rectangles_told l axis core window things listed slice parts made short u are sh
 
 -- ---- the whole layout
 
--- what shows the layout shows it in any window
+-- entries that are the whole layout have its content in any window
 top_shows : (l : Layout) (axis : Axis) (core : Box2) (top : List Thing)
     → All (IsBoxed l.snapshot.now.shelf) top
     → things_items l.snapshot.now.shelf top ≡ shown l.snapshot.now → AreThingsIn l axis core top
@@ -166,7 +166,7 @@ top_shows l axis core top boxed e = record {
   boxed = boxed;
 }
 
--- the things of the layout, made of the top: what meets a window, on the layers
+-- the entries of the layout, made from the top: what touches a window, on the layers
 pub all_told : {E : Type 0} → SquaresLieInBoxes → (l : Layout) (axis : Axis) (core window : Box2)
     (top all on : List Thing) (shelf : List Submission) (r : Result (Option (List Thing)) E)
     (o : Option (List Thing)) → r ≡ Ok o → o ≡ Some all

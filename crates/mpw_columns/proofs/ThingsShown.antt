@@ -1,4 +1,4 @@
--- What parts of things show, and what things show that are moved.
+-- The content of parts of entries, and of displaced entries.
 use Rattle.std.proofs.Common.{◌≡◌, ◌∙◌, ◌+◌, ℤ, ◌+ℤ◌, ◌≤ℤ◌, ◌<ℤ◌, List, map, Some, refl, sym, subst, ap, arith}
 use Rattle.std.specs.Prelude.{All, Contains}
 use Rattle.std.proofs.lemmas.Int.{ints}
@@ -32,7 +32,7 @@ use Rattle.mpw_columns.proofs.Moved.{shows_square, moved_shown}
 use Rattle.mpw_columns.proofs.PiecesMoved.{AreSquaresMoved}
 use Rattle.mpw_columns.proofs.Windowed.{is_met_by}
 
--- ---- what meets a window
+-- ---- what touches a window
 
 shows_seen : SquaresLieInBoxes → (axis : Axis) (window met : Box2) (all shown : List Item)
     → MeetsSquaresOf (seen_box axis window) met → AreWhole met all shown → AreSound all shown
@@ -48,7 +48,7 @@ shows_seen law H window met all shown meets whole sound layer i j l r low high =
     (test_from_SquareIn (seen_box H window) s
     (record { left = low; right = high; bottom = l; top = r })))
 
--- what shows in a core's window what the layout does, in the window of a core inside it does so too
+-- entries with the layout's content in a core's window have it in the window of a core inside it too
 pub things_inside : (l : Layout) (axis : Axis) (core outer : Box2) (things : List Thing)
     → IsInside core outer → AreThingsIn l axis outer things → AreThingsIn l axis core things
 things_inside l axis core outer things inside are =
@@ -116,7 +116,7 @@ things_on l axis core things part kept sound boxed are = record {
   boxed = boxed are.boxed;
 }
 
--- ---- moved
+-- ---- displaced
 
 items_moved : (axis : Axis) (d : Point) (first second : List Item) → second ≡ map (moved d) first
     → AreSquaresMoved (seen_way axis d) (seen_on axis (shown_on first)) (seen_on axis (shown_on second))
@@ -135,7 +135,7 @@ things_moved l axis d first second e = items_moved axis d
 
 -- ---- columns
 
--- the things of a batch show what the layout does in the window of each of its columns
+-- the entries of a batch have the layout's content in the window of each of its columns
 pub part_things : (l : Layout) (c : Column) (listed : Listed) (core : Box2) → IsPart c listed.whole
     → HasThings l listed → core ≡ upright (seen_box c.axis l.extent) c
     → AreThingsIn l c.axis core listed.things

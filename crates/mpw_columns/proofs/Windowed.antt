@@ -1,4 +1,4 @@
--- The rectangles of what meets a window have the squares of the layout there, as they are seen along an axis.
+-- The rectangles of what touches a window have the squares of the layout there, as they are seen along an axis.
 use Rattle.std.proofs.Common.{◌≡◌, ℕ, pos, ◌+ℤ◌, ◌-ℤ◌, ◌≤ℤ◌, Bool, true, false, cond, List, [], ◌∷◌, Option, inl, inr, sym, subst, ap, ◌∙◌, arith}
 use Rattle.std.specs.Prelude.{Contains, filter, ◌↔◌}
 use Rattle.std.specs.Int.{int_min, int_max}
@@ -27,7 +27,7 @@ use Rattle.mpw_columns.specs.Internal.Found.{AgreeIn}
 use Rattle.mpw_columns.specs.Internal.Listed.{ShowSeen}
 use Rattle.mpw_columns.specs.Internal.Pieces.{MeetsSquaresOf, smaller}
 
--- ---- what a filter keeps
+-- ---- what a filter selects
 
 kept : {X : Type 0} (p : X → Bool) (xs : List X) (x : X) → Contains xs x → p x ≡ true
     → Contains (filter p xs) x
@@ -53,7 +53,7 @@ from_kept : {X : Type 0} (p : X → Bool) (xs : List X) (x : X) → Contains (fi
 from_kept p xs x c = All-contains (Contains xs) (filter p xs) x
     (All-filter p (Contains xs) xs (All-contains_itself xs)) c
 
--- ---- boxes that meet
+-- ---- boxes that touch
 
 shares : (a b : Box2) (s : Square) → has_square a s ≡ true → has_square b s ≡ true
     → do_meet a b ≡ true
@@ -67,7 +67,7 @@ shares a b s h k =
     (test_from_le (int_max a.x0 b.x0) (int_min a.x1 b.x1) (omega (arith, ints, clamps)))
     (test_from_le (int_max a.y0 b.y0) (int_min a.y1 b.y1) (omega (arith, ints, clamps)))
 
--- a square of a window lies in a box that is smaller by 1 on each side, or meets it
+-- a square of a window lies in a box that is smaller by 1 on each side, or touches it
 pub shares_smaller : (a b small : Box2) (s : Square) → small ≡ smaller b → small.x0 ≤ℤ small.x1
     → small.y0 ≤ℤ small.y1 → has_square b s ≡ true → has_square a s ≡ true → do_meet a small ≡ true
 unfolding do_meet
@@ -89,7 +89,7 @@ pub is_met_by : (window met : Box2) (o : Option Box2) (s : Square) → MeetsSqua
 is_met_by window met o s meets h k = subst (λ (x : Option Box2). is_met met x ≡ true) (sym h.is)
     (meets h.corners s k h.has)
 
--- what has a square of either of two boxes meets that of both
+-- what has a square of either of two boxes touches the box of both
 pub meets_first : (a b : Box2) → MeetsSquaresOf a (joined a b)
 meets_first a b o s h k =
     let p = SquareIn-from_test a s h in
@@ -120,7 +120,7 @@ pub is_met_at : (window : Box2) (o : Option Box2) (s : Square) → IsInBox o s
 is_met_at window o s h k = subst (λ (x : Option Box2). is_met window x ≡ true) (sym h.is)
     (shares h.corners window s h.has k)
 
--- a square of the window is shown where what meets the window shows it
+-- a square of the window is included if what touches the window includes it
 pub shown_met : SquaresLieInBoxes → (window : Box2) (items : List Item) (layer : Layer) (origin : ℕ)
     (s : Square) → has_square window s ≡ true
     → IsShown items layer origin s ↔ IsShown (items_met window items) layer origin s

@@ -1,4 +1,4 @@
--- Two lists, related place by place.
+-- Two lists, related index by index.
 use Rattle.std.proofs.Common.{◌≡◌, ℕ, zero, suc, ◌<◌, List, [], ◌∷◌, ◌++◌, length, get_or, take, drop, refl, ap, arith}
 use Rattle.std.specs.List.{AllZip}
 

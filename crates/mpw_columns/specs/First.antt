@@ -6,7 +6,7 @@ use Rattle.mpw_job.specs.Layout.{AreLayoutMarkers}
 use Rattle.mpw_keys.specs.Firsts.{AreFirstOf}
 use Rattle.mpw_columns.specs.declared.first.FirstMarkers.{FirstMarkers}
 
--- They are those of the flat layout's markers, as many of each rule as are wanted, and the numbers are those of all of them.
+-- They are the first of the flat layout's markers, at most `most` of each rule, and the numbers count all of them.
 pub record IsFirstOfLayout (most : ℕ) (s : Snapshot) (f : FirstMarkers) : Type 0 where
   pub book : List Marker
   pub markers : AreLayoutMarkers s book

@@ -1,4 +1,4 @@
--- The lists of columns that follow on one another.
+-- The lists of adjacent columns.
 use Rattle.std.specs.Prelude.{◌≡◌, ℕ, ℤ, List, AllPairs, Contains, ◌↔◌}
 use Rattle.std.specs.List.{AllZip, flat_map}
 use Rattle.std.specs.Ordering.{int_cmp, ordering_then}
@@ -21,7 +21,7 @@ pub record IsListFor (s : Snapshot) (rule side : ℕ) (c : Column) (keys : List 
       ↔ ((k.rule ≡ rule) × (k.side ≡ side) × IsRunWithin s c k)
   pub ordered : AllPairs ComesFirst keys
 
--- The list of a rule, an axis and a side is that of its columns, one behind another, where the columns follow on one another.
+-- The list of a rule, an axis and a side is that of its columns, one after another, if the columns are adjacent and in order.
 abbrev pub ColumnsFollowOn : Type 0
 ColumnsFollowOn =
     (s : Snapshot) (rule side : ℕ) (axis : Axis) (low high : ℤ) (columns : List Column)

@@ -10,7 +10,7 @@ use Rattle.mpw_edges.specs.Pieces.{HasVerticalStep}
 use Rattle.mpw_markers.specs.declared.marker.Key.{Key}
 use Rattle.mpw_job.specs.Layers.{Coverage, first_squares, second_squares}
 
--- The rows from y0 to before y1 are a maximal run of rows that have P.
+-- The rows from y0 to y1 - 1 are a maximal run of rows that have P.
 pub record IsRun (P : ℤ → Type 0) (y0 y1 : ℤ) : Type 0 where
   pub filled : y0 <ℤ y1
   pub rows : (j : ℤ) → y0 ≤ℤ j → j <ℤ y1 → P j
@@ -30,7 +30,7 @@ pub record IsFound (rules : List Rule) (axis : Axis) (on : Coverage) (core : Box
   pub on_axis : k.axis ≡ axis
   pub run : IsRun (HasStepAt rule on core k) k.y0 k.y1
 
--- The layers that the check looks at are among these.
+-- The layers of the check are among these.
 abbrev pub HasLayers : List Layer → Check → Type 0
 HasLayers layers (Width layer) = Contains layers layer
 HasLayers layers (Space layer) = Contains layers layer

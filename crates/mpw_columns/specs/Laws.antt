@@ -32,8 +32,8 @@ use Rattle.mpw_columns.specs.Seen.{seen_on}
 use Rattle.mpw_columns.specs.Lists.{IsColumnList, MeetsShown}
 use Rattle.mpw_columns.specs.Within.{is_in_column}
 
--- Which pair steps of an axis lie in a half-open core depends on the squares of its window along that axis alone: the core, wider by the
--- greatest distance and 1 across the edges, and no wider along them.
+-- Which pair steps of an axis lie in a half-open core depends only on the squares of its window along that axis. The window is the core, wider by
+-- the greatest distance plus 1 across the edges, and no wider along them.
 abbrev pub WindowDecidesAlong : Type 0
 WindowDecidesAlong =
     (rule : Rule) (greatest : ℕ) (a b a' b' : Squares) (core : Box2) (axis : Axis)
@@ -44,15 +44,15 @@ WindowDecidesAlong =
     ↔ HasStep rule a' b' core axis side x1 x2 j
 
 -- The maximal runs of a column over all rows of the layout's extent are those of the whole layout on its axis whose x1 lies in it. So none
--- goes on in another column.
+-- continues in another column.
 abbrev pub ColumnsHaveWholeRuns : Type 0
 ColumnsHaveWholeRuns =
     (s : Snapshot) (extent : Box2) (c : Column) (k : Key) → shown_extent s ≡ Some extent
     → IsMaximal (steps_in (steps_of s.deck.rules (shown_on (shown s))) (is_in_column extent c)) k
     ↔ IsRunWithin s c k
 
--- Where columns of both axes cover the extent, the columns' lists, put together, are the book of the flat layout, if each of its markers
--- meets what its box meets.
+-- If columns of both axes cover the extent, and each marker touches what its box touches, then the joined lists of the columns are the
+-- book of the flat layout.
 abbrev pub ColumnsMakeTheLayout : Type 0
 ColumnsMakeTheLayout =
     (s : Snapshot) (extent : Box2) (upright across : List Column) (vs hs : List (List Key))
@@ -67,8 +67,8 @@ ColumnsLieWithin =
     (s : Snapshot) (columns : List Column) → AreColumnsOfLayout s columns
     → All (IsColumnWithin s) columns
 
--- Where the shelf has one submission alone and columns of both axes cover the layout, the markers of the columns' lists, put together, of
--- which each meets that submission, are the layout's.
+-- If the shelf has exactly one submission and columns of both axes cover the layout, then the markers of the joined lists are the layout's.
+-- Each marker touches that submission.
 abbrev pub ListsMakeTheLayout : Type 0
 ListsMakeTheLayout =
     (s : Snapshot) (upright across : List Column) (vs hs : List (List Key)) → length s.shelf ≡ 1
@@ -76,9 +76,9 @@ ListsMakeTheLayout =
     → AllZip (IsColumnList s) across hs
     → AreLayoutMarkers s (map of_first (together (length s.deck.rules) vs hs))
 
--- Two coverages, seen along an axis, of which the second has on the layers that the rules look at, in the window of a core, displaced
--- across the edges, just what the first has in the window of the core: what is found of the second in the displaced core is what is found of
--- the first in the core, displaced. The window is wider by a distance that is no less than any rule's, and 1.
+-- Two coverages are seen along an axis. On the layers of the rules, the second has in the window of a core, displaced across the edges, exactly
+-- what the first has in the window of the core. Then what is found of the second in the displaced core is what is found of the first in the core,
+-- displaced. The window is wider than the core by a distance that is at least each rule's, plus 1.
 abbrev pub DisplacedColumnsFindDisplacedRuns : Type 0
 DisplacedColumnsFindDisplacedRuns =
     (rules : List Rule) (layers : List Layer) (greatest : ℕ) (axis : Axis) (on other : Coverage)
@@ -88,8 +88,8 @@ DisplacedColumnsFindDisplacedRuns =
     → (k : Key) → IsFound rules axis on core k
     ↔ IsFound rules axis other (displaced by core) (displaced_key by k)
 
--- Where a column's window shows on the layers that the rules look at just what the displaced column's shows, displaced, the list of that
--- one is the column's, displaced.
+-- If, on the layers of the rules, the displaced column's window has exactly what the column's window has, displaced, then the list of the
+-- displaced column is the column's, displaced.
 abbrev pub DisplacedColumnsHaveDisplacedLists : Type 0
 DisplacedColumnsHaveDisplacedLists =
     (s : Snapshot) (extent : Box2) (layers : List Layer) (greatest : ℕ) (by : ℤ) (c e : Column)
@@ -99,8 +99,8 @@ DisplacedColumnsHaveDisplacedLists =
     → ShowsDisplaced s extent layers greatest by c → IsColumnList s c keys
     → IsColumnList s e (map (displaced_key by) keys)
 
--- Where what meets a window that is seen along an axis, moved across the edges, is what meets the window displaced, the one shows what the
--- other shows, displaced.
+-- All is seen along an axis. If what touches a window, displaced across the edges, is what touches the displaced window, then both windows have
+-- the same content, displaced.
 abbrev pub MovedItemsShowDisplaced : Type 0
 MovedItemsShowDisplaced =
     (axis : Axis) (all first second : List Item) (window : Box2) (by : ℤ)

@@ -1,4 +1,4 @@
--- The lists of columns, and what their markers meet.
+-- The lists of columns, and what their markers touch.
 use Rattle.std.specs.Prelude.{ℕ, List, Contains, ◌↔◌}
 use Rattle.mpw_geom.specs.Meeting.{IsMet}
 use Rattle.mpw_tiles.specs.Snapshots.{Snapshot, shown}
@@ -16,7 +16,7 @@ pub record IsColumnList (s : Snapshot) (c : Column) (keys : List Key) : Type 0 w
   pub exact : (k : Key) → Contains keys k ↔ IsRunWithin s c k
   pub ordered : AreInOrder keys
 
--- The marker meets just the origins of the shapes that its box meets.
+-- The marker touches exactly the origins of the shapes that its box touches.
 pub record MeetsShown (s : Snapshot) (m : Marker) : Type 0 where
   pub ascending : IsAscending m.met
   pub met : (origin : ℕ) → Contains m.met origin ↔ IsMet (HasShown (shown s)) (box_of m) origin

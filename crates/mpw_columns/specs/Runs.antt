@@ -1,4 +1,4 @@
--- The runs of a column.
+-- The runs of a layout and of a column.
 use Rattle.std.specs.Prelude.{◌≡◌, ◌≤ℤ◌, ◌<ℤ◌}
 use Rattle.mpw_tiles.specs.Snapshots.{Snapshot, shown}
 use Rattle.mpw_markers.specs.declared.marker.Key.{Key}

@@ -1,4 +1,4 @@
--- What is seen along an axis: on V the layout as it is, on H with the coordinates exchanged. So the edges are vertical, whatever the axis.
+-- Seen along an axis: on V the layout as it is, on H with the coordinates exchanged. So the edges are always vertical.
 use Rattle.mpw_geom.specs.Plane.{Square}
 use Rattle.mpw_edges.specs.declared.run.Axis.{Axis}
 use Rattle.mpw_edges.specs.declared.run.Axis.TheVariants.{V, H}

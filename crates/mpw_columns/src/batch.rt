@@ -1,5 +1,6 @@
-//! What the columns of a batch share: the things of their windows, where the layout places few structures often, or else their rectangles, where one
-//! list of them is worth it.
+//! What the columns of a batch share: either the entries (shapes and arrays) of their windows or one list of rectangles.
+//!
+//! Entries serve better if the layout places few structures often. Rectangles are shared only if one list for the whole batch saves time.
 
 ghost use Rattle.std.specs.Prelude.{◌≡◌, ◌+◌, ◌≤◌, ◌<◌, ◌↔◌, length, Contains, IfOk, IfSome};
 ghost use Rattle.mpw_markers.specs.declared.marker.Key.{Key as KeyValue};
@@ -25,34 +26,34 @@ use mpw_keys::Column;
 use mpw_markers::Key;
 use std::alloc::{AllocError, Global};
 
-/// The things of the whole layout; none where rectangles serve better.
+/// The entries (shapes and arrays) of the whole layout. `None` if rectangles serve better.
 #[derive(Drop)]
 pub(crate) struct Top {
     things: Option<Contents>,
 }
 
-/// The things of the window of a column, listed once for columns that lie in it.
+/// The entries in the window of a column, listed once for all columns that lie in it.
 #[derive(Drop)]
 pub(crate) struct Listed {
     whole: Column,
     things: Contents,
 }
 
-/// What the columns of a batch share; nothing of their own, where they take what they need from the whole layout's things.
+/// What the columns of a batch share. Both are `None` if each column takes what it needs from the entries of the whole layout.
 #[derive(Drop)]
 pub(crate) struct Batch {
     rectangles: Option<Shared>,
     things: Option<Listed>,
 }
 
-/// What the columns of a batch are checked from: what they share, and the things of the whole layout.
+/// The input of a batch's columns: what they share, and the entries of the whole layout.
 #[derive(Clone, Copy)]
 pub(crate) struct Source<'a> {
     pub(crate) top: &'a Top,
     pub(crate) batch: &'a Batch,
 }
 
-/// The things of the whole layout. Linear in what the top has; an error is want of memory.
+/// The entries of the whole layout. Cost: linear in the size of the top. The only error is out of memory.
 pub(crate) fn top_of(alloc: Global, layout: &Layout<'_>) -> Result<Top, AllocError>
     requires { IsLayout layout.now }
     ensures { IfOk result (IsTop layout.now) }
@@ -70,7 +71,7 @@ pub(crate) fn top_of(alloc: Global, layout: &Layout<'_>) -> Result<Top, AllocErr
     Ok(Top { things })
 }
 
-/// The layout, along an axis.
+/// The layout, seen along an axis.
 fn task_along<'a>(layout: &'a Layout<'a>, axis: Axis) -> Task<'a>
     ensures layout { result.layout.now ≡ layout.now }
     ensures axis { result.axis ≡ axis }
@@ -79,12 +80,12 @@ fn task_along<'a>(layout: &'a Layout<'a>, axis: Axis) -> Task<'a>
 }
 
 impl Top {
-    /// Whether there is a list of things.
+    /// Whether there is a list of entries.
     pub(crate) fn has_things(&self) -> bool {
         self.things.is_some()
     }
 
-    /// The things of the whole layout, for a core that lies in it; none where there is no such list.
+    /// The entries of the whole layout, for a core that lies in it. `None` if there is no such list.
     fn for_core(&self, task: &Task<'_>, core: &Box2) -> Option<&Contents>
         requires top { IsTop task.now.layout.now self.now }
         ensures { IfSome result (λ things. AreThingsIn task.now.layout.now task.now.axis core.now things.now) }
@@ -101,8 +102,8 @@ impl Top {
         Some(things)
     }
 
-    /// The things in the window of the column of all places of these columns; none where there is no such list. A pass over the things; an error is want
-    /// of memory.
+    /// The entries in the window of the smallest column that contains all these columns. `None` if there is no such list. Cost: one pass over the
+    /// entries. The only error is out of memory.
     fn listed(
         &self,
         alloc: Global,
@@ -134,7 +135,7 @@ impl Top {
         }
     }
 
-    /// What columns share. An error is want of memory.
+    /// What these columns share. The only error is out of memory.
     pub(crate) fn batch(
         &self,
         alloc: Global,
@@ -173,7 +174,7 @@ impl Batch {
 }
 
 impl Source<'_> {
-    /// Things that show in the window of a column's core what the layout does there; none where rectangles serve better.
+    /// Entries that have in the window of a column's core exactly what the layout has there. `None` if rectangles serve better.
     fn things_of(&self, task: &Task<'_>, core: &Box2, column: &Column) -> Option<&Contents>
         requires top { IsTop task.now.layout.now self.now.top.now }
         requires batch { IsBatch task.now.layout.now self.now.batch.now }
@@ -187,8 +188,8 @@ impl Source<'_> {
         }
     }
 
-    /// The keys of the maximal runs in the core of a column: from the things that the batch shares, or from rectangles where it shares some, or else from the
-    /// things of the whole layout. An error is want of memory.
+    /// The keys of the maximal runs in the core of a column. They are found from the entries that the batch shares, or from its shared rectangles if it
+    /// has some, or else from the entries of the whole layout. The only error is out of memory.
     pub(crate) fn keys_of(
         &self,
         alloc: Global,
@@ -215,7 +216,7 @@ impl Source<'_> {
     }
 }
 
-/// How many columns from a place on are of one axis, of so many at most.
+/// How many columns, from index `from` on, have the same axis: at most `most`.
 pub(crate) fn count_along(columns: &[Column], from: usize, most: usize) -> usize
     requires some { 1 ≤ most }
     requires within { from + most ≤ length columns.now }

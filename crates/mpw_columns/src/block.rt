@@ -1,7 +1,7 @@
-//! Columns that stand side by side, taken as one.
+//! Blocks: adjacent columns, compared as one column.
 //!
-//! Where a window about all of them shows what one about earlier ones shows, displaced, each of them shows what its counterpart does. So of an
-//! array of arrays the columns of an instance are told to be like those of another by a look at the instance, and not by one at each column.
+//! If the window of a block has the same content as the window of an earlier block, up to translation, then the columns of the two blocks are identical
+//! up to translation too. So the columns of an instance in an array of arrays need one comparison for the instance, not one for each column.
 
 ghost use Rattle.std.specs.Prelude.{◌<◌, ◌≤◌, ◌+◌, ◌-ℤ◌, IfSome, IsTrue, length};
 ghost use Rattle.mpw_columns.specs.Internal.Blocks.{IsUprightIn, AreUprightIn, IsBlockAt, IsPart, IsCounterpart, AreCounterparts};
@@ -14,7 +14,7 @@ use mpw_cuts::{Lattice, line_between};
 use mpw_edges::Axis;
 use mpw_keys::Column;
 
-/// Columns that stand side by side: where the first stands among all, how many there are, and the column of all their places.
+/// Adjacent columns: the index of the first, their number, and the column that contains them all.
 #[derive(Clone, Copy)]
 pub(crate) struct Block {
     pub(crate) place: usize,
@@ -22,7 +22,7 @@ pub(crate) struct Block {
     pub(crate) whole: Column,
 }
 
-/// Columns of a layout, and on which lines its arrays repeat along each axis.
+/// The columns of a layout, and for each axis the lines on which its arrays repeat.
 #[derive(Clone, Copy)]
 pub(crate) struct Columns<'a> {
     pub(crate) layout: &'a Layout<'a>,
@@ -31,7 +31,7 @@ pub(crate) struct Columns<'a> {
     pub(crate) horizontal: &'a [Lattice],
 }
 
-/// The column of all places of so many columns from a place on; none where they are of two axes, or the last ends before the first begins.
+/// The column that contains `count` columns from index `place` on. `None` if they have two axes, or if the last ends before the first begins.
 pub(crate) fn whole_of(
     layout: &Layout<'_>,
     columns: &[Column],
@@ -55,14 +55,14 @@ pub(crate) fn whole_of(
     })
 }
 
-/// Whether a column lies within another one of its axis.
+/// Whether a column lies within another one of the same axis.
 pub(crate) fn is_part(column: &Column, whole: &Column) -> bool
     ensures { IsTrue result → IsPart column.now whole.now }
 {
     is_same_axis(column.axis, whole.axis) && whole.from <= column.from && column.to <= whole.to
 }
 
-/// Whether a column of a block is that of an earlier one, displaced as the block is, and lies within the earlier one.
+/// Whether a column of a block is a column of an earlier block, displaced by the distance between the blocks, and lies within the earlier block.
 fn is_counterpart(
     layout: &Layout<'_>,
     earlier: &Column,
@@ -86,8 +86,8 @@ fn is_counterpart(
     is_same(distance(layout, column, other), by)
 }
 
-/// Whether each column of a block is that of an earlier one at its place, displaced as the block is, and lies within the earlier block. One
-/// pass over the columns of the block.
+/// Whether each column of a block is the column of an earlier block at the same index, displaced by the distance between the blocks, and lies within
+/// the earlier block. Cost: one pass over the columns of the block.
 fn are_counterparts(all: &Columns<'_>, earlier: &Block, block: &Block) -> bool
     requires upright { AreUprightIn all.now.layout.now all.now.list.now }
     requires earlier { IsUprightIn all.now.layout.now earlier.now.whole }
@@ -107,20 +107,20 @@ fn are_counterparts(all: &Columns<'_>, earlier: &Block, block: &Block) -> bool
     true
 }
 
-/// Whether a block stands behind an earlier one that has as many columns at least.
+/// Whether a block comes after an earlier one that has at least as many columns.
 fn stands_behind(earlier: &Block, block: &Block) -> bool
     ensures { IsTrue result → earlier.now.place + block.now.count ≤ block.now.place }
 {
     earlier.place <= block.place && block.count <= block.place - earlier.place
 }
 
-/// Whether a column is of an axis, and begins before a place.
+/// Whether a column has this axis and begins before a position.
 fn is_left(column: &Column, axis: Axis, cut: i64) -> bool {
     is_same_axis(column.axis, axis) && column.from < cut
 }
 
 impl<'a> Columns<'a> {
-    /// The block of so many columns from a place on; none where they are of two axes, or the last ends before the first begins.
+    /// The block of `count` columns from index `place` on. `None` if they have two axes, or if the last ends before the first begins.
     pub(crate) fn block(&self, place: usize, count: usize) -> Option<Block>
         requires upright { AreUprightIn self.now.layout.now self.now.list.now }
         requires some { 0 < count }
@@ -135,8 +135,8 @@ impl<'a> Columns<'a> {
         })
     }
 
-    /// Whether the columns of a block with these contents are told to be like those of an earlier one with those. Linear in the contents and in the
-    /// columns of the block; takes no memory.
+    /// Whether these contents show that the columns of a block are those of an earlier block, up to translation. Cost: linear in the contents and in the
+    /// columns of the block. Takes no memory.
     pub(crate) fn are_like(
         &self,
         earlier: &Block,
@@ -161,7 +161,7 @@ impl<'a> Columns<'a> {
         are_counterparts(self, earlier, block)
     }
 
-    /// On which lines arrays repeat across the edges of an axis.
+    /// The lines on which arrays repeat across the edges of an axis.
     fn lattices(&self, axis: Axis) -> &[Lattice] {
         match axis {
             Axis::V => self.vertical,
@@ -177,13 +177,13 @@ impl<'a> Columns<'a> {
         }
     }
 
-    /// Whether arrays repeat across the edges of the axis of the first or the last of so many columns from a place on.
+    /// Whether arrays repeat across the edges of the axis of the first or the last of `count` columns from index `place` on.
     pub(crate) fn may_repeat(&self, place: usize, count: usize) -> bool {
         self.may_repeat_along(place)
             || self.may_repeat_along(place.saturating_add(count.saturating_sub(1)))
     }
 
-    /// Where so many columns from a place on are cut: the first that doesn't stand left of it.
+    /// Where `count` columns from index `place` on are cut: the first that is not left of it.
     fn cut(&self, place: usize, count: usize) -> i64
         requires some { 0 < count }
         requires within { place + count ≤ length self.now.list.now }
@@ -199,8 +199,8 @@ impl<'a> Columns<'a> {
         line_between(self.lattices(first.axis), first.from, last.to).unwrap_or(half)
     }
 
-    /// How many of so many columns from a place on are a part that may repeat: those left of a line on which an array repeats, or of the middle, of the axis of the
-    /// first. At least one, and not all.
+    /// How many of `count` columns from index `place` on form a part that may repeat: those left of a line on which an array of the first column's axis
+    /// repeats, or else left of the middle. At least one, and not all.
     pub(crate) fn part(&self, place: usize, count: usize) -> usize
         requires some { 2 ≤ count }
         requires within { place + count ≤ length self.now.list.now }

@@ -1,4 +1,4 @@
-//! Checking by columns.
+//! Checks a layout by columns, in batches over all processors.
 
 ghost use Rattle.std.specs.Prelude.{◌≡◌, ◌+◌, ◌≤◌, ◌<◌, length, take, drop, All, IfOk};
 ghost use Rattle.std.specs.List.{AllZip};
@@ -26,18 +26,18 @@ use rayon::prelude::*;
 use std::alloc::{AllocError, Global};
 use std::thread::Threads;
 
-/// How many columns of a batch there are for each processor, and how many at least.
+/// The columns of a batch for each processor, and the least number of columns in a batch.
 const FOR_EACH: usize = 4;
 
 const AT_LEAST: usize = 16;
 
-/// How many lists of rectangles are made at most, each of which is a walk over the top, and one more for each axis.
+/// The most lists of shared rectangles. Each one takes a walk over the top. There can be one more for each axis.
 const MOST_WALKS: usize = 16;
 
-/// How many shapes a column may show: with the walks and rectangles of so many a thread stays within some ten megabytes.
+/// The most flat shapes in a column's window for which a thread needs only about ten megabytes for its walks and rectangles.
 pub const MAX_SHOWN: u32 = 1 << 16;
 
-/// The keys of a column of the layout. What the things or rectangles take ([`Source::keys_of`]), and a sort of the keys. An error is want of memory.
+/// The keys of a column of the layout. Cost: what [`Source::keys_of`] takes, and a sort of the keys. The only error is out of memory.
 fn check_column(
     alloc: Global,
     layout: &Layout<'_>,
@@ -56,7 +56,7 @@ fn check_column(
     Ok(ColumnKeys::of(keys))
 }
 
-/// The keys of columns, a list for each, found in at most two threads for each processor.
+/// The keys of columns, one list for each, found by at most two threads for each processor.
 fn lists_of(
     rt: &(impl Threads + Sync),
     alloc: Global,
@@ -83,8 +83,8 @@ fn lists_of(
         .collect::<Result<Vec<ColumnKeys>, AllocError>>(rt, alloc)?
 }
 
-/// How many columns are worked at once: so many that no processor is idle for long where one takes longer than others, and of those that share a list of
-/// rectangles so many that there are few lists.
+/// The size of a batch. It is large enough that no processor is idle for long if one column takes longer than others. If columns share a list of
+/// rectangles, it is so large that there are few lists.
 fn batch_of(rt: &impl Threads, batches: &Batches<'_>) -> usize
     ensures { 1 ≤ result }
 {
@@ -97,7 +97,7 @@ fn batch_of(rt: &impl Threads, batches: &Batches<'_>) -> usize
     least.max(batches.own.columns.len() / MOST_WALKS)
 }
 
-/// So many columns from a place on.
+/// `count` columns from index `from` on.
 fn batch_at(columns: &[Column], from: usize, count: usize) -> &[Column]
     requires { from + count ≤ length columns.now }
     ensures { result.now ≡ take count (drop from columns.now) }
@@ -107,7 +107,7 @@ fn batch_at(columns: &[Column], from: usize, count: usize) -> &[Column]
     batch
 }
 
-/// Columns that are checked, and how many columns of the layout have the keys of each, displaced.
+/// The columns that are checked. For each, the number of columns that have its keys, displaced.
 #[derive(Clone, Copy)]
 pub(crate) struct Own<'a> {
     pub(crate) columns: &'a [Column],
@@ -115,7 +115,7 @@ pub(crate) struct Own<'a> {
 }
 
 impl Own<'_> {
-    /// How many keys these lists have, which are those of the columns from a place on, with those of columns that share them.
+    /// How many keys all columns have that share these lists, displaced. The lists are those of the columns from index `from` on.
     pub(crate) fn keys_from(&self, from: usize, lists: &[ColumnKeys]) -> usize {
         let mut keys = 0usize;
         for (k, list) in lists.iter().enumerate() {
@@ -130,7 +130,7 @@ impl Own<'_> {
     }
 }
 
-/// Columns of a layout that are checked, one batch after another.
+/// Columns of a layout that are checked batch by batch.
 #[derive(Clone, Copy)]
 pub(crate) struct Batches<'a> {
     pub(crate) layout: &'a Layout<'a>,
@@ -139,7 +139,7 @@ pub(crate) struct Batches<'a> {
 }
 
 impl Batches<'_> {
-    /// Whether all columns are one batch of so many: then each takes its things from those of the whole layout, where there is such a list.
+    /// Whether all columns fit one batch of `most`. Then each takes its entries from those of the whole layout, if there is such a list.
     fn are_at_once(&self, most: usize) -> bool {
         self.top.has_things() && most == self.own.columns.len()
     }
@@ -157,7 +157,7 @@ impl Batches<'_> {
     }
 }
 
-/// How many columns from a place on are the next batch: of one axis, unless all columns are one batch.
+/// The size of the next batch, from index `reached` on. Its columns have one axis, unless all columns are one batch.
 fn next_count(rt: &impl Threads, batches: &Batches<'_>, reached: usize) -> usize
     requires { reached < length batches.now.own.now.columns.now }
     ensures some { 1 ≤ result }
@@ -171,7 +171,7 @@ fn next_count(rt: &impl Threads, batches: &Batches<'_>, reached: usize) -> usize
     count_along(columns, reached, most)
 }
 
-/// The keys of the columns of the next batch, from a place on, a list for each: of one at least. An error is want of memory.
+/// The keys of the columns of the next batch, from index `reached` on: one list for each column, and at least one. The only error is out of memory.
 pub(crate) fn lists_from(
     rt: &(impl Threads + Sync),
     alloc: Global,
@@ -192,7 +192,7 @@ pub(crate) fn lists_from(
     lists_of(rt, alloc, batches.layout, &source, next)
 }
 
-/// The keys of columns, a list for each, one batch after another; progress is told before the first and after each.
+/// The keys of columns, one list for each, batch by batch. Progress is reported before the first batch and after each.
 fn all_lists<P: Progress>(
     rt: &(impl Threads + Sync),
     alloc: Global,
@@ -219,7 +219,7 @@ fn all_lists<P: Progress>(
     Ok(lists)
 }
 
-/// The keys of columns, a list for each: those that are like no earlier column are found, the others' made of these.
+/// The keys of columns, one list for each. Columns that repeat no earlier one are checked. The lists of the others are displaced copies.
 fn every_list<P: Progress>(
     rt: &(impl Threads + Sync),
     alloc: Global,
@@ -248,24 +248,27 @@ fn every_list<P: Progress>(
     lists_with(alloc, layout, columns, likes.as_slice(), lists)
 }
 
-/// The keys of columns of a layout, a list for each, in their order: those of the layout's maximal runs of the column's axis whose `x1` lies in
-/// the column. The columns may be all of the layout's, or a share of them: what a column finds is the same.
+/// The keys of columns of a layout, one list for each, in the order of the columns. A list has the keys of the layout's maximal runs of the column's
+/// axis whose `x1` lies in the column. The columns may be all of the layout's or a share of them: what a column finds is the same.
 ///
-/// A column whose window shows what that of an earlier one of these does, displaced, as far as a short list of shapes and arrays tells it, has that one's
-/// keys, displaced: for each column a list of at most 4096 of them is made, which costs a look at the top's shapes and references at least, and at most
-/// 2^20 things are kept. Where an array shows half of the layout, columns side by side are asked as one before they are halved and asked again, so that
-/// of an array of arrays few lists are made; at the worst these are twice as many as columns. The other columns are worked in batches of four for each
-/// processor, 16 at least, in at most two threads for each, or of a sixteenth of all where that is more and rectangles are shared; progress is told of
-/// them, before the first and after each batch.
+/// Some columns repeat an earlier one: they are identical up to translation. The check finds them by short lists of shapes and arrays, and displaces the
+/// keys of the earlier column. For each column it makes a list of at most 4096 of them, and so looks at least at the top's shapes and references. It
+/// holds at most 2^20 shapes and arrays. If an array has half of the layout's shapes, adjacent columns are compared as one before they are halved and
+/// compared again. So few lists are made of an array of arrays, and in the worst case twice as many as there are columns.
 ///
-/// One walk a column gives the shapes whose boxes meet its window, and the rectangles of those on the rules' layers are listed; so what is held is the
-/// rectangles of as many columns as there are threads, and the keys. A walk looks at each shape and reference of the top: where these are 2^18 at least,
-/// one walk lists the rectangles of a batch that stands together, and each of its columns takes its own of them by one pass; then those of a batch are
-/// held, and there are some 16 walks in all. A column costs its walk or that pass, its rectangles, a sort of them by layer, a pass over them a halving,
-/// the bands and pairs of each part, and a sort of its keys; one that is like an earlier one a pass over that one's keys.
+/// The other columns are checked in batches of four for each processor, or of 16 if that is more, by at most two threads for each processor. If
+/// rectangles are shared, a batch has at least a sixteenth of all. Progress counts these columns: before the first batch and after each.
+///
+/// One walk for each column finds the shapes whose boxes touch its window, and lists their rectangles on the rules' layers. So memory is needed for the
+/// rectangles of as many columns as there are threads, and for the keys. A walk visits each shape and reference of the top. If the top has at least 2^18
+/// of these, one walk lists the rectangles of a batch of adjacent columns, and each column selects its own in one pass. Then the rectangles of a batch
+/// are in memory, and there are about 16 walks in all.
+///
+/// Cost of a column: its walk or its pass, its rectangles, a sort of them by layer, a pass over them for each halving, the bands and pairs of each part,
+/// and a sort of its keys. A column that repeats an earlier one costs a pass over that column's keys.
 ///
 /// # Errors
-/// Want of memory; also where the progress has no room for the markers that are found.
+/// Out of memory; also if the progress has no room for the markers that are found.
 pub fn lists_of_columns<P: Progress>(
     rt: &(impl Threads + Sync),
     alloc: Global,
@@ -293,7 +296,7 @@ pub(crate) fn rule_count(rules: &[Rule]) -> u32
     rules.len() as u32
 }
 
-/// The markers of a layout, from the lists of its columns, of which so many are of axis `V`.
+/// The markers of a layout, from the lists of its columns. The first `upright` columns are of axis `V`.
 fn markers_of(
     alloc: Global,
     snapshot: &Snapshot,
@@ -311,14 +314,14 @@ fn markers_of(
     together(alloc, rules, vertical, horizontal)
 }
 
-/// The markers of the flat layout of a snapshot's roots under its deck, in the order of their keys, where the shelf has one submission
-/// alone, which each marker then meets.
+/// The markers of the flat layout of a snapshot's roots under its deck, in the order of their keys, if the shelf has exactly one submission. Each marker
+/// then touches that submission.
 ///
-/// It is [`columns_of`](crate::columns_of) the layout, [`lists_of_columns`] of all of them, and these put together ([`together`]). With
-/// [`MAX_SHOWN`] for `most` a column fits some ten megabytes. What is held at last is the markers, once as keys of columns and once as the book's.
+/// It cuts the layout by [`columns_of`](crate::columns_of), finds the lists of all columns by [`lists_of_columns`], and joins them by [`together`]. With
+/// [`MAX_SHOWN`] for `most`, a column takes about ten megabytes. At the end the markers are in memory twice: as keys of columns, and as the book's.
 ///
 /// # Errors
-/// Want of memory; also where the progress has no room for the markers that are found.
+/// Out of memory; also if the progress has no room for the markers that are found.
 pub fn check_columns<P: Progress>(
     rt: &(impl Threads + Sync),
     alloc: Global,

@@ -1,7 +1,7 @@
-//! The columns of an axis.
+//! Cuts the extent of a layout into the columns of one axis.
 //!
-//! The extent is cut in two across, again and again, until a column shows few shapes: in its middle, or where an array repeats. Left comes
-//! before right, so the columns come in order.
+//! The extent is cut in two again and again, until a column's window has few flat shapes. It is cut in its middle, or where an array repeats. The left part
+//! comes before the right one, so the columns are in order.
 
 ghost use Rattle.std.specs.Prelude.{◌≡◌, ◌+◌, ◌≤◌, ◌^◌, length, ◌≤ℤ◌, ◌<ℤ◌, ◌+ℤ◌, pos, ℤ, IfOk, IfSome, OnOk};
 ghost use Rattle.mpw_walk.specs.Turns.{given};
@@ -20,14 +20,14 @@ use mpw_tiles::Snapshot;
 use mpw_walk::Walk;
 use std::alloc::{AllocError, Global};
 
-/// Halvings of an extent.
+/// The most halvings of an extent.
 const MAX_DEPTH: u32 = 32;
 
-/// Where there are so many columns of an axis, no further one is halved.
+/// If an axis has this many columns, none is halved any more.
 const MAX_COLUMNS: usize = 1 << 20;
 
-/// How many shapes a layout shows where, on which lines its arrays repeat, its extent as it is seen along an axis, how far windows reach beyond columns, how many shapes
-/// a column may show, and how many where no array repeats.
+/// What decides where columns are cut: the counts of flat shapes, the lines on which arrays repeat, the axis, the extent seen along it, the width in nm
+/// by which windows exceed columns, and the most flat shapes of a column, first in general and then where no array repeats.
 #[derive(Clone, Copy)]
 pub(crate) struct View<'a> {
     pub(crate) counts: &'a Counts,
@@ -39,7 +39,7 @@ pub(crate) struct View<'a> {
     pub(crate) most_elsewhere: u32,
 }
 
-/// The core of a column, seen along its axis, of an extent that is seen so too.
+/// The core of a column of an extent. Both are seen along the axis.
 pub(crate) fn upright(seen: &Box2, column: &Column) -> Box2
     ensures { result ≡ upright seen.now column.now }
 {
@@ -51,7 +51,7 @@ pub(crate) fn upright(seen: &Box2, column: &Column) -> Box2
     }
 }
 
-/// The walk over the shapes whose boxes meet the window of a core that is seen along the axis.
+/// The walk over the shapes whose boxes touch the window of a core. The core is seen along the axis.
 pub(crate) fn walk_within<'a>(
     snapshot: &'a Snapshot,
     axis: Axis,
@@ -66,7 +66,7 @@ pub(crate) fn walk_within<'a>(
     Walk::within(snapshot.shelf(), snapshot.roots(), window)
 }
 
-/// A point in the middle of a column; its first place, where it has no other.
+/// A point in the middle of a column, or its first position if it has no other.
 fn middle(column: &Column) -> Point
     requires { IsStretch column.now }
     ensures left { column.now.from ≤ℤ result.x }
@@ -78,7 +78,7 @@ fn middle(column: &Column) -> Point
     }
 }
 
-/// A point inside a column where it is cut: on a line on which an array repeats, or else in its middle; its first place, where it has no other.
+/// The point at which a column is cut: on a line on which an array repeats, or else in its middle. It is the first position if there is no other.
 fn cut_of(lattices: &[Lattice], column: &Column) -> Point
     requires { IsStretch column.now }
     ensures left { column.now.from ≤ℤ result.x }
@@ -90,7 +90,7 @@ fn cut_of(lattices: &[Lattice], column: &Column) -> Point
     }
 }
 
-/// How many shapes a column shows, and how many its two parts would.
+/// How many flat shapes the window of a column has, and how many those of its two parts have together.
 #[derive(Clone, Copy)]
 struct Load {
     whole: u64,
@@ -98,7 +98,7 @@ struct Load {
 }
 
 impl Load {
-    /// The load of a column that is cut at a point. Constant.
+    /// The load of a column that is cut at a point. Constant time.
     fn of(view: &View<'_>, column: &Column, at: Point) -> Load {
         let margin = i64::from(view.distance) + 1;
         let (from, to) = (
@@ -113,16 +113,16 @@ impl Load {
         }
     }
 
-    /// Whether there are more shapes than wanted, and those of the parts fewer together than one and a half times as many: of wires that go on over all
-    /// columns halves would show as many again.
+    /// Whether the column has more than `most` flat shapes, and its parts have fewer than one and a half times as many. If wires cross all columns, each half
+    /// has as many shapes as the whole, and halving saves nothing.
     fn is_above(self, most: u64) -> bool {
         self.whole > most && self.parts < self.whole.saturating_add(self.whole / 2)
     }
 }
 
-/// Whether a column is cut between two cells of an array: where it is wider than columns of an eighth of the shapes that one may show, since of columns that
-/// show the same one alone is checked; and where not nearly all that it shows is other than the array's. The width decides, since it is that of
-/// columns elsewhere that show the same; counts are a guess, and differ.
+/// Whether a column is cut between two cells of an array. It must be wider than columns that have an eighth of the shapes that one may have: of columns that
+/// repeat, only one is checked. And arrays must have a fair share of the column's shapes. The width decides because it is the same for columns that repeat.
+/// The counts are estimates and differ.
 fn is_cut_at_line(view: &View<'_>, width: u64, load: Load) -> bool {
     let most = u64::from(view.most) / 8;
     if width <= width_of_cells(view.lattices, most) || load.whole <= most / 2 {
@@ -132,8 +132,8 @@ fn is_cut_at_line(view: &View<'_>, width: u64, load: Load) -> bool {
     of_arrays >= load.whole / 4 || load.is_above(most)
 }
 
-/// Whether a column is better halved. None is that is narrower than four of the margins of its window. Within a cell of the finest array it may show four times
-/// as many shapes as elsewhere, since narrower columns would be like no other, and each instance would be looked at by itself.
+/// Whether a column should be halved. It never is if it is narrower than four margins of its window. Within a cell of the finest array it may have four times
+/// as many shapes as elsewhere: narrower columns would repeat no other, and each instance would be checked by itself.
 fn is_crowded(view: &View<'_>, column: &Column) -> bool
     requires { IsStretch column.now }
 {
@@ -152,7 +152,7 @@ fn is_crowded(view: &View<'_>, column: &Column) -> bool
     }
 }
 
-/// The column left of where it is cut, and the one right of it; none where it has one place alone.
+/// The column left of the cut, and the column right of it. `None` if the column has only one position.
 fn halves(lattices: &[Lattice], column: &Column) -> Option<(Column, Column)>
     requires { IsStretch column.now }
     ensures { IfSome result (λ h. AreHalvesOf column.now h.0 h.1) }
@@ -174,7 +174,7 @@ fn halves(lattices: &[Lattice], column: &Column) -> Option<(Column, Column)>
     Some((left, right))
 }
 
-/// Adds a column behind others.
+/// Adds a column at the end.
 fn add_one(columns: &mut Vec<Column>, column: &Column) -> Result<(), AllocError>
     requires { column.now.from <ℤ column.now.to }
     ensures columns { (low : ℤ) → AreColumns column.now.axis low column.now.from columns.old.items →
@@ -185,7 +185,7 @@ fn add_one(columns: &mut Vec<Column>, column: &Column) -> Result<(), AllocError>
     Ok(())
 }
 
-/// Adds the columns into which a column is halved, at most `depth` times, and no further once there are [`MAX_COLUMNS`]. An error is want of
+/// Adds the columns into which a column is cut: at most `depth` halvings, and none once there are [`MAX_COLUMNS`]. The only error is out of
 /// memory.
 fn add_columns(
     columns: &mut Vec<Column>,
@@ -208,7 +208,7 @@ fn add_columns(
     add_columns(columns, view, &right, depth - 1)
 }
 
-/// The column of all places of an extent that is seen along the axis: one more than those of its squares, since edges stand at its end too.
+/// The column of all positions of an extent that is seen along the axis. It has one more than the extent has squares, since edges can lie at the end too.
 fn whole(axis: Axis, seen: &Box2) -> Column
     requires { IsWide seen.now }
     ensures axis { result.axis ≡ axis }
@@ -222,7 +222,7 @@ fn whole(axis: Axis, seen: &Box2) -> Column
     }
 }
 
-/// The columns of the view, each of which shows at most so many shapes in its window where that can be had by halving.
+/// The columns of the view. The window of each has at most `most` flat shapes, as far as halving achieves it.
 pub(crate) fn columns_in(alloc: Global, view: &View<'_>) -> Result<Vec<Column>, AllocError>
     requires { IsWide view.now.seen }
     ensures columns { IfOk result (λ v. AreColumns view.now.axis view.now.seen.x0 (view.now.seen.x1 +ℤ pos 1) v.items) }

@@ -1,4 +1,4 @@
-//! What a core finds: half-open, and seen along its axis.
+//! What the rules find in a core: a half-open box, seen along its axis.
 
 ghost use Rattle.std.specs.Prelude.{◌≡◌, ◌+◌, ◌↔◌, Contains, IfOk};
 ghost use Rattle.mpw_markers.specs.declared.marker.Key.{Key as KeyValue};
@@ -24,15 +24,15 @@ use mpw_markers::Key;
 use mpw_tiles::{Rectangle, squares_lie_in_boxes};
 use std::alloc::{AllocError, Global};
 
-/// Halvings of a column.
+/// The most halvings of a column.
 const MAX_DEPTH: u32 = 60;
 
-/// The layer's place among all layers.
+/// The layer's number in the order of all layers.
 fn layer_code(layer: Layer) -> u64 {
     u64::from(layer.layer) * 65536 + u64::from(layer.datatype)
 }
 
-/// The rectangles by layer. A sort of them.
+/// The rectangles, sorted by layer.
 pub(crate) fn by_layer(rectangles: Vec<Rectangle>) -> Vec<Rectangle>
     ensures { listed_on result.items ≡ listed_on rectangles.items }
 {
@@ -48,7 +48,7 @@ pub(crate) fn core_of(layout: &Layout<'_>, column: &Column) -> Box2
     upright(&seen_box(column.axis, &layout.extent), column)
 }
 
-/// The rectangles of the layout in the window of a core, by layer, as they are seen along the axis.
+/// The rectangles of the layout in the window of a core, sorted by layer and seen along the axis.
 pub(crate) fn rectangles_in(
     alloc: Global,
     layout: &Layout<'_>,
@@ -67,7 +67,7 @@ pub(crate) fn rectangles_in(
     Ok(by_layer(parts))
 }
 
-/// The keys of the maximal runs in a core that is seen along the axis, from rectangles that stand by layer.
+/// The keys of the maximal runs in a core that is seen along the axis. The rectangles must be sorted by layer.
 pub(crate) fn keys_in(
     alloc: Global,
     layout: &Layout<'_>,

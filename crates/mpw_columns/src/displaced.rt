@@ -1,4 +1,4 @@
-//! The list of a column from that of an earlier one whose window shows the same, displaced.
+//! Makes the list of a column from the list of an earlier column that it repeats.
 
 ghost use Rattle.std.specs.Prelude.{◌-ℤ◌, IfOk};
 ghost use Rattle.mpw_keys.specs.Columns.{seen_box, upright};
@@ -13,8 +13,8 @@ use mpw_edges::test_decides_pair_steps;
 use mpw_keys::{Column, ColumnKeys};
 use std::alloc::{AllocError, Global};
 
-/// The keys of a column from those of an earlier one, of which it is a displacement and whose window shows what its own shows, displaced.
-/// Linear in the keys; an error is want of memory.
+/// The keys of a column, from those of an earlier column that it repeats: the column and the content of its window are those of the earlier one,
+/// displaced. Cost: linear in the keys. The only error is out of memory.
 pub(crate) fn list_from(
     alloc: Global,
     layout: &Layout<'_>,

@@ -1,7 +1,7 @@
-//! A column, halved again and again until its bands have few rectangles side by side.
+//! Halves a column again and again, until its bands have few rectangles side by side.
 //!
-//! A column is halved left and right of the middle of its rectangles while the halves are less work together. Each half is a column
-//! with all rows, so what it finds is whole, and no other column has it: the lists are put one behind another.
+//! A column is cut at the middle of its rectangles as long as the halves together are less work. Each half is a column with all rows. So what it finds is
+//! whole, and no other column finds it: the lists are simply appended.
 
 ghost use Rattle.std.specs.Prelude.{◌≡◌, ◌≤ℤ◌, OnOk};
 ghost use Rattle.mpw_job.specs.Answers.{listed_on};
@@ -16,7 +16,7 @@ use mpw_markers::Key;
 use mpw_tiles::Rectangle;
 use std::alloc::{AllocError, Global};
 
-/// A point in the middle of the extent, or where that is outside the core, at its side.
+/// A point in the middle of the extent. If that is outside the core, the point is at the core's side.
 fn middle(core: &Box2, extent: &Box2) -> Point
     requires { core.now.x0 ≤ℤ core.now.x1 }
     ensures low { core.now.x0 ≤ℤ result.x }
@@ -50,8 +50,8 @@ fn halves(core: &Box2, at: Point) -> (Box2, Box2)
     (left, right)
 }
 
-/// Adds what the rules find in the core, which is halved at most `depth` times, from rectangles that stand by layer and are seen along
-/// the axis. A pass over the rectangles a halving, and the bands of each leaf.
+/// Adds what the rules find in the core, which is halved at most `depth` times. The rectangles are sorted by layer and seen along the axis. Cost: a pass
+/// over the rectangles for each halving, and the bands of each leaf.
 pub(crate) fn add_column(
     alloc: Global,
     keys: &mut Vec<Key>,

@@ -1,7 +1,7 @@
-//! For each column an earlier one that it is like.
+//! Finds for each column an earlier one that it repeats.
 //!
-//! Contents of blocks that are like no earlier one are kept by their codes, as far as there is room, and a block is compared with the latest of
-//! its code alone.
+//! The contents of blocks that repeat no earlier one are held by a hash code, as long as there is room. A block is compared only with the latest one of
+//! the same code.
 
 ghost use Rattle.std.specs.Prelude.{◌≡◌, ◌<◌, ◌≤◌, ◌+◌, ◌^◌, ◌∷◌, ◌++◌, [], length, All, IfOk, IfSome, OnOk};
 ghost use Rattle.mpw_walk.specs.Roots.{root_at_origin};
@@ -19,13 +19,13 @@ use mpw_keys::Column;
 use std::alloc::{AllocError, Global};
 use std::collections::BTreeMap;
 
-/// The most things of all contents that are kept.
+/// The most entries (shapes and arrays) of all contents that are held.
 const MOST_KEPT: usize = 1 << 20;
 
-/// The most columns times the shapes and references of all structures, each once: where there are more, no contents are made.
+/// The most columns, times the shapes and references of all structures, each counted once. If there are more, no contents are made.
 const MOST_LOOKED_AT: u64 = 1 << 22;
 
-/// How often blocks are cut in two.
+/// How often blocks are cut in two at most.
 const MAX_DEPTH: u32 = 64;
 
 /// A block, and its contents.
@@ -35,8 +35,8 @@ pub(crate) struct Kept {
     contents: Contents,
 }
 
-/// What the first columns are like; contents of blocks of them, where the latest of each code stands among these, and how many things there are in
-/// all.
+/// Which earlier columns the first columns repeat; the contents of their blocks, with the index of the latest one for each code; and the number of
+/// entries in all.
 #[derive(Drop)]
 pub(crate) struct Earlier {
     likes: Vec<Option<usize>>,
@@ -45,14 +45,14 @@ pub(crate) struct Earlier {
     things: usize,
 }
 
-/// A number of a block and its contents: a displaced one with the same contents, displaced, has the same.
+/// A hash code of a block and its contents. It is the same for a displaced block with displaced contents.
 fn mark(block: &Block, contents: &Contents) -> u64 {
     let width = block.whole.from.abs_diff(block.whole.to);
     code(contents).wrapping_add(width.wrapping_mul(0x9E37_79B9_7F4A_7C15))
 }
 
 impl Earlier {
-    /// None so far.
+    /// No columns so far.
     fn new(alloc: Global) -> Earlier
         ensures likes { result.likes.items ≡ [] }
         ensures kept { result.kept.items ≡ [] }
@@ -65,7 +65,7 @@ impl Earlier {
         }
     }
 
-    /// The place of the latest block whose contents have the code of these, if the block with these contents is like it.
+    /// The index of the latest block whose contents have the code of these, if the block with these contents repeats it.
     fn like(&self, all: &Columns<'_>, block: &Block, contents: &Contents) -> Option<usize>
         requires upright { AreUprightIn all.now.layout.now all.now.list.now }
         requires kept { All (IsKept all.now.layout.now) self.now.kept.items }
@@ -86,7 +86,7 @@ impl Earlier {
         }
     }
 
-    /// Keeps the contents of a block, where there is room. An error is want of memory.
+    /// Holds the contents of a block if there is room. The only error is out of memory.
     fn keep(&mut self, block: &Block, contents: Contents) -> Result<(), AllocError>
         ensures kept { OnOk result (MayAdd (record { block = block.now; contents = contents }) self.old.kept.items self.new.kept.items) }
         ensures likes { OnOk result (self.new.likes.items ≡ self.old.likes.items) }
@@ -104,7 +104,7 @@ impl Earlier {
         Ok(())
     }
 
-    /// The place of an earlier block that the next so many columns are like; where there is none, their contents are kept. An error is want of
+    /// The index of an earlier block that the next `count` columns repeat. If there is none, their contents are held. The only error is out of
     /// memory.
     fn look(
         &mut self,
@@ -137,7 +137,7 @@ impl Earlier {
         }
     }
 
-    /// Tells the next so many columns one by one. An error is want of memory.
+    /// Decides the next `count` columns one by one. The only error is out of memory.
     fn add_each(&mut self, alloc: Global, all: &Columns<'_>, count: usize) -> Result<(), AllocError>
         requires layout { IsLayout all.now.layout.now }
         requires upright { AreUprightIn all.now.layout.now all.now.list.now }
@@ -153,7 +153,7 @@ impl Earlier {
         Ok(())
     }
 
-    /// Tells the next so many columns to be like those from a place on. An error is want of memory.
+    /// Records that the next `count` columns repeat those from index `earlier` on. The only error is out of memory.
     fn add_like(&mut self, earlier: usize, count: usize) -> Result<(), AllocError>
         requires { earlier + count < 2 ^ 64 }
         ensures likes { OnOk result (self.new.likes.items ≡ self.old.likes.items ++ places_from earlier count) }
@@ -165,8 +165,8 @@ impl Earlier {
         Ok(())
     }
 
-    /// Tells the next so many columns: all at once, where they are like earlier ones, or else in two parts, which are cut so often at most. An
-    /// error is want of memory.
+    /// Decides the next `count` columns: all at once if they repeat earlier ones, or else in two parts, which are cut in the same way at most `depth` times.
+    /// The only error is out of memory.
     fn add(
         &mut self,
         alloc: Global,
@@ -196,7 +196,7 @@ impl Earlier {
     }
 }
 
-/// For each column none.
+/// `None` for each column.
 fn none_of(
     alloc: Global,
     layout: &Layout<'_>,
@@ -211,7 +211,7 @@ fn none_of(
     Ok(likes)
 }
 
-/// For each column the place of an earlier one that it is like, as far as there is one with the same contents, displaced.
+/// For each column the index of an earlier one that it repeats, as far as one has the same contents, displaced.
 fn likes_of(
     alloc: Global,
     layout: &Layout<'_>,
@@ -235,7 +235,7 @@ fn likes_of(
     Ok(earlier.likes)
 }
 
-/// Whether contents of so many columns are made: of structures with many shapes of their own they would cost more than they save.
+/// Whether contents are made for a layout of `columns` columns. If structures have many shapes of their own, contents would cost more than they save.
 fn are_few(layout: &Layout<'_>, columns: usize) -> bool {
     let Some(nodes) = layout.snapshot.shelf().nodes(0) else {
         return false;
@@ -248,8 +248,8 @@ fn are_few(layout: &Layout<'_>, columns: usize) -> bool {
     drawn.saturating_mul(columns as u64) <= MOST_LOOKED_AT
 }
 
-/// For each column the place of an earlier one that it is like, or none. What [`contents_of`] takes for each column, and a comparison with one
-/// earlier column at most; an error is want of memory.
+/// For each column the index of an earlier one that it repeats, or `None`. Cost: what [`contents_of`] takes for each column, and a comparison with at
+/// most one earlier column. The only error is out of memory.
 pub(crate) fn equal_to_earlier(
     alloc: Global,
     layout: &Layout<'_>,

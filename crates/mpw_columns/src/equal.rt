@@ -1,7 +1,7 @@
-//! What of the layout meets a column's window, and whether two columns are alike in it.
+//! Finds what of the layout touches a column's window, and whether two columns are identical up to translation.
 //!
-//! Where the layout is regular, what meets a column's window is a short list of shapes and arrays. Where the list of a column that is as wide is
-//! the same, displaced as the column is, both windows show the same up to that displacement.
+//! If the layout is regular, a short list of shapes and arrays touches a column's window. If two columns are equally wide, and their lists are equal up to the
+//! displacement of the columns, then the contents of both windows are equal up to that displacement.
 
 ghost use Rattle.std.specs.Prelude.{◌≡◌, ◌∷◌, [], ◌-ℤ◌, ◌↔◌, IsTrue, IfOk, IfSome};
 ghost use Rattle.mpw_walk.specs.Roots.{root_at_origin};
@@ -24,10 +24,10 @@ use mpw_tiles::Snapshot;
 use mpw_walk::{Root, roots_at_origin_show_their_submission};
 use std::alloc::{AllocError, Global};
 
-/// The most things of a column's contents.
+/// The most entries of a column's contents.
 const MOST: usize = 4096;
 
-/// Whether the root is the first submission where it was drawn.
+/// Whether the root is the first submission, at the position where it was drawn.
 fn is_at_origin(root: &Root) -> bool
     ensures { IsTrue result → root.now ≡ root_at_origin 0 }
 {
@@ -38,7 +38,7 @@ fn is_at_origin(root: &Root) -> bool
     submission == 0 && placing.orient == Orient::R0 && placing.by.x == 0 && placing.by.y == 0
 }
 
-/// Whether the first submission alone is shown, where it was drawn.
+/// Whether the first submission is the only root, at the position where it was drawn.
 pub(crate) fn is_first_alone(snapshot: &Snapshot) -> bool
     ensures { IsTrue result → snapshot.now.roots ≡ root_at_origin 0 ∷ [] }
 {
@@ -46,7 +46,7 @@ pub(crate) fn is_first_alone(snapshot: &Snapshot) -> bool
     roots.len() == 1 && is_at_origin(&roots[0])
 }
 
-/// What is wanted of a column's contents: instances that are wider than the column are opened.
+/// The options of a column's contents: instances that are wider than the column are opened.
 fn wanted(column: &Column) -> Wanted {
     Wanted {
         most: MOST,
@@ -55,7 +55,7 @@ fn wanted(column: &Column) -> Wanted {
     }
 }
 
-/// What of the layout meets the column's window; none where that is no short list. What [`contents_in`] takes; an error is want of
+/// What of the layout touches the column's window. `None` if that is no short list. Cost: what [`contents_in`] takes. The only error is out of
 /// memory.
 pub(crate) fn contents_of(
     alloc: Global,
@@ -91,7 +91,7 @@ pub(crate) fn is_same(a: i64, b: i64) -> bool
     a == b
 }
 
-/// Whether a column is another one, displaced: of its axis, and as wide.
+/// Whether a column is another one, displaced: both have the same axis and the same width.
 pub(crate) fn is_displaced(layout: &Layout<'_>, earlier: &Column, column: &Column) -> bool
     requires earlier { IsUpright (upright (seen_box earlier.now.axis layout.now.extent) earlier.now) }
     requires column { IsUpright (upright (seen_box column.now.axis layout.now.extent) column.now) }
@@ -104,7 +104,7 @@ pub(crate) fn is_displaced(layout: &Layout<'_>, earlier: &Column, column: &Colum
     is_same(column.to, as_displaced)
 }
 
-/// How far it is from where a column begins to where another one does.
+/// The distance from the beginning of one column to the beginning of another, in nm.
 pub(crate) fn distance(layout: &Layout<'_>, earlier: &Column, column: &Column) -> i64
     requires earlier { IsUpright (upright (seen_box earlier.now.axis layout.now.extent) earlier.now) }
     requires column { IsUpright (upright (seen_box column.now.axis layout.now.extent) column.now) }
@@ -113,7 +113,7 @@ pub(crate) fn distance(layout: &Layout<'_>, earlier: &Column, column: &Column) -
     column.from - earlier.from
 }
 
-/// The way from a column to another one of its axis.
+/// The vector from a column to another one of its axis.
 fn way(layout: &Layout<'_>, earlier: &Column, column: &Column) -> Point
     requires earlier { IsUpright (upright (seen_box earlier.now.axis layout.now.extent) earlier.now) }
     requires column { IsUpright (upright (seen_box column.now.axis layout.now.extent) column.now) }
@@ -126,8 +126,8 @@ fn way(layout: &Layout<'_>, earlier: &Column, column: &Column) -> Point
     }
 }
 
-/// Whether a column with these contents is told to be like another one with those: it is the other, displaced, and so are its contents.
-/// Linear in the contents; takes no memory.
+/// Whether these contents show that a column repeats another one: the column is the other, displaced, and so are its contents.
+/// Cost: linear in the contents. Takes no memory.
 pub(crate) fn is_like(
     layout: &Layout<'_>,
     earlier: &Column,

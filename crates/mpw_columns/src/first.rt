@@ -1,7 +1,7 @@
-//! The first markers of each rule of a layout, as many as are wanted, and how many there are.
+//! Finds the first markers of each rule of a layout, and how many markers there are.
 //!
-//! Of what a column finds only the first keys of each list are kept, and how many it has; columns that are like an earlier one share these,
-//! displaced. So what is held doesn't grow with the markers that aren't wanted.
+//! For each column only the first keys of each list are held, and their number. Columns that repeat an earlier one share its keys, displaced. So
+//! the memory doesn't grow with the markers that aren't requested.
 
 ghost use Rattle.std.specs.Prelude.{◌≡◌, ◌*◌, ◌+ℤ◌, ◌-ℤ◌, length, All, IfOk, OnOk};
 ghost use Rattle.std.specs.List.{AllZip};
@@ -34,34 +34,34 @@ use std::thread::Threads;
 /// The first markers of each rule of a layout, and how many markers there are.
 #[derive(Drop)]
 pub struct FirstMarkers {
-    /// The first markers of each rule, those of a rule in the order of a book.
+    /// The first markers of each rule. Those of one rule are in the order of a book.
     pub markers: Vec<Marker>,
-    /// How many markers each rule has, by its place in the deck, up to 2^64 - 1.
+    /// How many markers each rule has, by its index in the deck, up to 2^64 - 1.
     pub counts: Vec<usize>,
     /// How many markers there are, up to 2^64 - 1.
     pub all: usize,
 }
 
-/// The first keys of columns, and which of them each column has, displaced.
+/// The first keys of the checked columns, and for each column which of them it has, displaced.
 #[derive(Drop)]
 struct Listing {
     firsts: Vec<Firsts>,
     placed: Vec<Placed>,
 }
 
-/// Columns whose keys are looked for, and how many of each list are wanted.
+/// Columns to check, and how many keys of each list are requested.
 #[derive(Clone, Copy)]
 struct Sought<'a> {
     columns: &'a [Column],
     most: usize,
 }
 
-/// How many shapes a column may show, and how many markers of each rule are wanted.
+/// The limits of a check.
 #[derive(Clone, Copy)]
 pub struct Bounds {
-    /// The shapes.
+    /// The most flat shapes of a column.
     pub shapes: u32,
-    /// The markers of a rule.
+    /// The most markers of each rule that are returned.
     pub markers: usize,
 }
 
@@ -73,7 +73,7 @@ fn list_count(snapshot: &Snapshot) -> u32
     2 * rule_count(snapshot.deck().rules().as_slice())
 }
 
-/// How many keys are kept of a column.
+/// How many keys are held of a column.
 fn kept_of(firsts: &Firsts) -> usize {
     let mut kept = 0usize;
     for list in &firsts.lists {
@@ -82,7 +82,7 @@ fn kept_of(firsts: &Firsts) -> usize {
     kept
 }
 
-/// Adds the first keys of each of these lists. The result is how many are kept; an error is want of memory.
+/// Adds the first keys of each of these lists. Returns how many are held. The only error is out of memory.
 fn add_firsts(
     alloc: Global,
     firsts: &mut Vec<Firsts>,
@@ -101,8 +101,8 @@ fn add_firsts(
     Ok(kept)
 }
 
-/// The first keys of columns, found one batch after another; progress is told before the first and after each. An error is want of memory, also where the
-/// progress has no room for the keys that are kept.
+/// The first keys of columns, found batch by batch. Progress is reported before the first batch and after each. The only error is out of memory, also if
+/// the progress has no room for the keys that are held.
 fn all_firsts<P: Progress>(
     rt: &(impl Threads + Sync),
     alloc: Global,
@@ -133,7 +133,7 @@ fn all_firsts<P: Progress>(
     Ok(firsts)
 }
 
-/// Which lists a column has that is like an earlier one, which has these.
+/// Which lists a column has that repeats an earlier one, given those of the earlier one.
 fn from_earlier(earlier: &Column, placed: &Placed, column: &Column) -> Placed
     requires earlier { IsSpot earlier.now.from }
     requires column { IsSpot column.now.from }
@@ -147,7 +147,7 @@ fn from_earlier(earlier: &Column, placed: &Placed, column: &Column) -> Placed
     }
 }
 
-/// Which lists each column has, of those of the columns that are like no earlier one. One pass; an error is want of memory.
+/// For each column its lists, out of those of the columns that repeat no earlier one. One pass. The only error is out of memory.
 fn placed_columns(
     alloc: Global,
     layout: &Layout<'_>,
@@ -177,7 +177,8 @@ fn placed_columns(
     Ok(placed)
 }
 
-/// The first keys of columns of a layout: those that are like no earlier one have some of their own, and the others share them. An error is want of memory.
+/// The first keys of columns of a layout. Columns that repeat no earlier one have keys of their own, and the others share them. The only error is out of
+/// memory.
 fn listing_in<P: Progress>(
     rt: &(impl Threads + Sync),
     alloc: Global,
@@ -208,7 +209,7 @@ fn listing_in<P: Progress>(
     Ok(Listing { firsts, placed })
 }
 
-/// The first keys of columns of a snapshot's layout. An error is want of memory.
+/// The first keys of columns of a snapshot's layout. The only error is out of memory.
 fn listing_of<P: Progress>(
     rt: &(impl Threads + Sync),
     alloc: Global,
@@ -231,7 +232,7 @@ fn listing_of<P: Progress>(
     listing_in(rt, alloc, &layout, sought, progress)
 }
 
-/// The first markers of a layout, from the first keys of its columns, of which so many are of axis `V`. An error is want of memory.
+/// The first markers of a layout, from the first keys of its columns. The first `upright` columns are of axis `V`. The only error is out of memory.
 fn markers_of(
     alloc: Global,
     snapshot: &Snapshot,
@@ -261,14 +262,14 @@ fn markers_of(
     })
 }
 
-/// The first markers of each rule of the flat layout of a snapshot's roots under its deck, as many as are wanted, with how many each rule has,
-/// where the shelf has one submission alone: those of [`check_columns`](crate::check_columns), of which the others aren't held.
+/// The first markers of each rule of the flat layout of a snapshot's roots under its deck, at most `markers` of each, and how many each rule has, if the
+/// shelf has exactly one submission. They are the first of [`check_columns`](crate::check_columns); the others aren't held.
 ///
-/// It finds what that does, column by column, and keeps of each column that is like no earlier one at most the wanted number of keys of each rule,
-/// axis and side. So with none wanted nothing is held but the lists of the columns at work, and the numbers.
+/// It finds the same markers, column by column. Of each column that repeats no earlier one it holds at most `markers` keys of each rule, axis and side.
+/// With `markers` 0 only the lists of the columns at work and the counts are in memory.
 ///
 /// # Errors
-/// Want of memory; also where the progress has no room for the keys that are kept.
+/// Out of memory; also if the progress has no room for the keys that are held.
 pub fn first_of_columns<P: Progress>(
     rt: &(impl Threads + Sync),
     alloc: Global,

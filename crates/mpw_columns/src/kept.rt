@@ -1,4 +1,4 @@
-//! Cores that are solved, with what their windows show: where another one's shows the same elsewhere, its pieces are theirs, moved.
+//! Solved cores and the content of their windows. A core with the same content elsewhere takes their pieces, displaced.
 
 ghost use Rattle.std.specs.Prelude.{◌≡◌, [], map, All, IfOk, IfSome, IsTrue, OnOk};
 ghost use Rattle.mpw_columns.specs.Internal.Checked.{IsLayout};
@@ -12,16 +12,16 @@ use mpw_markers::Key;
 use std::alloc::{AllocError, Global};
 use std::collections::BTreeMap;
 
-/// The most things of a core that is kept.
+/// The most entries (shapes and arrays) of a core that is held.
 const FEW_THINGS: usize = 8;
 
-/// The most pieces of a core that is kept.
+/// The most pieces of a core that is held.
 const MOST_KEYS: usize = 1 << 16;
 
-/// The most things and pieces of all cores that are kept.
+/// The most entries and pieces of all cores that are held.
 const MOST_KEPT: usize = 1 << 20;
 
-/// A core that is solved: what its window shows, and its pieces.
+/// A solved core: the content of its window, and its pieces.
 #[derive(Drop)]
 pub(crate) struct Solved {
     core: Box2,
@@ -29,7 +29,7 @@ pub(crate) struct Solved {
     keys: Vec<Key>,
 }
 
-/// Cores that are solved, where the latest of each code stands among them, and how many things and pieces they have.
+/// Solved cores, with the index of the latest one for each code, and how many entries and pieces they have.
 #[derive(Drop)]
 pub(crate) struct Kept {
     solved: Vec<Solved>,
@@ -37,7 +37,7 @@ pub(crate) struct Kept {
     size: usize,
 }
 
-/// Whether a core with these things is looked for and kept: they are few, and one of them is an array.
+/// Whether a core with these entries is looked up and held: they are few, and one of them is an array.
 fn are_few(things: &[Thing]) -> bool {
     if things.len() > FEW_THINGS {
         return false;
@@ -50,7 +50,7 @@ fn are_few(things: &[Thing]) -> bool {
     false
 }
 
-/// Where a thing stands.
+/// The position of an entry.
 fn place_of(thing: &Thing) -> Point {
     match thing {
         Thing::Shape(shape) => shape.placing.by,
@@ -58,14 +58,14 @@ fn place_of(thing: &Thing) -> Point {
     }
 }
 
-/// A number more.
+/// A hash code with one more number.
 fn mixed(code: u64, number: u64) -> u64 {
     (code ^ (code >> 29))
         .wrapping_mul(0x9E37_79B9_7F4A_7C15)
         .wrapping_add(number)
 }
 
-/// A number of a core and its things: a core elsewhere with the same has it too.
+/// A hash code of a core and its entries. It is the same for the core displaced.
 fn mark(axis: Axis, core: &Box2, things: &Contents) -> u64 {
     let mut from = Point { x: 0, y: 0 };
     if let Some(first) = things.things().first() {
@@ -77,7 +77,7 @@ fn mark(axis: Axis, core: &Box2, things: &Contents) -> u64 {
     mixed(code, core.y0.abs_diff(from.y))
 }
 
-/// A way as it is seen along an axis.
+/// A displacement, seen along an axis.
 fn seen_way(axis: Axis, way: Point) -> Point
     ensures { result ≡ seen_way axis way }
 {
@@ -97,7 +97,7 @@ fn is_sum(a: i64, b: i64, sum: i64) -> bool
     }
 }
 
-/// Whether a box is another one, moved.
+/// Whether a box is another one, displaced.
 fn is_moved_box(b: &Box2, way: Point, other: &Box2) -> bool
     ensures { IsTrue result → IsMovedCore way b.now other.now }
 {
@@ -107,7 +107,7 @@ fn is_moved_box(b: &Box2, way: Point, other: &Box2) -> bool
     is_sum(b.y0, way.y, other.y0) && is_sum(b.y1, way.y, other.y1)
 }
 
-/// A key, moved; none where 64 bits are too few.
+/// A key, displaced. `None` if 64 bits are too few.
 fn moved_key(key: &Key, way: Point) -> Option<Key>
     ensures { IfSome result (λ k. k ≡ moved_key way key.now) }
 {
@@ -122,7 +122,7 @@ fn moved_key(key: &Key, way: Point) -> Option<Key>
     })
 }
 
-/// Keys, each moved; none where 64 bits are too few. An error is want of memory.
+/// Keys, each displaced. `None` if 64 bits are too few. The only error is out of memory.
 fn moved_keys(alloc: Global, keys: &[Key], way: Point) -> Result<Option<Vec<Key>>, AllocError>
     ensures { IfOk result (λ o. IfSome o (λ v. v.items ≡ map (moved_key way) keys.now)) }
 {
@@ -146,7 +146,7 @@ fn copied(alloc: Global, keys: &[Key]) -> Result<Vec<Key>, AllocError>
 }
 
 impl Solved {
-    /// The pieces of a core with these things, if it is this one, moved. An error is want of memory.
+    /// The pieces of a core with these entries, if it is this one, displaced. The only error is out of memory.
     fn keys_of(
         &self,
         alloc: Global,
@@ -171,7 +171,7 @@ impl Solved {
 }
 
 impl Kept {
-    /// None so far.
+    /// No cores so far.
     pub(crate) fn new(alloc: Global) -> Kept
         ensures { result.solved.items ≡ [] }
     {
@@ -182,7 +182,7 @@ impl Kept {
         }
     }
 
-    /// The pieces of a core with these things, if one that is it, moved, was kept. Linear in the things and the pieces; an error is want of memory.
+    /// The pieces of a core with these entries, if it is a held one, displaced. Cost: linear in the entries and the pieces. The only error is out of memory.
     pub(crate) fn keys_of(
         &self,
         alloc: Global,
@@ -206,7 +206,7 @@ impl Kept {
         }
     }
 
-    /// Keeps a core with its things and its pieces, where these are few and there is room. An error is want of memory.
+    /// Holds a core with its entries and its pieces, if these are few and there is room. The only error is out of memory.
     pub(crate) fn keep(
         &mut self,
         alloc: Global,

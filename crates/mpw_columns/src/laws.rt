@@ -1,4 +1,4 @@
-//! Laws of the definitions alone. Each function calls at most the laws on which its own rests: its contract is the law.
+//! Laws about the definitions. Each function does nothing but call the laws that it needs; its contract is the law.
 
 ghost use Rattle.mpw_columns.specs.Laws.{WindowDecidesAlong, ColumnsHaveWholeRuns, ColumnsMakeTheLayout, ColumnsLieWithin, ListsMakeTheLayout, DisplacedColumnsFindDisplacedRuns, DisplacedColumnsHaveDisplacedLists, MovedItemsShowDisplaced};
 
@@ -7,13 +7,13 @@ use mpw_job::no_shapes_no_markers;
 use mpw_tiles::squares_lie_in_boxes;
 use mpw_walk::shapes_come_from_the_shelf;
 
-/// Which pair steps of an axis lie in a half-open core depends on the squares of its window along that axis alone: wider than the core
-/// by the greatest distance plus 1 across the edges, and no wider along them.
+/// Which pair steps of an axis lie in a half-open core depends only on the squares of its window along that axis. The window is wider than the core by the
+/// greatest distance plus 1 across the edges, and no wider along them.
 pub fn window_decides_along()
     ensures { WindowDecidesAlong }
 {}
 
-/// The maximal runs of a column over all rows of the extent are those of the whole layout whose `x1` lies in it: none goes on in another
+/// The maximal runs of a column over all rows of the extent are those of the whole layout whose `x1` lies in it. None continues in another
 /// column.
 pub fn columns_have_whole_runs()
     ensures { ColumnsHaveWholeRuns }
@@ -22,7 +22,7 @@ pub fn columns_have_whole_runs()
     squares_lie_in_boxes();
 }
 
-/// Where columns of both axes cover the extent, their lists, put together by rule, axis and side, are the flat layout's book.
+/// If columns of both axes cover the extent, their lists, joined by rule, axis and side, are the book of the flat layout.
 pub fn columns_make_the_layout()
     ensures { ColumnsMakeTheLayout }
 {
@@ -30,13 +30,13 @@ pub fn columns_make_the_layout()
     squares_lie_in_boxes();
 }
 
-/// Each column of a layout has some place, and lies within the layout's extent.
+/// Each column of a layout has some position, and lies within the layout's extent.
 pub fn columns_lie_within()
     ensures { ColumnsLieWithin }
 {}
 
-/// Where all shapes are of one submission and columns of both axes cover the layout, the markers of their lists, put together, are the
-/// layout's, also where nothing is shown.
+/// If all shapes are of one submission and columns of both axes cover the layout, the markers of their joined lists are the layout's. This also holds for
+/// a layout without shapes.
 pub fn lists_make_the_layout()
     ensures { ListsMakeTheLayout }
 {
@@ -47,14 +47,14 @@ pub fn lists_make_the_layout()
     squares_lie_in_boxes();
 }
 
-/// Where two windows have the same squares on the layers that the rules look at, up to a displacement across the edges, what a core finds,
-/// displaced, is what the displaced core finds.
+/// If two windows have the same squares on the layers of the rules, up to a displacement across the edges, then the runs of the displaced core are the
+/// displaced runs of the core.
 pub fn displaced_columns_find_displaced_runs()
     ensures { DisplacedColumnsFindDisplacedRuns }
 {}
 
-/// Where the window of a column shows what that of another column of its axis shows, up to their displacement, the one's list, displaced, is
-/// that of the other.
+/// If the window of a column has the content of another column's window of the same axis, up to their displacement, then the list of the one column,
+/// displaced, is the list of the other.
 pub fn displaced_columns_have_displaced_lists()
     ensures { DisplacedColumnsHaveDisplacedLists }
 {
@@ -63,7 +63,7 @@ pub fn displaced_columns_have_displaced_lists()
     displaced_columns_find_displaced_runs();
 }
 
-/// Where what meets a window is what meets another, moved, the windows show the same, displaced.
+/// If what touches a window is what touches another window, displaced, then the windows have the same content up to that displacement.
 pub fn moved_items_show_displaced()
     ensures { MovedItemsShowDisplaced }
 {

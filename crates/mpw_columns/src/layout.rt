@@ -1,4 +1,4 @@
-//! A layout as its columns are checked, and what of it is made ready before that.
+//! A layout as its columns are checked, and what is prepared once before that.
 
 ghost use Rattle.std.specs.Prelude.{◌≡◌, length, Some, IfOk};
 ghost use Rattle.mpw_tiles.specs.Snapshots.{shown_extent};
@@ -10,8 +10,8 @@ use mpw_geom::{Box2, Layer};
 use mpw_tiles::{Snapshot, greatest_distance};
 use std::alloc::{AllocError, Global};
 
-/// What is checked: a layout with its extent, the layers that its deck's rules look at, the greatest of their distances, and the boxes of the
-/// elements of its small structures.
+/// The input of a check: a snapshot with its extent, the layers of its deck's rules, the greatest of their distances in nm, and the boxes of the elements
+/// of its small structures.
 #[derive(Clone, Copy)]
 pub(crate) struct Layout<'a> {
     pub(crate) snapshot: &'a Snapshot,
@@ -21,7 +21,7 @@ pub(crate) struct Layout<'a> {
     pub(crate) boxes: &'a Boxes,
 }
 
-/// What is made ready once, before the columns of a layout are checked.
+/// What is prepared once, before the columns of a layout are checked.
 #[derive(Drop)]
 pub(crate) struct Ready {
     layers: Vec<Layer>,
@@ -29,7 +29,7 @@ pub(crate) struct Ready {
 }
 
 impl Ready {
-    /// The layers that the rules look at, and the boxes of the elements of small structures. An error is want of memory.
+    /// The layers of the rules, and the boxes of the elements of small structures. The only error is out of memory.
     pub(crate) fn of(alloc: Global, snapshot: &Snapshot) -> Result<Ready, AllocError>
         requires { length snapshot.now.shelf ≡ 1 }
         ensures { IfOk result (IsReady snapshot.now) }
@@ -39,7 +39,7 @@ impl Ready {
         Ok(Ready { layers, boxes })
     }
 
-    /// The layout, which has that extent.
+    /// The layout with this extent.
     pub(crate) fn layout<'a>(&'a self, snapshot: &'a Snapshot, extent: Box2) -> Layout<'a>
         requires alone { length snapshot.now.shelf ≡ 1 }
         requires extent { shown_extent snapshot.now ≡ Some extent }

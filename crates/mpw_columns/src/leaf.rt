@@ -1,7 +1,7 @@
-//! A column that is not divided any further: the bands of its layers, and the runs of each rule between them.
+//! Checks a column that is not halved any more: makes the bands of its layers, and finds the runs of each rule between them.
 //!
-//! The bands of a layer are made once, and serve all rules. They reach over all rows and the column has them all, so what is found
-//! is whole: nothing of it goes on in another column.
+//! The bands of a layer are made once for all rules. They cover all rows of the column. So what is found is whole: none of it continues in another
+//! column.
 
 ghost use Rattle.std.specs.Prelude.{◌≡◌, ◌<◌, ◌≤◌, ◌++◌, ℤ, All, IfOk, OnOk, IsTrue, length, map};
 ghost use Rattle.mpw_geom.specs.declared.plane.Box2.{Box2 as BoxValue};
@@ -29,7 +29,7 @@ pub(crate) struct Banded {
     pub(crate) boxes: Vec<Box2>,
 }
 
-/// Whether the layers are one.
+/// Whether two layers are the same.
 fn same_layer(a: Layer, b: Layer) -> bool
     ensures { result ≡ same_layer a b }
 {
@@ -69,7 +69,7 @@ fn bands_of(
     Ok(banded)
 }
 
-/// The first bands of the layer; none where there are none.
+/// The first bands of the layer; an empty slice if there are none.
 fn bands_on(banded: &[Banded], layer: Layer) -> &[Box2]
     requires { All IsBanded banded.now }
     ensures banded { AreBands result.now }
@@ -97,7 +97,7 @@ fn first_bands(banded: &[Banded], check: Check) -> &[Box2]
     }
 }
 
-/// The bands of the check's second layer; none where it has one layer.
+/// The bands of the check's second layer; an empty slice if it has only one layer.
 #[tactic(auto, unfolding(mpw_geom::specs::Plane::any_has_square))]
 fn second_bands(banded: &[Banded], check: Check) -> &[Box2]
     requires { All IsBanded banded.now }
@@ -112,7 +112,7 @@ fn second_bands(banded: &[Banded], check: Check) -> &[Box2]
     }
 }
 
-/// The key of a run of the rule at that place.
+/// The key of a run of the rule at index `place`.
 fn key(place: u32, axis: Axis, run: &Run) -> Key
     ensures { result ≡ key_of_run place axis run.now }
 {
@@ -127,7 +127,7 @@ fn key(place: u32, axis: Axis, run: &Run) -> Key
     }
 }
 
-/// Adds the keys of the runs of the rule at that place.
+/// Adds the keys of the runs of the rule at index `place`.
 fn add_keys(keys: &mut Vec<Key>, place: u32, axis: Axis, runs: &[Run]) -> Result<(), AllocError>
     ensures { OnOk result (keys.new.items ≡ keys.old.items ++ map (key_of_run place axis) runs.now) }
 {
@@ -137,7 +137,7 @@ fn add_keys(keys: &mut Vec<Key>, place: u32, axis: Axis, runs: &[Run]) -> Result
     Ok(())
 }
 
-/// Adds what the rule at that place finds between the bands in the core.
+/// Adds what the rule at index `place` finds between the bands in the core.
 fn add_rule(
     alloc: Global,
     keys: &mut Vec<Key>,
@@ -175,7 +175,7 @@ fn add_rules(
     Ok(())
 }
 
-/// Adds what the rules find in the core, from rectangles that are seen along the axis. The bands of each layer, and for each rule
+/// Adds what the rules find in the core, from rectangles that are seen along the axis. Cost: the bands of each layer, and for each rule
 /// what [`vertical_steps`] takes.
 pub(crate) fn add_leaf(
     alloc: Global,

@@ -1,19 +1,24 @@
-//! A layout checked by columns: half-open cores over all rows of its extent, for vertical edges, and over all columns of it, for
-//! horizontal ones.
+//! Checks a layout by columns: half-open strips over its whole height for vertical edges, and over its whole width for horizontal edges.
 //!
-//! A pair step of row `j` asks of row `j` alone, so a column's window is wider than the column to the left and to the right, and no
-//! wider up or down ([`window_decides_along`]). What a column finds is whole, and no other column has it
-//! ([`columns_have_whole_runs`]): so no flat list is held, and only the rectangles of the columns at work are. [`columns_of`] cuts the layout
-//! of a snapshot into columns, [`lists_of_columns`] finds the keys of each of them, or of a share of them ([`columns_lie_within`]), and the lists
-//! of all, put together ([`mpw_keys::together`]), are the flat layout's book ([`lists_make_the_layout`]): a list goes on where the column before
-//! ends ([`columns_follow_on`]), so nothing is sorted as a whole. [`check_columns`] is these three, one after another.
-//! Where the first markers of each rule and their numbers do, [`first_of_columns`] keeps no more of a column (`first`).
+//! A pair step of row `j` depends on row `j` alone. So a column's window is wider than the column to the left and to the right, and no wider up or down
+//! ([`window_decides_along`]). The runs that a column finds are whole, and no other column finds them ([`columns_have_whole_runs`]). So no flat list is
+//! needed: only the rectangles of the columns at work are in memory.
 //!
-//! Columns of a regular layout show the same, displaced: these are found once (`earlier`, `equal`), and their lists displaced (`like`). Where arrays
-//! repeat, columns side by side are first taken as one (`block`): so those of an instance of an array are told at once to be like those of another.
+//! - [`columns_of`] cuts the layout of a snapshot into columns.
+//! - [`lists_of_columns`] finds the keys of each column, or of a share of the columns ([`columns_lie_within`]).
+//! - [`mpw_keys::together`] joins the lists of all columns into the flat layout's book ([`lists_make_the_layout`]). A column's list continues the list of the
+//!   column before ([`columns_follow_on`]), so nothing is sorted as a whole.
+//! - [`check_columns`] does all three.
+//! - [`first_of_columns`] returns the first markers of each rule and their numbers alone, and holds no more of a column (`first`).
 //!
-//! Within a column its halves are columns again (`divide`), down to leaves with few rectangles side by side, whose bands serve all
-//! rules (`leaf`). For horizontal edges all is seen with the coordinates exchanged, from where shapes are listed on (`list`).
+//! A column *repeats* an earlier one if the two are identical up to translation. The columns of a regular layout do: the check finds them (`earlier`, `equal`)
+//! and displaces the list of the earlier column (`like`). If arrays repeat, adjacent columns are first compared as one (`block`). So one comparison decides
+//! all columns of an instance of an array.
+//!
+//! Within a column its halves are columns again (`divide`), down to leaves with few rectangles side by side. The bands of a leaf serve all rules (`leaf`).
+//!
+//! *Seen along an axis* means: as it is on `V`, and with x and y exchanged on `H`. Shapes are listed in this way (`list`), so all later code deals with
+//! vertical edges. An *entry* of a window is a shape or an array of instances.
 #![tactic(auto)]
 
 mod batch;

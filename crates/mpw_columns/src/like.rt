@@ -1,4 +1,4 @@
-//! The lists of columns of which some are like earlier ones.
+//! Makes the lists of all columns from those of the columns that repeat no earlier one.
 
 ghost use Rattle.std.specs.Prelude.{◌≡◌, length, All, IfOk};
 ghost use Rattle.std.specs.List.{AllZip};
@@ -13,7 +13,7 @@ use crate::layout::Layout;
 use mpw_keys::{Column, ColumnKeys};
 use std::alloc::{AllocError, Global};
 
-/// The columns that are like no earlier one, in their order. One pass; an error is want of memory.
+/// The columns that repeat no earlier one, in their order. One pass. The only error is out of memory.
 pub(crate) fn own_columns(
     alloc: Global,
     columns: &[Column],
@@ -31,7 +31,7 @@ pub(crate) fn own_columns(
     Ok(own)
 }
 
-/// For each column that is like no earlier one how many columns have its list, displaced, itself among them. One pass; an error is want of memory.
+/// For each column that repeats no earlier one, how many columns have its list, displaced; it counts itself. One pass. The only error is out of memory.
 pub(crate) fn shares_of(alloc: Global, likes: &[Option<usize>]) -> Result<Vec<usize>, AllocError> {
     let mut shares: Vec<usize> = Vec::new(alloc);
     let mut owners: Vec<usize> = Vec::with_capacity(alloc, likes.len())?;
@@ -52,8 +52,8 @@ pub(crate) fn shares_of(alloc: Global, likes: &[Option<usize>]) -> Result<Vec<us
     Ok(shares)
 }
 
-/// The lists of columns, from those of the columns that are like no earlier one: the others' are made of their earlier one's. Linear in
-/// the keys; an error is want of memory.
+/// The lists of all columns, from those of the columns that repeat no earlier one. The other lists are displaced copies. Cost: linear in
+/// the keys. The only error is out of memory.
 pub(crate) fn lists_with(
     alloc: Global,
     layout: &Layout<'_>,

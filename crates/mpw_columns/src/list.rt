@@ -1,4 +1,4 @@
-//! Listing shapes: the rectangles of those that a walk gives, placed, as they are seen along an axis.
+//! Lists the rectangles of the shapes that a walk finds, seen along an axis.
 
 ghost use Rattle.std.specs.Prelude.{◌≡◌, All, IfOk, OnOk};
 ghost use Rattle.mpw_structures.specs.Element.{IsElement};
@@ -19,7 +19,7 @@ use mpw_tiles::{PlacedShape, Rectangle};
 use mpw_walk::{Placed, Walk};
 use std::alloc::{AllocError, Global};
 
-/// The box as it is seen along the axis. What is seen is seen back in the same way.
+/// The box, seen along the axis. The same function leads back.
 pub(crate) fn seen_box(axis: Axis, b: &Box2) -> Box2
     ensures { result ≡ seen_box axis b.now }
 {
@@ -29,7 +29,7 @@ pub(crate) fn seen_box(axis: Axis, b: &Box2) -> Box2
     }
 }
 
-/// The rectangle as it is seen along the axis.
+/// The rectangle, seen along the axis.
 fn seen_rectangle(axis: Axis, rectangle: &Rectangle) -> Rectangle
     ensures { result ≡ seen_rectangle axis rectangle.now }
 {
@@ -40,7 +40,7 @@ fn seen_rectangle(axis: Axis, rectangle: &Rectangle) -> Rectangle
     }
 }
 
-/// Lists the rectangles of a shape's boxes. An error is want of memory.
+/// Lists the rectangles of a shape's boxes. The only error is out of memory.
 fn list_boxes(
     listed: &mut Vec<Rectangle>,
     axis: Axis,
@@ -56,7 +56,7 @@ fn list_boxes(
     Ok(())
 }
 
-/// Lists the rectangles of a shape, where it is on one of the layers. An error is want of memory.
+/// Lists the rectangles of a shape if it is on one of the layers. The only error is out of memory.
 pub(crate) fn list_shape(
     alloc: Global,
     listed: &mut Vec<Rectangle>,
@@ -78,7 +78,7 @@ pub(crate) fn list_shape(
     Ok(())
 }
 
-/// The rectangles of the shapes on these layers that the walk still gives, as they are seen along the axis. An error is want of memory.
+/// The rectangles of the remaining shapes of the walk that are on these layers, seen along the axis. The only error is out of memory.
 pub(crate) fn list_shapes(
     alloc: Global,
     layers: &[Layer],

@@ -1,18 +1,18 @@
-//! Whether a column is halved, and where: guesses that decide the cost and nothing else.
+//! Estimates whether halving a column pays, and where. The estimates decide the cost, never the result.
 
 use mpw_geom::{Box2, Layer};
 use mpw_tiles::Rectangle;
 
-/// So few rectangles are a leaf.
+/// A column with at most this many rectangles is a leaf.
 const FEW: u64 = 16;
 
-/// So many may crowd in some rows.
+/// With more rectangles than this, some rows may be crowded.
 const MANY: u64 = 512;
 
-/// What a rectangle costs beside the bands that it shares.
+/// The cost of a rectangle in addition to its bands.
 const ITSELF: u64 = 12;
 
-/// No place at all.
+/// A box without any position.
 const NOWHERE: Box2 = Box2 {
     x0: i64::MAX,
     y0: i64::MAX,
@@ -20,7 +20,7 @@ const NOWHERE: Box2 = Box2 {
     y1: i64::MIN,
 };
 
-/// How many rectangles there are of a layer, the sum of their heights, and the box about them all.
+/// How many rectangles a layer has, the sum of their heights, and the box around all of them.
 #[derive(Clone, Copy)]
 struct Group {
     layer: Layer,
@@ -40,7 +40,7 @@ impl Group {
         }
     }
 
-    /// The same with one more.
+    /// The group with one more rectangle.
     fn with(&self, area: &Box2) -> Group {
         Group {
             layer: self.layer,
@@ -50,7 +50,7 @@ impl Group {
         }
     }
 
-    /// About how many boxes its bands have: two borders a rectangle, each with as many rectangles as a row has.
+    /// An estimate of how many boxes its bands have: two borders for each rectangle, each with as many rectangles as a row has.
     fn work(&self) -> u64 {
         let height = self.extent.y0.abs_diff(self.extent.y1);
         let in_a_row = self.heights.checked_div(height).unwrap_or(0);
@@ -58,7 +58,7 @@ impl Group {
     }
 }
 
-/// How many rectangles there are, how much work the bands of their layers are, and the box about them all.
+/// How many rectangles there are, how much work the bands of their layers are, and the box around all of them.
 #[derive(Clone, Copy)]
 pub(crate) struct Load {
     count: u64,
@@ -66,7 +66,7 @@ pub(crate) struct Load {
     pub(crate) extent: Box2,
 }
 
-/// How many of those in the whole width a part of it has.
+/// How many of the rectangles in the whole width a part of that width has.
 fn share(count: u64, part: u64, whole: u64) -> u64 {
     count
         .saturating_mul(part)
@@ -75,7 +75,7 @@ fn share(count: u64, part: u64, whole: u64) -> u64 {
 }
 
 impl Load {
-    /// The same with a layer more.
+    /// The load with one more layer.
     fn with(&self, group: &Group) -> Load {
         Load {
             count: self.count.saturating_add(group.count),
@@ -84,7 +84,7 @@ impl Load {
         }
     }
 
-    /// The load of rectangles that stand by layer. One pass.
+    /// The load of rectangles that are sorted by layer. One pass.
     pub(crate) fn of(rectangles: &[Rectangle]) -> Load {
         let mut load = Load {
             count: 0,
@@ -105,9 +105,9 @@ impl Load {
         load.with(&group)
     }
 
-    /// Whether halves of a column may be a gain: there are more than a few rectangles, and either many or such that halves
-    /// of narrow and evenly spread ones, whose windows overlap by a margin on each side of the cut, would be less work by
-    /// more than one part in eight. It saves the passes that make halves in vain.
+    /// Whether it may pay to halve a column. There must be more than a few rectangles, and either many of them, or such that the halves are less work by more
+    /// than one part in eight. This estimate takes the rectangles as narrow and evenly spread, and the windows of the halves as overlapping by a margin on
+    /// each side of the cut. It saves the passes that would make halves in vain.
     pub(crate) fn may_be_eased(&self, core: &Box2, distance: u32) -> bool {
         if self.count <= FEW || self.count > MANY {
             return self.count > FEW;

@@ -1,4 +1,4 @@
-//! What is looked for along an axis.
+//! What a check looks for along an axis.
 
 ghost use Rattle.std.specs.Prelude.{◌≡◌, ◌↔◌, All, Contains, IfOk, IsTrue, MatchBool, OnOk};
 ghost use Rattle.mpw_geom.specs.declared.plane.Layer.{Layer as LayerValue};
@@ -9,7 +9,7 @@ use mpw_edges::Axis;
 use mpw_geom::Layer;
 use std::alloc::{AllocError, Global};
 
-/// The rules, the layers that they look at, the axis of the edges, and the greatest distance of the rules, in nm.
+/// The rules, their layers, the axis of the edges, and the greatest distance of the rules in nm.
 #[derive(Clone, Copy)]
 pub(crate) struct Look<'a> {
     pub(crate) rules: &'a [Rule],
@@ -18,14 +18,14 @@ pub(crate) struct Look<'a> {
     pub(crate) distance: u32,
 }
 
-/// Whether the layers are one.
+/// Whether two layers are the same.
 pub(crate) fn is_one(a: Layer, b: Layer) -> bool
     ensures { IsTrue result ↔ (a ≡ b) }
 {
     a == b
 }
 
-/// Whether the layer is one of the list.
+/// Whether the list has the layer.
 pub(crate) fn has_layer(layers: &[Layer], layer: Layer) -> bool
     ensures { MatchBool result (Contains layers.now layer) (Contains layers.now layer → ⊥) }
 {
@@ -37,7 +37,7 @@ pub(crate) fn has_layer(layers: &[Layer], layer: Layer) -> bool
     false
 }
 
-/// Adds the layer, where the list doesn't have it.
+/// Adds the layer if the list doesn't have it.
 fn add_layer(layers: &mut Vec<Layer>, layer: Layer) -> Result<(), AllocError>
     ensures has { OnOk result (Contains layers.new.items layer) }
     ensures kept { OnOk result ((other : LayerValue) → Contains layers.old.items other → Contains layers.new.items other) }
@@ -48,7 +48,7 @@ fn add_layer(layers: &mut Vec<Layer>, layer: Layer) -> Result<(), AllocError>
     Ok(())
 }
 
-/// Adds the layers that the check looks at.
+/// Adds the layers of a check.
 fn add_layers(layers: &mut Vec<Layer>, check: Check) -> Result<(), AllocError>
     ensures has { OnOk result (HasLayers layers.new.items check) }
     ensures kept { OnOk result ((other : LayerValue) → Contains layers.old.items other → Contains layers.new.items other) }
@@ -67,7 +67,7 @@ fn add_layers(layers: &mut Vec<Layer>, check: Check) -> Result<(), AllocError>
     }
 }
 
-/// The layers that the rules look at, each once.
+/// The layers of the rules, each once.
 pub(crate) fn layers_of(alloc: Global, rules: &[Rule]) -> Result<Vec<Layer>, AllocError>
     ensures { IfOk result (λ v. All (λ rule. HasLayers v.items rule.check) rules.now) }
 {

@@ -1,4 +1,4 @@
-//! The parts of rectangles in a window.
+//! Cuts rectangles to a window.
 
 ghost use Rattle.std.specs.Prelude.{◌≡◌, ◌+◌, IfOk};
 ghost use Rattle.mpw_job.specs.Answers.{listed_on};
@@ -10,7 +10,7 @@ use mpw_region::has_area;
 use mpw_tiles::Rectangle;
 use std::alloc::{AllocError, Global};
 
-/// The window of a core that is seen along its axis: wider to the left and to the right by the distance and 1, and no wider up or
+/// The window of a core that is seen along its axis: wider to the left and to the right by the distance plus 1, and no wider up or
 /// down.
 pub(crate) fn window_of(core: &Box2, distance: u32) -> Box2
     requires { IsUpright core.now }

@@ -1,4 +1,4 @@
-//! The columns into which a layout is cut.
+//! Cuts a layout into columns.
 
 ghost use Rattle.std.specs.Prelude.{◌≡◌, ◌+◌, ◌≤◌, ◌^◌, true, length, Some, IfOk};
 ghost use Rattle.mpw_geom.specs.Plane.{IsOrdered};
@@ -17,7 +17,7 @@ use mpw_keys::Column;
 use mpw_tiles::{Snapshot, greatest_distance};
 use std::alloc::{AllocError, Global};
 
-/// So many times as many shapes a column may show where they come from few structures: its things are fewer.
+/// If few structures have all the shapes, a column may have this many times as many flat shapes, since its entries are fewer.
 const MORE_PLACED: u32 = 16;
 
 /// The columns of an axis.
@@ -52,7 +52,7 @@ fn columns_along(
     columns_in(alloc, &view)
 }
 
-/// The columns of both axes of an extent, and how many of them are of axis `V`; these come first.
+/// The columns of both axes of an extent, and how many of them are of axis `V`. These come first.
 fn columns_of_both(
     alloc: Global,
     snapshot: &Snapshot,
@@ -72,7 +72,7 @@ fn columns_of_both(
     Ok((columns, upright))
 }
 
-/// The columns of a layout, and how many of them are of axis `V`; these come first.
+/// The columns of a layout, and how many of them are of axis `V`. These come first.
 pub(crate) fn counted_columns(
     alloc: Global,
     snapshot: &Snapshot,
@@ -87,15 +87,15 @@ pub(crate) fn counted_columns(
     }
 }
 
-/// The columns into which the layout of a snapshot's roots is cut: those of axis `V` from the left, which cover its extent, and behind them
-/// those of axis `H` from below, which cover it too; none where nothing is shown.
+/// The columns into which the layout of a snapshot's roots is cut: first those of axis `V` from the left, then those of axis `H` from below. The columns of
+/// each axis cover the extent. There are none if there are no shapes.
 ///
-/// The extent is halved along either axis until a column shows at most `most` shapes in its window, as far as halving can have that and until
-/// there are 2^20 columns of the axis. Where the cuts are depends on the layout, the deck and `most` alone. One count of the structures' shapes
-/// along each axis, and a few look-ups in it for each column.
+/// The extent is halved along each axis until the window of a column has at most `most` flat shapes, as far as halving achieves it, or until the axis has
+/// 2^20 columns. The cuts depend on the layout, the deck and `most` alone. Cost: one count of the structures' shapes along each axis, and a few look-ups
+/// in it for each column.
 ///
 /// # Errors
-/// Want of memory.
+/// Out of memory.
 pub fn columns_of(alloc: Global, snapshot: &Snapshot, most: u32) -> Result<Vec<Column>, AllocError>
     ensures plan { IfOk result (λ v. AreColumnsOfLayout snapshot.now v.items) }
     ensures few { IfOk result (λ v. length v.items ≤ 2 ^ 22) }

@@ -1,20 +1,20 @@
-//! Who is told how far a check came.
+//! The interface that reports how far a check is.
 
-/// Who is told how far the tiles or the columns of a check came.
+/// Receives reports of how far a check of tiles or columns is.
 ///
-/// It takes part in no contract: whatever it does with what it is told, and whatever it answers, the markers of a check that ends well are the same.
+/// No contract depends on it: the markers of a check that succeeds are the same whatever it does and answers.
 pub trait Progress {
-    /// Tells how many of all tiles, or of all columns, are checked: 0 before the first, then how many after each batch; and how many markers were found so
-    /// far, those of columns that are like a checked one too; a marker over several tiles counts in each. `done` grows up to `total`, which stays the same
-    /// throughout a check. The check waits until it returns.
+    /// Reports how many of `total` tiles or columns are checked (`done`), and how many markers were found so far. The first report, before any is checked,
+    /// has `done` 0; another one follows each batch. The markers of columns that repeat a checked one are counted too. A marker over several tiles counts
+    /// in each. `done` grows up to `total`, which stays the same throughout a check. The check waits until the call returns.
     fn tell(&mut self, done: usize, total: usize, markers: usize);
 
-    /// Whether there is room for so many markers, which are to be held. It is asked after each batch of columns; where there isn't, the check ends for want of
+    /// Whether there is memory for `markers` markers. The check asks after each batch of columns. If the answer is `false`, it ends with out of
     /// memory.
     fn has_room(&mut self, markers: usize) -> bool;
 }
 
-/// Tells nobody, and always has room.
+/// Reports nothing, and always has room.
 #[derive(Clone, Copy, PartialEq, Eq)]
 pub struct Silent;
 

@@ -1,4 +1,4 @@
-//! What columns that stand together share: one list of the rectangles, or of the things, in the window of all of them.
+//! What adjacent columns share: one list of the rectangles in the window that contains all of theirs.
 
 ghost use Rattle.std.specs.Prelude.{◌≡◌, IfOk, IfSome, IsTrue};
 ghost use Rattle.mpw_keys.specs.Columns.{seen_box, upright};
@@ -13,18 +13,18 @@ use mpw_keys::Column;
 use mpw_tiles::Rectangle;
 use std::alloc::{AllocError, Global};
 
-/// Where the top has so many shapes and references of its own, a batch's columns are listed together.
+/// If the top has at least this many shapes and references of its own, the columns of a batch share one list.
 const MANY_OWN: usize = 1 << 18;
 
-/// The rectangles of the layout in the window of a column, listed once for columns that lie in it.
+/// The rectangles of the layout in the window of a column, listed once for the columns that lie in it.
 #[derive(Drop)]
 pub(crate) struct Shared {
     whole: Column,
     rectangles: Vec<Rectangle>,
 }
 
-/// The rectangles in the window of a column, by layer, as they are seen along its axis: parts of those that are shared, where the column lies in theirs,
-/// which is one pass over them, or else what [`rectangles_in`] lists.
+/// The rectangles in the window of a column, sorted by layer and seen along its axis. If the column lies in the window of the shared ones, they are parts
+/// of these, found in one pass. Otherwise [`rectangles_in`] lists them.
 pub(crate) fn rectangles_of(
     alloc: Global,
     layout: &Layout<'_>,
@@ -46,7 +46,7 @@ pub(crate) fn rectangles_of(
     }
 }
 
-/// Whether columns are listed together: where the top has many shapes of its own, each of which a walk looks at, and the columns fill most of what they lie in.
+/// Whether columns share one list: the top has many shapes of its own, all of which a walk visits, and the columns fill most of the space between them.
 fn are_shared(layout: &Layout<'_>, columns: &[Column], whole: &Column) -> bool {
     let Some(top) = layout
         .snapshot
@@ -64,7 +64,7 @@ fn are_shared(layout: &Layout<'_>, columns: &[Column], whole: &Column) -> bool {
     own >= MANY_OWN && whole.from.abs_diff(whole.to) / 2 <= width
 }
 
-/// The rectangles of the layout in the window of the column of all places of these columns, where they are of one axis and worth it.
+/// The rectangles of the layout in the window of the smallest column that contains all these columns, if they have one axis and sharing pays.
 pub(crate) fn shared_of(
     alloc: Global,
     layout: &Layout<'_>,

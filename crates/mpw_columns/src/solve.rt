@@ -1,5 +1,5 @@
-//! What a core finds, from the things of its window: it is cut along lines that the things suggest, and cores whose windows show the same elsewhere
-//! are solved once.
+//! Finds the runs of a core from the entries (shapes and arrays) of its window. The core is cut along lines that the entries suggest. Cores with the same
+//! content up to translation are solved once.
 
 ghost use Rattle.std.specs.Prelude.{◌≡◌, ◌≤◌, ◌<◌, ◌↔◌, true, false, length, drop, All, Contains, IfOk, IfSome, OnOk};
 ghost use Rattle.mpw_markers.specs.declared.marker.Key.{Key as KeyValue};
@@ -20,13 +20,13 @@ use mpw_pieces::joined;
 use mpw_tiles::Rectangle;
 use std::alloc::{AllocError, Global};
 
-/// How often a core is cut.
+/// How often a core is cut at most.
 const MAX_DEPTH: u32 = 256;
 
-/// How often each thing of a column is looked at for cuts; what is left then is checked as it is.
+/// For cuts, a core with n entries may take this number times (n plus this number) visits. What is left then is checked without more cuts.
 const AS_OFTEN: u64 = 512;
 
-/// A core that is seen along the axis, the things of its window, and the lines along which it is still to be cut: rows, or places across them.
+/// A core that is seen along the axis, the entries of its window, and the lines along which it is still to be cut: rows (y) or positions across them (x).
 #[derive(Clone, Copy)]
 struct Work<'a> {
     core: Box2,
@@ -44,10 +44,10 @@ struct Halves<'a> {
     behind: &'a [i64],
 }
 
-/// What it costs to choose lines for a thing, or to list its shapes, in looks at it.
+/// The cost of choosing lines for an entry, or of listing its shapes, in visits.
 const LISTED: usize = 16;
 
-/// Pieces that were found, the cores that were solved, and how many things may still be looked at for cuts.
+/// The pieces that were found, the cores that were solved, and how many entries may still be visited to choose cuts.
 #[derive(Drop)]
 struct Solution {
     keys: Vec<Key>,
@@ -55,7 +55,7 @@ struct Solution {
     left: u64,
 }
 
-/// The parts of a core left and right of a place, if that is inside.
+/// The parts of a core left and right of a position, if that is inside.
 fn cut_across(core: &Box2, at: i64) -> Option<(Box2, Box2)>
     ensures { IfSome result (λ h. IsCutAcross core.now at h.0 h.1) }
 {
@@ -99,7 +99,7 @@ fn cut_along(core: &Box2, at: i64) -> Option<(Box2, Box2)>
     Some((below, above))
 }
 
-/// The parts of a core below and above a row, or left and right of a place, if that is inside.
+/// The parts of a core below and above a row, or left and right of a position, if that is inside.
 fn cut(core: &Box2, at: i64, is_row: bool) -> Option<(Box2, Box2)>
     ensures { IfSome result (λ h. IsCut core.now h.0 h.1) }
 {
@@ -110,7 +110,7 @@ fn cut(core: &Box2, at: i64, is_row: bool) -> Option<(Box2, Box2)>
 }
 
 impl<'a> Work<'a> {
-    /// How many things are looked at: each once where lines are given, or else, to choose them or to list shapes, as often as so few shapes take.
+    /// How many visits a core takes: one for each entry if lines are given, otherwise what it takes to choose them or to list the shapes.
     fn cost(&self) -> usize {
         let count = self.things.things().len();
         if self.lines.is_empty() {
@@ -120,7 +120,7 @@ impl<'a> Work<'a> {
         }
     }
 
-    /// The parts of the core at the middle one of its lines; none where there is none, or it isn't inside.
+    /// The parts of the core at the middle one of its lines. `None` if there is none, or if it isn't inside.
     fn halves(&self) -> Option<Halves<'a>>
         ensures { IfSome result (λ h. IsCut self.now.core h.first h.second) }
     {
@@ -141,7 +141,8 @@ impl<'a> Work<'a> {
     }
 }
 
-/// The rectangles in the window of a core, by layer: those of its things, or where these are too many those of the layout. An error is want of memory.
+/// The rectangles in the window of a core, sorted by layer: those of its entries, or of the layout if these are too many. The only error is out of
+/// memory.
 fn leaf_rectangles(
     alloc: Global,
     task: &Task<'_>,
@@ -159,7 +160,7 @@ fn leaf_rectangles(
     }
 }
 
-/// Adds the pieces of a core that isn't cut any further. An error is want of memory.
+/// Adds the pieces of a core that isn't cut any more. The only error is out of memory.
 fn add_leaf(
     alloc: Global,
     keys: &mut Vec<Key>,
@@ -180,7 +181,7 @@ fn add_leaf(
 }
 
 impl Solution {
-    /// Whether a core of so many things may be cut; they are looked at.
+    /// Whether a core of `count` entries may be cut. Counts their visits.
     fn may_cut(&mut self, count: usize) -> bool
         ensures keys { self.new.keys.items ≡ self.old.keys.items }
         ensures kept { self.new.kept.solved.items ≡ self.old.kept.solved.items }
@@ -191,7 +192,7 @@ impl Solution {
         is_left
     }
 
-    /// Adds the pieces of a core, if one that is it, moved, was kept. The result is whether it is so.
+    /// Adds the pieces of a core if it is a held one, displaced. Returns whether it is.
     fn add_kept(
         &mut self,
         alloc: Global,
@@ -214,7 +215,7 @@ impl Solution {
         }
     }
 
-    /// Keeps a core whose pieces stand from a place on.
+    /// Holds a core. Its pieces begin at index `from`.
     fn keep(
         &mut self,
         alloc: Global,
@@ -235,7 +236,7 @@ impl Solution {
     }
 }
 
-/// The things of a part of a core, or where these are too many those of the core.
+/// The entries of a part of a core, or those of the core if the part's are too many.
 fn or_all<'a>(
     part: &'a Option<Contents>,
     all: &'a Contents,
@@ -252,7 +253,7 @@ fn or_all<'a>(
     }
 }
 
-/// How often a core is still cut: once less, or never, where no line is suggested.
+/// How often a core is still cut: once less, or never if no line is suggested.
 fn depth_below(depth: u32, cuts: &Cuts) -> u32
     requires { 1 ≤ depth }
     ensures { result < depth }
@@ -260,8 +261,8 @@ fn depth_below(depth: u32, cuts: &Cuts) -> u32
     if cuts.lines.is_empty() { 0 } else { depth - 1 }
 }
 
-/// Adds the pieces of a core, which is cut at most `depth` times: along the lines that are given, and once these are used up along those that its
-/// things suggest. An error is want of memory.
+/// Adds the pieces of a core, which is cut at most `depth` times: along the given lines, and after these along those that its entries
+/// suggest. The only error is out of memory.
 fn solve(
     alloc: Global,
     task: &Task<'_>,
@@ -320,7 +321,7 @@ fn solve(
     solution.keep(alloc, task, work, from)
 }
 
-/// The core, and how far its window reaches beyond it.
+/// The core, and how far its window exceeds it.
 fn seen_core(task: &Task<'_>, work: &Work<'_>) -> Core {
     Core {
         axis: task.axis,
@@ -329,19 +330,19 @@ fn seen_core(task: &Task<'_>, work: &Work<'_>) -> Core {
     }
 }
 
-/// How many things are looked at for cuts of a core with these.
+/// How many visits may be spent on cuts of a core with these entries.
 fn looks_at(things: &Contents) -> u64 {
     (things.things().len() as u64)
         .saturating_add(AS_OFTEN)
         .saturating_mul(AS_OFTEN)
 }
 
-/// The keys of the maximal runs in a core that is seen along the axis, from things that show what the layout does in its window.
+/// The keys of the maximal runs in a core that is seen along the axis. The entries have exactly what the layout has in its window.
 ///
-/// A core is cut along lines that its things suggest until few shapes are left, and a part that shows what an earlier one does, elsewhere, takes that one's
-/// pieces. Each cut is a pass over the part's things, and there are no more of them than look at each thing of the core 512 times: where many instances lie over
-/// one another, what is left is checked as it is. The pieces of all parts are sorted, and those that touch are joined. What is kept of solved
-/// parts is at most 2^20 things and pieces. An error is want of memory.
+/// A core is cut along lines that its entries suggest, until few shapes are left. A part with the content of an earlier part, displaced, takes that
+/// part's pieces. Each cut is a pass over the part's entries. All cuts of a core with n entries take at most 512 * (n + 512) visits. If many instances
+/// overlap, what is left then is checked without more cuts. The pieces of all parts are sorted, and those that touch are joined. At most 2^20 entries
+/// and pieces of solved parts are held. The only error is out of memory.
 pub(crate) fn runs_in(
     alloc: Global,
     task: &Task<'_>,

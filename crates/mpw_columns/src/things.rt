@@ -1,7 +1,7 @@
-//! What a core's window shows, as a list of things: shapes, and arrays of instances.
+//! What a core's window contains, as a list of entries: shapes, and arrays of instances.
 //!
-//! Where the layout places few structures often, such a list is far shorter than that of the rectangles; a part of the core has a part of the
-//! list, made from it and not from the layout.
+//! If the layout places few structures often, such a list is far shorter than a list of the rectangles. A part of the core has a part of the
+//! list. It is made from that list and not from the layout.
 
 ghost use Rattle.std.specs.Prelude.{◌≡◌, ◌+◌, ◌++◌, ◌∷◌, ◌≤ℤ◌, [], List, All, IfOk, IfSome, IsTrue, OnOk};
 ghost use Rattle.mpw_hier.specs.Items.{Item};
@@ -28,19 +28,19 @@ use mpw_tiles::{Rectangle, squares_lie_in_boxes};
 use mpw_walk::{Placed, roots_at_origin_show_their_submission};
 use std::alloc::{AllocError, Global};
 
-/// The most things of a core.
+/// The most entries of a core.
 const MOST_THINGS: usize = 1 << 24;
 
-/// The most shapes that a core has when they are listed.
+/// The most shapes of a core that are listed.
 const MOST_SHAPES: usize = 1 << 22;
 
-/// Arrays of at most so many instances are opened,
+/// An array with at most this many instances is opened, if an instance has more than [`MANY_SHAPES`] flat shapes.
 const FEW_INSTANCES: u32 = 4;
 
-/// where an instance shows more shapes than this.
+/// The most flat shapes of an instance whose array isn't opened, if it has at most [`FEW_INSTANCES`] instances.
 const MANY_SHAPES: u64 = 64;
 
-/// No coordinate of a core is farther off, in nm.
+/// The greatest absolute coordinate of a core, in nm.
 const FARTHEST: i64 = 1 << 40;
 
 /// A layout, and the axis along which its cores are seen.
@@ -86,7 +86,7 @@ pub(crate) fn is_inside(core: &Box2, outer: &Box2) -> bool
     is_at_most(outer.y0, core.y0) && is_at_most(core.y1, outer.y1)
 }
 
-/// Whether a number is no greater than another one, and neither is far off.
+/// Whether a number is at most another one, and neither exceeds four times [`FARTHEST`] in magnitude.
 fn is_span(low: i64, high: i64) -> bool
     ensures { IsTrue result → IsSpan low high }
 {
@@ -107,8 +107,8 @@ fn smaller(b: &Box2) -> Box2
     }
 }
 
-/// A box that all boxes meet that have a unit square of the given one, and none that it touches alone: it is smaller by 1 on each side, where it then
-/// still has a point.
+/// A box that touches each box that shares a unit square with the given one. If it then still has a point, it is smaller by 1 on each side: so boxes that
+/// only touch the given one are left out.
 fn inner(b: &Box2) -> Box2
     ensures { MeetsSquaresOf b.now result }
 {
@@ -122,7 +122,7 @@ fn inner(b: &Box2) -> Box2
     small
 }
 
-/// What is met by all that shows a square of a core's window, in the layout's coordinates.
+/// A box that everything touches that has a square in a core's window, in the layout's coordinates.
 fn window(task: &Task<'_>, core: &Box2) -> Box2
     requires { IsUpright core.now }
     ensures { MeetsSquaresOf (seen_box task.now.axis (across core.now (task.now.layout.now.distance + 1))) result }
@@ -131,8 +131,8 @@ fn window(task: &Task<'_>, core: &Box2) -> Box2
     inner(&seen_box(task.axis, &wide))
 }
 
-/// Those of the things that a core's window shows, large instances opened; none where there are too many. What [`Contents::within`] takes; an
-/// error is want of memory.
+/// The entries out of these in a core's window, with large instances opened. `None` if there are too many. Cost: what [`Contents::within`] takes. The
+/// only error is out of memory.
 pub(crate) fn things_in(
     alloc: Global,
     task: &Task<'_>,
@@ -155,7 +155,7 @@ pub(crate) fn things_in(
     things.within(alloc, task.layout.snapshot.shelf(), &part)
 }
 
-/// The top, as a thing that shows the whole layout. An error is want of memory.
+/// The top as one entry, which is the whole layout. The only error is out of memory.
 fn top_thing(alloc: Global, layout: &Layout<'_>) -> Result<Option<Contents>, AllocError>
     requires layout { IsLayout layout.now }
     requires alone { layout.now.snapshot.now.roots ≡ root_at_origin 0 ∷ [] }
@@ -166,8 +166,8 @@ fn top_thing(alloc: Global, layout: &Layout<'_>) -> Result<Option<Contents>, All
     Contents::top(alloc, layout.snapshot.shelf())
 }
 
-/// The things of the whole layout, without the top's shapes on other layers, for cores of either axis; none where the layout is too large. Linear in
-/// what the top has; an error is want of memory.
+/// The entries of the whole layout, without the top's shapes on other layers, for cores of either axis. `None` if the layout is too large. Cost: linear in
+/// the size of the top. The only error is out of memory.
 pub(crate) fn all_things(
     alloc: Global,
     layout: &Layout<'_>,
@@ -201,7 +201,7 @@ pub(crate) fn all_things(
     Ok(Some(on_layers))
 }
 
-/// Lists the rectangles of a shape. An error is want of memory.
+/// Lists the rectangles of a shape. The only error is out of memory.
 fn list_thing(
     alloc: Global,
     listed: &mut Vec<Rectangle>,
@@ -224,7 +224,7 @@ fn list_thing(
     list_shape(alloc, listed, task.layout.layers, task.axis, &placed)
 }
 
-/// The rectangles of shapes, as they are seen along the axis; none where one of the things is an array. An error is want of memory.
+/// The rectangles of shapes, seen along the axis. `None` if one of the entries is an array. The only error is out of memory.
 fn list_things(
     alloc: Global,
     task: &Task<'_>,
@@ -244,7 +244,7 @@ fn list_things(
     Ok(Some(listed))
 }
 
-/// The rectangles in the window of a core, by layer, of the shapes that its things show; none where there are too many. An error is want of
+/// The rectangles in the window of a core, sorted by layer, of the flat shapes of its entries. `None` if there are too many. The only error is out of
 /// memory.
 pub(crate) fn rectangles_of_things(
     alloc: Global,

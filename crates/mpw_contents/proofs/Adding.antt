@@ -1,4 +1,4 @@
--- Things that are added show more.
+-- Adding entries adds their flat shapes.
 use Rattle.std.proofs.Common.{◌≡◌, ◌+◌, ◌<◌, ℕ, length, get_or, take, Option, Some, None, inl, inr, List, [], ◌∷◌, ◌++◌, map, zero-add, refl, sym, ap, subst, ◌∙◌, append_assoc, true, false}
 use Rattle.std.specs.Prelude.{All, Contains, IfSome, IsSomeAnd, option_map}
 use Rattle.std.specs.List.{flat_map, range_with_len}
@@ -59,7 +59,7 @@ module _ (window : Box2) where
   }
 
 module _ (l : Layout) where
-  -- nothing was added, where nothing that is shown meets the window
+  -- nothing was added, if no item touches the window
   pub adds_none : (items : List Item) (old : List Thing) → Shows l.window items []
       → Adds l items old old
   unfolding things_items
@@ -104,7 +104,7 @@ module _ (l : Layout) where
       → Adds l ys old new
   adds_same xs ys old new e h = subst (λ zs. Adds l zs old new) e h
 
-  -- one more of a list, each of which shows some items
+  -- one more of a list, each of which has some items
   pub adds_more : {X : Type 0} (f : X → List Item) (xs : List X) (i : ℕ) (d : X)
       (old mid new : List Thing) → i < length xs
       → Adds l (flat_map f (take i xs)) old mid → Adds l (f (get_or xs i d)) mid new
@@ -116,7 +116,7 @@ module _ (l : Layout) where
       adds_same (flat_map f (take i xs) ++ f x) (flat_map f (take (i + 1) xs)) old new (sym e)
       (adds_both (flat_map f (take i xs)) (f x) old mid new h k)
 
-  -- the same, where the list has another name
+  -- the same, if the list has another name
   pub adds_next : {X : Type 0} (f : X → List Item) (ys xs : List X) (i : ℕ) (d : X)
       (old mid new : List Thing) → ys ≡ xs → i < length ys
       → Adds l (flat_map f (take i xs)) old mid → Adds l (f (get_or ys i d)) mid new
@@ -125,7 +125,7 @@ module _ (l : Layout) where
       adds_more f xs i d old mid new (subst (λ (zs : List X). i < length zs) e lt) h
       (subst (λ (zs : List X). Adds l (f (get_or zs i d)) mid new) e k)
 
-  -- an element that may be there, and may miss the window
+  -- an element that may exist, and may miss the window
   pub nothing_drawn : (t : Placing) (o : Option Element) (old : List Thing) → o ≡ None
       → Adds l (drawn t o) old old
   nothing_drawn t o old e = adds_none (drawn t o) old
@@ -142,7 +142,7 @@ module _ (l : Layout) where
         | inr none ↦ absurd (contains_none i none)
       ])))
 
-  -- the box of an element that misses the window as what is placed sees it
+  -- the box of an element that misses the window in the coordinates of the placed structure
   pub own_out : (t : Placing) (o : Option Element) (e : Element) (b : Box2) (own : Option Box2)
       (old : List Thing) → o ≡ Some e → element_box e ≡ Some b
       → IfSome own (λ w. w ≡ own_window t l.window) → IsSomeAnd own (λ w. do_meet b w ≡ false)
@@ -153,7 +153,7 @@ module _ (l : Layout) where
       drawn_out t o e old at (ap (λ x. is_met l.window (option_map (placed_box t) x)) is
       ∙ missed_placed t.by l.window b ordered t.orient (ap (do_meet b) (sym same) ∙ away))
 
-  -- the box that is held of it
+  -- the stored box of it
   pub held_out : (t : Placing) (o : Option Element) (b : Box2) (own : Option Box2)
       (old : List Thing) → box_of o ≡ Some b
       → IfSome own (λ w. w ≡ own_window t l.window) → IsSomeAnd own (λ w. do_meet b w ≡ false)
@@ -206,7 +206,7 @@ module _ (l : Layout) {X : Type 0} (f : X → List Item) (old mid new : List Thi
       new h k)
 
 module _ (l : Layout) where
-  -- things that show a list are added, and by it what it shows of another
+  -- entries with the items of one list are added, and so with those of another that it includes
   pub adds_through : (xs ys : List Item) (old new : List Thing) → Shows l.window xs ys
       → Adds l ys old new → Adds l xs old new
   adds_through xs ys old new h k = record {
@@ -217,7 +217,7 @@ module _ (l : Layout) where
     shows = shows_again l.window xs ys (things_items l.shelf.now k.made) h k.shows;
   }
 
-  -- all that there are
+  -- all entries
   pub adds_all : (new : List Thing) → All (IsThing l.nodes.now) new
       → All (IsBoxed l.shelf.now) new → Adds l (things_items l.shelf.now new) [] new
   adds_all new h boxed = record {

@@ -1,4 +1,4 @@
--- An array as it is added: as much of it as may meet the window.
+-- An array as it is added: the part of it that may touch the window.
 use Rattle.std.proofs.Common.{◌≡◌, ◌++◌, ◌∷◌, [], false, true, List, map, Some, None, sym, ap, subst, ◌∙◌}
 use Rattle.std.specs.Prelude.{slice_get, Contains, option_map, IfSome}
 use Rattle.mpw_geom.specs.Plane.{IsInPlane}

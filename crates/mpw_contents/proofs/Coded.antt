@@ -1,4 +1,4 @@
--- The code of things stays wherever they stand.
+-- The code of entries doesn't depend on their position.
 use Rattle.std.proofs.Common.{◌≡◌, ◌<◌, ℕ, ℤ, ◌+ℤ◌, ◌-ℤ◌, List, [], ◌∷◌, length, get_or, map, refl, sym, ap, ◌∙◌, arith}
 use Rattle.std.specs.Prelude.{fold, unsigned_abs}
 use Rattle.std.proofs.lemmas.Int.{ints}
@@ -43,7 +43,7 @@ codes_stay d (t ∷ ts) =
     ap (λ p. fold (thing_code p) 0 (map (moved_thing d) (t ∷ ts))) (place_moved d t)
     ∙ things_stay d (place_of_thing t) 0 (t ∷ ts)
 
--- the area counts for nothing
+-- the area doesn't matter
 thing_bare : (from : Point) (code : ℕ) (t : Thing)
     → thing_code from code (bare t) ≡ thing_code from code t
 thing_bare from code (things.Shape s) = refl
@@ -72,7 +72,7 @@ unfolding code_of
 no_code [] h = refl
 no_code (t ∷ ts) h = absurd (omega (arith, h))
 
--- from where the first thing stands
+-- from the position of the first entry
 pub code_is : (ts : List Thing) (x : Thing) (from : Point) (code : ℕ) → 0 < length ts
     → from ≡ place_of_thing (get_or ts 0 x)
     → code ≡ fold (thing_code from) 0 ts → code ≡ code_of ts

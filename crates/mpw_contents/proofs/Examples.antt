@@ -68,7 +68,7 @@ pub five_items : map shown_at (things_items shelf list) ≡ at 5 5 ∷ at 100 0 
 unfolding things_items thing_items by_levels instances placed_again placed_point oriented_point
 five_items = refl
 
--- the same elsewhere
+-- the same, displaced
 pub moved_items : map shown_at (things_items shelf (map (moved_thing (at 1 2)) list)) ≡ at 6 7
     ∷ at 101 2 ∷ at 101 2 ∷ at 101 12 ∷ at 101 12 ∷ []
 unfolding things_items thing_items by_levels instances placed_again placed_point oriented_point

@@ -1,4 +1,4 @@
--- The boxes that are held are those of the elements at their places.
+-- The stored boxes are those of the elements at their indices.
 use Rattle.std.proofs.Common.{◌≡◌, ℕ, ◌+◌, ◌<◌, List, [], ◌∷◌, ◌++◌, length, get_or, map, take, Option, Some, None, refl, sym, ap, subst, ◌∙◌}
 use Rattle.std.specs.Prelude.{slice_get, unwrap_or, option_map, IsSomeAnd, MatchOption}
 use Rattle.std.specs.Global.{Vec}
@@ -31,7 +31,7 @@ held_more ss i d old new boxes less h is held =
     (subst (λ xs. AllZip HoldsBoxes xs (old ++ boxes ∷ [])) (sym (take_more ss i d less))
     (zip_more HoldsBoxes (take i ss) old (get_or ss i d) boxes h held))
 
--- a list that a structure of the library has
+-- a list that belongs to a structure of the library
 one_held : (library : List Structure) (structure place : ℕ) (b : Option Box2) (o : Option Structure)
     (boxes : Vec (Option Box2)) → IsSomeAnd o (λ s. HoldsBoxes s boxes)
     → slice_get boxes.items place ≡ Some b → box_of (element_at o place) ≡ b

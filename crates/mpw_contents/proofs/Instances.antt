@@ -224,7 +224,7 @@ cut_instance a columns rows first by e f row column =
     rows.from column row)
     (cut_coordinate a.first.by.y a.column_step.y a.row_step.y columns.from rows.from column row)
 
--- ---- what they show
+-- ---- their items
 
 module _ (window : Box2) (items : List Item) (extent : Option Box2) (missed : (t : Placing)
     → is_met window (option_map (placed_box t) extent) ≡ false
@@ -233,7 +233,7 @@ module _ (window : Box2) (items : List Item) (extent : Option Box2) (missed : (t
   abbrev shown : Placing → List Item
   shown t = map (placed_item t) items
 
-  -- nothing that meets the window
+  -- no item touches the window
   pub away_missed : (a : Array) (e : Box2) → extent ≡ Some e → IsAway a window e → (i : Item)
       → Contains (placed_items (reference_of a) items) i
       → is_met window (item_box i) ≡ false
@@ -244,7 +244,7 @@ module _ (window : Box2) (items : List Item) (extent : Option Box2) (missed : (t
       ∙ ap (λ u. do_meet (placed_box u e) window) (sym t.is)
       ∙ away t.row t.column t.row_within t.column_within) i p.is
 
-  -- all that meets it
+  -- all items that touch it
   pub fitted_shows : (a b : Array) (e : Box2) → extent ≡ Some e → IsFitted a window e b
       → Shows window (placed_items (reference_of a) items) (placed_items (reference_of b) items)
   fitted_shows a b e is fit = record {

@@ -1,4 +1,4 @@
--- Things without the shapes of other layers.
+-- Entries without the shapes on other layers.
 use Rattle.std.proofs.Common.{◌≡◌, ℕ, ◌+◌, ◌<◌, length, get_or, take, inl, inr, List, [], ◌∷◌, ◌++◌, Bool, true, false, Option, Some, None, sym, ap, subst, ◌∙◌}
 use Rattle.std.specs.Prelude.{All, Contains, IsSomeAnd, MatchBool}
 use Rattle.std.proofs.lemmas.List.Concat.{flat_map-append}
@@ -126,7 +126,7 @@ module _ (ss : List Submission) (layers : List Layer) where
           on = h.on;
         }
 
-  -- one more of things that are boxed
+  -- one more of the entries that have boxes
   pub boxed_more : (xs : List Thing) (i : ℕ) (d : Thing) (left : List Thing) → i < length xs
       → All (IsBoxed ss) xs → All (IsBoxed ss) left
       → All (IsBoxed ss) (left ++ get_or xs i d ∷ [])

@@ -1,4 +1,4 @@
--- The first submission of a shelf by its nodes: what a node shows, one level down.
+-- The first submission of a shelf by its nodes: the content of a node, one level down.
 use Rattle.std.proofs.Common.{◌≡◌, ℕ, List, [], ◌∷◌, ◌++◌, length, map, take, Option, Some, None, refl, sym, ap, subst, ◌∙◌}
 use Rattle.std.specs.Prelude.{slice_get, Contains}
 use Rattle.std.specs.List.{flat_map}
@@ -33,7 +33,7 @@ use Rattle.mpw_contents.proofs.Lists.{flat_map_same, map_flat}
 use Rattle.mpw_contents.proofs.Steps.{items_placed}
 use Rattle.mpw_contents.proofs.Opened.{shapes_all, children_all}
 
--- nothing stands before the first submission
+-- nothing comes before the first submission
 none_before : (ss : List Submission) → flats (take 0 ss) ≡ []
 unfolding flats from_first
 none_before ss = refl
@@ -88,7 +88,7 @@ module _ (l : Layout) (w : IsLayout l) where
   named_is name = name_is l.shelf.now s w.nodes.is name
       ∙ ap (λ b. structure_items b s name) (sym (none_before l.shelf.now))
 
-  -- what stands at a place of the library, by its name
+  -- the structure at an index of the library, by its name
   placed_is : (place : ℕ) (structure : Structure) → slice_get s.library place ≡ Some structure
       → place_shown l.shelf.now place ≡ structure_items before s structure.name
   placed_is place structure at =
@@ -106,7 +106,7 @@ module _ (l : Layout) (w : IsLayout l) where
         is_node.structure.name
     node_place = placed_is node.structure is_node.structure is_node.is
 
-    -- by any name of its place
+    -- by any name of its index
     pub node_named : (name : List ℕ) → place_of l.structures.now name ≡ Some node.structure
         → name_shown l.shelf.now name ≡ place_shown l.shelf.now node.structure
     node_named name named =
@@ -115,7 +115,7 @@ module _ (l : Layout) (w : IsLayout l) where
         (ap (λ ts. place_of ts name) (sym w.structures) ∙ named) is_node.named)
         ∙ sym node_place
 
-    -- its size is that of what it shows
+    -- its size is that of its content
     pub node_extent : node.size.extent ≡ extent_of (place_shown l.shelf.now node.structure)
     node_extent = is_node.size.extent ∙ ap extent_of (sym node_place)
 
@@ -185,7 +185,7 @@ module _ (l : Layout) (w : IsLayout l) where
           (references is_node.structure.elements)))
           ∙ ap (map (placed_item t)) (sym node_shown)
 
-    -- a child leads to a node before
+    -- a child leads to an earlier node
     pub child_leads : (c : Child) (r : Reference) → Contains node.children.items c
         → as_reference (element_at (slice_get l.structures.now node.structure) c.element) ≡ Some r
         → LeadsTo l r.name c.target

@@ -21,7 +21,7 @@ contains_cases y x xs h = go h.0 h.1 h.2
     go zero lt is = inl is
     go (suc k) lt is = inr (k, omega (arith, lt), is)
 
--- an element of a map comes from one of its list, and so of a flat_map
+-- an entry of a map comes from one of its list, and so of a flat_map
 pub record IsMapped {X Y : Type 0} (f : X → Y) (xs : List X) (y : Y) : Type 0 where
   pub from : X
   pub has : Contains xs from

@@ -1,4 +1,4 @@
--- Things elsewhere show the same elsewhere.
+-- Displaced entries have the same items, displaced.
 use Rattle.std.proofs.Common.{◌≡◌, ◌<◌, ℕ, zero, suc, List, [], ◌∷◌, ◌++◌, length, get_or, map, Option, Some, None, refl, sym, ap, ◌∙◌, arith}
 use Rattle.std.specs.List.{flat_map}
 use Rattle.std.proofs.lemmas.Int.{ints}
@@ -21,7 +21,7 @@ use Rattle.mpw_contents.specs.Internal.Opening.{IsPlacedReference}
 use Rattle.mpw_contents.proofs.Lists.{map_same}
 use Rattle.mpw_contents.proofs.Steps.{items_placed}
 
--- to move is to place by a displacement alone
+-- to displace is to place by a displacement alone
 abbrev by_way : Point → Placing
 by_way d = record { orient = R0; by = d }
 
@@ -59,7 +59,7 @@ all_moved ss d (t ∷ ts) =
     ∙ ap (λ items. map (moved d) (thing_items ss t) ++ items) (all_moved ss d ts)
     ∙ sym (map-append (moved d) (thing_items ss t) (flat_map (thing_items ss) ts))
 
--- the area shows nothing
+-- the area has no items
 thing_bare : (ss : List Submission) (thing : Thing)
     → thing_items ss (bare thing) ≡ thing_items ss thing
 unfolding thing_items
@@ -96,7 +96,7 @@ way_is d p q e =
     let y = ap (λ (r : Point). r.y) e in
     same_point _ _ (omega (arith, ints, x)) (omega (arith, ints, y))
 
--- thing by thing
+-- entry by entry
 pub each_moved : (d : Point) (from to : List Thing) → AreMoved d from to → (i : ℕ)
     → i < length from → (x y : Thing) → bare (get_or to i y) ≡ moved_thing d (get_or from i x)
 each_moved d [] to h i lt x y = absurd (omega (arith, lt))
@@ -105,7 +105,7 @@ each_moved d (t ∷ ts) (u ∷ us) h zero lt x y = ap (λ xs. get_or xs 0 (bare 
 each_moved d (t ∷ ts) (u ∷ us) h (suc i) lt x y =
     let rest : AreMoved d ts us = cc in each_moved d ts us rest i (omega (arith, lt)) x y
 
--- the first things tell it
+-- the first entries determine it
 pub first_tells : (d : Point) (from to : List Thing) (x y : Thing) (p q w : Point)
     → AreMoved d from to → 0 < length from
     → p ≡ place_of_thing (get_or from 0 x) → q ≡ place_of_thing (get_or to 0 y)

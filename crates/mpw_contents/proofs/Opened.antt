@@ -1,4 +1,4 @@
--- What a structure shows, one level down: its own shapes, and then its children.
+-- The content of a structure, one level down: its own shapes, and then its children.
 use Rattle.std.proofs.Common.{◌≡◌, ℕ, ◌+◌, true, List, [], ◌∷◌, ◌++◌, length, map, Some, refl, sym, ap, subst, ◌∙◌, arith, append_assoc}
 use Rattle.std.specs.Prelude.{slice_get}
 use Rattle.std.specs.List.{flat_map}

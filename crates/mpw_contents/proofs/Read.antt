@@ -1,4 +1,4 @@
--- What calls that look something up give.
+-- The results of look-ups.
 use Rattle.std.proofs.Common.{◌≡◌, Bool, true, false, Option, Some, None, refl, sym, ap, ◌∙◌}
 use Rattle.std.specs.Prelude.{option_copied, MatchBool}
 use Rattle.std.specs.Borrow.{Bor}

@@ -1,4 +1,4 @@
--- Steps go with placings, and so do arrays.
+-- Steps commute with placings, and so do arrays.
 use Rattle.std.proofs.Common.{◌≡◌, ℕ, ℤ, pos, ◌+ℤ◌, ◌*ℤ◌, neg_ℤ, List, map, refl, sym, ap, ◌∙◌, arith}
 use lib.IntN.{neg_ℤ-+ℤ}
 use Rattle.std.specs.List.{flat_map, range_with_len}

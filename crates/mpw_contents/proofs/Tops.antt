@@ -1,4 +1,4 @@
--- The top as an array of one, and what all things show.
+-- The top as an array of one instance, and the items of all entries.
 use Rattle.std.proofs.Common.{◌≡◌, ℕ, ◌-◌, List, [], ◌∷◌, ◌++◌, length, map, take, Option, Some, refl, sym, ap, subst, ◌∙◌, arith}
 use Rattle.std.specs.Prelude.{slice_get, IfSome, option_copied}
 use Rattle.std.specs.Borrow.{Bor}
@@ -45,7 +45,7 @@ items_stay (i ∷ items) =
     ∷ map (placed_item here) items) (stays i.placing)
     ∙ ap (λ is. i ∷ is) (items_stay items)
 
--- the array of one where the top stands
+-- the array of one instance at the top's position
 abbrev pub one_here : ℕ → ℕ → Array
 one_here structure node = record {
   structure = structure;
@@ -96,7 +96,7 @@ top_alone l ss a old new shelf none is shown =
     ∙ append-nil (thing_items ss (things.Array a))
     ∙ subst (λ s. thing_items s (things.Array a) ≡ flat s 0) shelf shown
 
--- what a shelf gives is a layout
+-- what a shelf returns is a layout
 pub layout_is : (l : Layout) (o : Option (Bor (List Node))) → o ≡ Some l.nodes
     → IfSome o (λ (ns : Bor (List Node)). AreNodes l.shelf.now 0 ns.now)
     → (p : Option (Bor Submission)) (from : Bor Submission) → p ≡ Some from

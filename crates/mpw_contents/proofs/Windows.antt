@@ -1,4 +1,4 @@
--- What misses a window as a placed structure sees it misses that where it is placed.
+-- What misses a window in the coordinates of a placed structure misses the window when it is placed.
 use Rattle.std.proofs.Common.{◌≡◌, Bool, true, false, ◌≤ℤ◌, sym, refl, ◌∙◌, arith}
 use Rattle.std.specs.Int.{int_min, int_max}
 use Rattle.std.proofs.lemmas.Int.{ints, clamps}

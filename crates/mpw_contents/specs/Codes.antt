@@ -1,4 +1,4 @@
--- A number that contents have, wherever they stand.
+-- A hash code of contents that doesn't depend on their position.
 use Rattle.std.specs.Prelude.{ℕ, ◌+◌, ◌*◌, ◌%◌, ◌^◌, ◌-ℤ◌, unsigned_abs, List, [], ◌∷◌, fold}
 use Rattle.mpw_geom.specs.declared.plane.Point.{Point}
 use Rattle.mpw_contents.specs.declared.thing.Array.{Array}
@@ -7,16 +7,16 @@ use Rattle.mpw_contents.specs.declared.thing.Thing.{Thing}
 use Rattle.mpw_contents.specs.declared.thing.Thing.TheVariants as things
 use Rattle.mpw_contents.specs.Displaced.{place_of_thing}
 
--- A number more, modulo 2^64, by a prime.
+-- A code with one more number, modulo 2^64, by a prime.
 unfoldable pub mixed : ℕ → ℕ → ℕ
 mixed code n = ((code * 1099511628211) % 2 ^ 64 + n) % 2 ^ 64
 
--- How far a point is from another.
+-- A code with the displacement from one point to another.
 abbrev pub with_place : ℕ → (from at : Point) → ℕ
 with_place code from at =
     mixed (mixed code (unsigned_abs (at.x -ℤ from.x))) (unsigned_abs (at.y -ℤ from.y))
 
--- What a thing is, and how far it is from a point.
+-- A code with an entry, and its displacement from a point.
 abbrev pub shape_code : Point → ℕ → Shape → ℕ
 shape_code from code s = with_place (mixed (mixed code s.structure) s.element) from s.placing.by
 
@@ -28,7 +28,7 @@ abbrev pub thing_code : Point → ℕ → Thing → ℕ
 thing_code from code (things.Shape s) = shape_code from code s
 thing_code from code (things.Array a) = array_code from code a
 
--- All of them, by how far each is from the first.
+-- The code of all of them, by the displacement of each from the first.
 unfoldable pub code_of : List Thing → ℕ
 code_of [] = 0
 code_of (t ∷ ts) = fold (thing_code (place_of_thing t)) 0 (t ∷ ts)

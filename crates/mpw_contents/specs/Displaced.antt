@@ -1,4 +1,4 @@
--- Things, and what they show, at a displacement.
+-- Entries and their items, displaced.
 use Rattle.std.specs.Prelude.{◌≡◌, List, None, map}
 use Rattle.mpw_geom.specs.Placing.{moved_point}
 use Rattle.mpw_geom.specs.declared.plane.Point.{Point}
@@ -9,12 +9,12 @@ use Rattle.mpw_contents.specs.declared.thing.Shape.{Shape}
 use Rattle.mpw_contents.specs.declared.thing.Thing.{Thing}
 use Rattle.mpw_contents.specs.declared.thing.Thing.TheVariants as things
 
--- Where a thing stands.
+-- The position of an entry.
 abbrev pub place_of_thing : Thing → Point
 place_of_thing (things.Shape shape) = shape.placing.by
 place_of_thing (things.Array a) = a.first.by
 
--- The same elsewhere.
+-- The placing, displaced.
 abbrev pub moved_placing : Point → Placing → Placing
 moved_placing d t = record { orient = t.orient; by = moved_point d t.by }
 
@@ -22,7 +22,7 @@ abbrev pub moved : Point → Item → Item
 moved d i =
     record { origin = i.origin; placing = moved_placing d i.placing; element = i.element }
 
--- The same without the area, which its placing tells.
+-- The shape without its area, which follows from its placing.
 abbrev pub bare_shape : Shape → Shape
 bare_shape shape = record {
   structure = shape.structure;
@@ -35,7 +35,7 @@ abbrev pub bare : Thing → Thing
 bare (things.Shape shape) = things.Shape (bare_shape shape)
 bare (things.Array a) = things.Array a
 
--- The same shape, without its area, and the same array, elsewhere.
+-- The same shape, without its area, and the same array, displaced.
 abbrev pub moved_shape : Point → Shape → Shape
 moved_shape d shape = record {
   structure = shape.structure;
@@ -59,6 +59,6 @@ abbrev pub moved_thing : Point → Thing → Thing
 moved_thing d (things.Shape shape) = things.Shape (moved_shape d shape)
 moved_thing d (things.Array a) = things.Array (moved_array d a)
 
--- One list of things is another, elsewhere, but for their areas.
+-- One list of entries is another, displaced, except for their areas.
 abbrev pub AreMoved : Point → (from to : List Thing) → Type 0
 AreMoved d from to = map bare to ≡ map (moved_thing d) from

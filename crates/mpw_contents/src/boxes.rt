@@ -1,7 +1,7 @@
 //! The boxes of the elements of small structures, made once for all instances.
 //!
-//! A window that a few shapes of an instance meet is held against the boxes of all of them; to make each box anew from its points
-//! takes some ten times as long as the comparison.
+//! If a window touches a few shapes of an instance, it is compared with the boxes of all shapes. To make each box anew from its points
+//! takes about ten times as long as the comparison.
 
 ghost use Rattle.std.specs.Prelude.{◌≡◌, ◌<◌, length, map, All, IfOk};
 ghost use Rattle.std.specs.List.{AllZip};
@@ -17,14 +17,14 @@ use mpw_structures::{Element, Structure};
 use std::alloc::{AllocError, Global};
 use std::marker::Model;
 
-/// The most elements of a structure whose boxes are held.
+/// The most elements of a structure whose boxes are stored.
 const MOST_OF_ONE: usize = 1 << 12;
 
-/// The most elements whose boxes are held.
+/// The most elements whose boxes are stored.
 const MOST_OF_ALL: usize = 1 << 20;
 
-/// The boxes of elements by their structures, which contracts see as lists in the order of the library. A structure whose boxes
-/// aren't held has an empty list.
+/// The boxes of elements by their structures. Contracts see them as lists in the order of the library. A structure whose boxes
+/// aren't stored has an empty list.
 pub struct Boxes {
     structures: Vec<Vec<Option<Box2>>>,
 }
@@ -45,7 +45,7 @@ impl Model for Boxes {
     ghost view = { λ b. map (λ v. v.items) b.structures.items };
 }
 
-/// The boxes of elements. One pass over their points; an error is want of memory.
+/// The boxes of elements. Cost: one pass over their points. The only error is out of memory.
 fn boxes_of(alloc: Global, elements: &[Element]) -> Result<Vec<Option<Box2>>, AllocError>
     requires { All IsElement elements.now }
     ensures { IfOk result (λ v. v.items ≡ map element_box elements.now) }
@@ -57,7 +57,7 @@ fn boxes_of(alloc: Global, elements: &[Element]) -> Result<Vec<Option<Box2>>, Al
     Ok(boxes)
 }
 
-/// The boxes of a structure's elements, or no box where there are more than so many elements. An error is want of memory.
+/// The boxes of a structure's elements, or none if there are more elements than a limit. The only error is out of memory.
 fn held_of(
     alloc: Global,
     structure: &Structure,
@@ -73,7 +73,7 @@ fn held_of(
     boxes_of(alloc, elements)
 }
 
-/// The boxes of the elements of structures, until there are so many. An error is want of memory.
+/// The boxes of the elements of structures, up to a limit. The only error is out of memory.
 fn held_in(
     alloc: Global,
     structures: &[Structure],
@@ -93,11 +93,11 @@ fn held_in(
 }
 
 impl Boxes {
-    /// The boxes of the elements of a shelf's first submission: of each structure that has 2^12 elements at most, until there are 2^20 boxes. One
+    /// The boxes of the elements of a shelf's first submission: for each structure with at most 2^12 elements, up to 2^20 boxes in all. Cost: one
     /// pass over their points.
     ///
     /// # Errors
-    /// Want of memory.
+    /// Out of memory.
     pub fn of(alloc: Global, shelf: &Shelf) -> Result<Boxes, AllocError>
         requires { 0 < length shelf.now }
         ensures { IfOk result (AreBoxesOf shelf.now) }
@@ -108,7 +108,7 @@ impl Boxes {
         Ok(Boxes { structures })
     }
 
-    /// The boxes of the elements of a structure, by its place in the library; none where they aren't held. Takes no memory.
+    /// The boxes of the elements of a structure, by its index in the library; empty if they aren't stored. Takes no memory.
     pub fn of_structure(&self, structure: usize) -> &[Option<Box2>]
         ensures { result.now ≡ boxes_at self.now structure }
     {

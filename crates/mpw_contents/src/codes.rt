@@ -1,4 +1,4 @@
-//! A number that contents have, wherever they stand. Nothing here takes memory.
+//! A hash code of contents that doesn't depend on their position. Nothing here takes memory.
 
 ghost use Rattle.std.specs.Prelude.{◌≡◌, List};
 ghost use Rattle.mpw_geom.specs.declared.plane.Point.{Point};
@@ -11,10 +11,10 @@ use crate::displaced::place;
 use crate::thing::{Array, Shape, Thing};
 use mpw_geom::Point;
 
-/// By which numbers are mixed: a prime.
+/// The prime that mixes numbers.
 const PRIME: u64 = 1_099_511_628_211;
 
-/// A number more.
+/// A hash code with one more number.
 #[tactic(auto, unfolding(crate::specs::Codes::mixed))]
 fn mixed(code: u64, number: u64) -> u64
     ensures { result ≡ mixed code number }
@@ -22,7 +22,7 @@ fn mixed(code: u64, number: u64) -> u64
     code.wrapping_mul(PRIME).wrapping_add(number)
 }
 
-/// How far a point is from another.
+/// A hash code with the displacement from one point to another.
 fn with_place(code: u64, from: Point, at: Point) -> u64
     ensures { result ≡ with_place code from at }
 {
@@ -56,10 +56,10 @@ fn thing_code(from: Point, code: u64, thing: &Thing) -> u64
     }
 }
 
-/// A number of contents, by what they hold and how far it is from the first. Contents that are others at a displacement have
-/// the same; others may have it too, so compare by [`crate::displacement`] what has one number.
+/// A hash code of contents: of their entries and the distance of each from the first. Displaced contents have the same
+/// code. Other contents may have it too, so contents with equal codes must be compared by [`crate::displacement`].
 ///
-/// Linear in the number of things, and it takes no memory.
+/// Cost: linear in the entries. Takes no memory.
 pub fn code(contents: &Contents) -> u64
     ensures code { result ≡ code_of contents.now }
     ensures stays { (d : Point) (others : List Thing) → AreMoved d contents.now others → code_of others ≡ result }

@@ -1,4 +1,4 @@
-//! Contents: a list of things.
+//! Contents: a list of entries, each a shape or an array of instances.
 
 ghost use Rattle.std.specs.Prelude.{◌≡◌, All, IfOk};
 ghost use Rattle.mpw_contents.specs.Contents.{IsNear};
@@ -7,7 +7,7 @@ use crate::thing::Thing;
 use std::alloc::{AllocError, Global};
 use std::marker::Model;
 
-/// Things in order, which contracts see as their list. Each is displaced by 2^48 nm at most.
+/// Entries in order. Contracts see them as a list. Each is displaced by at most 2^48 nm.
 pub struct Contents {
     pub(crate) things: Vec<Thing>,
 }
@@ -32,7 +32,7 @@ impl Model for Contents {
 }
 
 impl Contents {
-    /// The things in order. Takes no memory.
+    /// The entries in order. Takes no memory.
     pub fn things(&self) -> &[Thing]
         ensures things { result.now ≡ self.now }
         ensures near { All IsNear self.now }
@@ -40,10 +40,10 @@ impl Contents {
         &self.things
     }
 
-    /// The same things once more.
+    /// A copy of the entries.
     ///
     /// # Errors
-    /// Want of memory.
+    /// Out of memory.
     pub fn copy(&self, alloc: Global) -> Result<Contents, AllocError>
         ensures { IfOk result (λ things. things ≡ self.now) }
     {

@@ -1,4 +1,4 @@
-//! Whether contents are others, displaced. Nothing here takes memory.
+//! Tests whether contents are other contents, displaced. Nothing here takes memory.
 
 ghost use Rattle.std.specs.Prelude.{◌≡◌, ◌↔◌, IsTrue, IfSome, IfNone, List, [], length, map, pos, Some, All};
 ghost use Rattle.mpw_geom.specs.Plane.{IsCoordinate, IsInPlane};
@@ -14,7 +14,7 @@ use crate::contents::Contents;
 use crate::thing::{Array, Shape, Thing};
 use mpw_geom::{Placing, Point};
 
-/// Where a thing stands.
+/// The position of an entry.
 pub fn place(thing: &Thing) -> Point
     requires { IsNear thing.now }
     ensures place { result ≡ place_of_thing thing.now }
@@ -26,7 +26,7 @@ pub fn place(thing: &Thing) -> Point
     }
 }
 
-/// The way from a point to another.
+/// The displacement from one point to another.
 fn way(from: Point, to: Point) -> Point
     requires from { IsInPlane from }
     requires to { IsInPlane to }
@@ -39,7 +39,7 @@ fn way(from: Point, to: Point) -> Point
     }
 }
 
-/// A point, moved.
+/// A point, displaced.
 fn moved(point: Point, d: Point) -> Point
     requires point { IsInPlane point }
     requires way { IsWayBetween d }
@@ -57,7 +57,7 @@ fn is_same_point(p: Point, q: Point) -> bool
     p == q
 }
 
-/// Whether a placing is another, moved.
+/// Whether a placing is another one, displaced.
 fn is_moved_placing(a: Placing, b: Placing, d: Point) -> bool
     requires near { IsInPlane a.by }
     requires way { IsWayBetween d }
@@ -66,7 +66,7 @@ fn is_moved_placing(a: Placing, b: Placing, d: Point) -> bool
     b.orient == a.orient && is_same_point(b.by, moved(a.by, d))
 }
 
-/// Whether a shape is another, moved. Its area follows from the rest.
+/// Whether a shape is another one, displaced. Its area follows from the rest.
 fn is_moved_shape(a: &Shape, b: &Shape, d: Point) -> bool
     requires near { IsInPlane a.now.placing.by }
     requires way { IsWayBetween d }
@@ -77,7 +77,7 @@ fn is_moved_shape(a: &Shape, b: &Shape, d: Point) -> bool
         && is_moved_placing(a.placing, b.placing, d)
 }
 
-/// Whether an array has the same instances as another, wherever these are.
+/// Whether an array has the same instances as another one, apart from their position.
 fn is_same_array(a: &Array, b: &Array) -> bool
     ensures { IsTrue result ↔ ((b.now.structure ≡ a.now.structure) × (b.now.node ≡ a.now.node) × (b.now.columns ≡ a.now.columns) × (b.now.rows ≡ a.now.rows) × (b.now.column_step ≡ a.now.column_step) × (b.now.row_step ≡ a.now.row_step)) }
 {
@@ -89,7 +89,7 @@ fn is_same_array(a: &Array, b: &Array) -> bool
         && b.row_step == a.row_step
 }
 
-/// Whether an array is another, moved.
+/// Whether an array is another one, displaced.
 fn is_moved_array(a: &Array, b: &Array, d: Point) -> bool
     requires near { IsInPlane a.now.first.by }
     requires way { IsWayBetween d }
@@ -98,7 +98,7 @@ fn is_moved_array(a: &Array, b: &Array, d: Point) -> bool
     is_same_array(a, b) && is_moved_placing(a.first, b.first, d)
 }
 
-/// Whether a thing is another, moved.
+/// Whether an entry is another one, displaced.
 fn is_moved(a: &Thing, b: &Thing, d: Point) -> bool
     requires near { IsNear a.now }
     requires way { IsWayBetween d }
@@ -111,7 +111,7 @@ fn is_moved(a: &Thing, b: &Thing, d: Point) -> bool
     }
 }
 
-/// Whether things are others, all moved alike.
+/// Whether all entries are those of another list, displaced by the same vector.
 fn are_moved(a: &[Thing], b: &[Thing], d: Point) -> bool
     requires same { length a.now ≡ length b.now }
     requires near { All IsNear a.now }
@@ -126,10 +126,10 @@ fn are_moved(a: &[Thing], b: &[Thing], d: Point) -> bool
     true
 }
 
-/// The displacement that takes contents to others, thing by thing; no displacement where both are empty. Contents at a
-/// displacement show what the others do, at that displacement.
+/// The displacement that takes contents to others, entry by entry. It is zero if both are empty. `None` if there is no displacement. Displaced contents have
+/// the same flat shapes, displaced.
 ///
-/// Linear in the number of things, and it takes no memory.
+/// Cost: linear in the entries. Takes no memory.
 pub fn displacement(a: &Contents, b: &Contents) -> Option<Point>
     ensures things { IfSome result (λ d. AreMoved d a.now b.now) }
     ensures shown { IfSome result (λ d. (ss : List Submission) → things_items ss b.now ≡ map (moved d) (things_items ss a.now)) }

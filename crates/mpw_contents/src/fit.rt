@@ -1,7 +1,7 @@
-//! What of a thing may meet a window. Nothing here takes memory.
+//! Finds which part of an entry may touch a window. Nothing here takes memory.
 //!
-//! The boxes of an array stand in steps of one length, so along an axis along which its rows don't lead, division tells which
-//! columns miss the window, and so for rows where the columns don't.
+//! The instances of an array are at equal steps. If the rows don't lead along an axis, a division finds the columns that miss the window
+//! along that axis; and the other way round for rows.
 
 ghost use Rattle.std.specs.Prelude.{◌≡◌, ◌<◌, ◌≤◌, ◌*◌, ℕ, pos, neg_ℤ, ◌+ℤ◌, ◌<ℤ◌, false, true, option_map, IfSome, IfNone, IsSomeAnd, IsTrue, MatchBool};
 ghost use Rattle.mpw_geom.specs.Plane.{IsInPlane};
@@ -23,16 +23,16 @@ pub struct Span {
     pub high: i64,
 }
 
-/// Places one behind another.
+/// Consecutive indices.
 #[derive(Clone, Copy)]
 pub struct Places {
     /// The first.
     pub from: u16,
-    /// The one behind the last.
+    /// The one after the last.
     pub end: u16,
 }
 
-/// Along an axis, the steps of columns or rows, and those of the others.
+/// Along one axis, the step from one column to the next and from one row to the next; or the other way round.
 #[derive(Clone, Copy)]
 struct Steps {
     along: i64,
@@ -46,7 +46,7 @@ fn do_meet(a: Box2, b: Box2) -> bool
     a.meets(b)
 }
 
-/// A box where it is placed, if its coordinates are small enough.
+/// The image of a box under a placing, if its coordinates are small enough.
 pub fn area_of(placing: Placing, b: Box2) -> Option<Box2>
     requires { IsInPlane placing.by }
     ensures { IfSome result (λ area. area ≡ placed_box placing b) }
@@ -58,7 +58,7 @@ pub fn area_of(placing: Placing, b: Box2) -> Option<Box2>
     }
 }
 
-/// Whether a box may meet a window as what is placed sees it: so it may where none is known.
+/// Whether a box may touch a window. Both are in the coordinates of a placed structure. The answer is yes if the window isn't known.
 pub fn is_own_met(b: Box2, own: &Option<Box2>) -> bool
     ensures { result ≡ false → IsSomeAnd own.now (λ own. do_meet b own ≡ false) }
 {
@@ -68,7 +68,7 @@ pub fn is_own_met(b: Box2, own: &Option<Box2>) -> bool
     do_meet(b, *own)
 }
 
-/// Whether a shape with that area may meet a window: so it may where none is known.
+/// Whether a shape with that area may touch a window. The answer is yes if the area isn't known.
 pub fn is_area_met(area: &Option<Box2>, window: &Box2) -> bool
     ensures { result ≡ false → IsSomeAnd area.now (λ area. do_meet area window.now ≡ false) }
 {
@@ -78,7 +78,7 @@ pub fn is_area_met(area: &Option<Box2>, window: &Box2) -> bool
     }
 }
 
-/// Whether a box, if there is one, may meet a window where it is placed. Of near boxes it tells exactly.
+/// Whether a box, if there is one, may touch a window when it is placed. For near boxes the answer is exact.
 pub fn may_meet(window: &Box2, placing: &Placing, b: Option<Box2>) -> bool
     requires { IsInPlane placing.now.by }
     ensures { result ≡ false → is_met window.now (option_map (placed_box placing.now) b) ≡ false }
@@ -92,7 +92,7 @@ pub fn may_meet(window: &Box2, placing: &Placing, b: Option<Box2>) -> bool
     do_meet(placed_box(*placing, b), *window)
 }
 
-/// How many numbers of steps are shorter than a gap, from none on, of so many at most.
+/// How many k from 0 on, at most `most`, have k steps shorter than a gap.
 fn steps_short(gap: u64, step: u64, most: u16) -> u16
     requires { 1 ≤ step }
     ensures few { result ≤ most }
@@ -109,7 +109,7 @@ fn steps_short(gap: u64, step: u64, most: u16) -> u16
     }
 }
 
-/// How many numbers of steps are no longer than a gap, from none on, of so many at most.
+/// How many k from 0 on, at most `most`, have k steps no longer than a gap.
 fn steps_within(gap: u64, step: u64, most: u16) -> u16
     requires { 1 ≤ step }
     ensures few { result ≤ most }
@@ -123,7 +123,7 @@ fn steps_within(gap: u64, step: u64, most: u16) -> u16
     }
 }
 
-/// How many of intervals, each so far above the one before, end before another begins, from the first on, of so many at most.
+/// Intervals follow one another upwards in equal steps. How many of the first `most` end before interval `b` begins.
 fn before(a: Span, b: Span, step: u64, most: u16) -> u16
     requires { 1 ≤ step }
     ensures few { result ≤ most }
@@ -136,7 +136,7 @@ fn before(a: Span, b: Span, step: u64, most: u16) -> u16
     }
 }
 
-/// How many of intervals, each so far above the one before, begin before another has ended, from the first on, of so many at most.
+/// Intervals follow one another upwards in equal steps. How many of the first `most` begin before interval `b` has ended.
 fn begun(a: Span, b: Span, step: u64, most: u16) -> u16
     requires { 1 ≤ step }
     ensures few { result ≤ most }
@@ -149,7 +149,7 @@ fn begun(a: Span, b: Span, step: u64, most: u16) -> u16
     }
 }
 
-/// Which of so many intervals may share a number with a window, each so far above the one before.
+/// Which of `most` intervals may share a number with a window, if each is a step above the one before.
 fn upwards(there: Span, window: Span, step: u64, most: u16) -> Places
     requires { 1 ≤ step }
     ensures few { result.end ≤ most }
@@ -161,7 +161,7 @@ fn upwards(there: Span, window: Span, step: u64, most: u16) -> Places
     }
 }
 
-/// Which of so many intervals may share a number with a window, each so far below the one before.
+/// Which of `most` intervals may share a number with a window, if each is a step below the one before.
 fn downwards(there: Span, window: Span, step: u64, most: u16) -> Places
     requires { 1 ≤ step }
     ensures few { result.end ≤ most }
@@ -173,7 +173,7 @@ fn downwards(there: Span, window: Span, step: u64, most: u16) -> Places
     }
 }
 
-/// Which of so many intervals may share a number with a window, where all are one.
+/// Which of `most` intervals may share a number with a window, if all are equal.
 fn in_place(there: Span, window: Span, most: u16) -> Places
     ensures few { result.end ≤ most }
     ensures missed { SpansMissed there window (pos 0) most result }
@@ -185,7 +185,7 @@ fn in_place(there: Span, window: Span, most: u16) -> Places
     }
 }
 
-/// Which of so many intervals may share a number with a window, each a step behind the one before.
+/// Which of `most` intervals may share a number with a window, if each is a step from the one before.
 fn places_met(there: Span, window: Span, steps: Steps, most: u16) -> Places
     ensures few { result.end ≤ most }
     ensures missed { SpansMissed there window steps.along most result }
@@ -199,7 +199,7 @@ fn places_met(there: Span, window: Span, steps: Steps, most: u16) -> Places
     in_place(there, window, most)
 }
 
-/// Which columns may share a number with a window along an axis, whatever their row; or which rows, whatever their column.
+/// Which columns may share a number with a window along an axis, in any row; or which rows, in any column.
 fn along(there: Span, window: Span, steps: Steps, most: u16) -> Places
     ensures few { result.end ≤ most }
     ensures missed { AlongMissed there window steps.along steps.across most result }
@@ -247,7 +247,7 @@ fn steps_y(own: Point, other: Point) -> Steps
     }
 }
 
-/// The places that both hold.
+/// The indices in both.
 fn both(a: Places, b: Places) -> Places
     ensures few { (most : ℕ) → a.end ≤ most → result.end ≤ most }
     ensures outside { (k : ℕ) → IsOutside result k → IsEither a b k }
@@ -258,7 +258,7 @@ fn both(a: Places, b: Places) -> Places
     }
 }
 
-/// The columns of an array that may meet a window, where the first instance has that box.
+/// The columns of an array that may touch a window, given the box of the first instance.
 fn columns_met(there: Box2, window: Box2, array: &Array) -> Places
     ensures few { result.end ≤ array.now.columns }
     ensures missed { ColumnsMissed there window array.now result }
@@ -280,7 +280,7 @@ fn columns_met(there: Box2, window: Box2, array: &Array) -> Places
     both(x, y)
 }
 
-/// The rows of an array that may meet a window, where the first instance has that box.
+/// The rows of an array that may touch a window, given the box of the first instance.
 fn rows_met(there: Box2, window: Box2, array: &Array) -> Places
     ensures few { result.end ≤ array.now.rows }
     ensures missed { RowsMissed there window array.now result }
@@ -302,7 +302,7 @@ fn rows_met(there: Box2, window: Box2, array: &Array) -> Places
     both(x, y)
 }
 
-/// An array without the other columns and rows, unless its first instance is then beyond 2^48 nm.
+/// An array reduced to these columns and rows. `None` if its first instance would be beyond 2^48 nm.
 fn cut(array: &Array, columns: Places, rows: Places) -> Option<Array>
     requires columns { columns.from < columns.end }
     requires rows { rows.from < rows.end }
@@ -324,7 +324,7 @@ fn cut(array: &Array, columns: Places, rows: Places) -> Option<Array>
     })
 }
 
-/// An array without the columns and the rows that division tells miss a window.
+/// An array without the columns and the rows that, by division, miss a window.
 fn divided(array: &Array, window: Box2, extent: Box2) -> Option<Array>
     requires near { is_box_near extent ≡ true }
     requires first { IsInPlane array.now.first.by }
@@ -351,7 +351,7 @@ pub fn is_single(array: &Array) -> bool
     array.columns == 1 && array.rows == 1
 }
 
-/// Whether the only instance of an array may meet a window: its box is held against that, without a division.
+/// Whether the only instance of an array may touch a window. Its box is compared with the window, without a division.
 pub fn is_single_met(array: &Array, window: &Box2, extent: Box2) -> bool
     requires near { is_box_near extent ≡ true }
     requires first { IsInPlane array.now.first.by }
@@ -362,9 +362,9 @@ pub fn is_single_met(array: &Array, window: &Box2, extent: Box2) -> bool
     do_meet(placed_box(array.first, extent), *window)
 }
 
-/// An array without the columns and the rows that division tells miss a window, where its structure has that extent; none
-/// where there are no others. It may keep too much, as it does where columns and rows lead along one axis. Of an array of
-/// one instance the box is held against the window, without a division.
+/// An array without the columns and the rows that, by division, miss a window, given its structure's extent. `None` if
+/// none are left. Some that miss the window may be left, as when columns and rows lead along one axis. For an array of
+/// one instance, its box is compared with the window, without a division.
 pub fn fitted(array: &Array, window: &Box2, extent: Box2) -> Option<Array>
     requires near { is_box_near extent ≡ true }
     requires first { IsInPlane array.now.first.by }

@@ -1,11 +1,11 @@
-//! Laws of the definitions alone. The function does nothing: its contract is the law.
+//! Laws about the definitions. The function does nothing; its contract is the law.
 
 ghost use Rattle.mpw_contents.specs.Internal.Opening.{NamesAreOpened};
 
 use mpw_hier::{extents_are_least_boxes, names_list_their_targets, names_show_their_targets};
 use std::marker::Model;
 
-/// An item of a flat list, which laws of lists of any kind are called with. There is no value of it.
+/// An item of a flat list, for which laws of lists of any kind are called. No value of this type exists.
 #[derive(Drop)]
 struct Shown;
 
@@ -18,8 +18,8 @@ impl Model for Shown {
     ghost view = { λ _. some_item };
 }
 
-/// What a name of a library shows is what its structure does, and a submission shows what its top does. Extents hold what is
-/// shown, and are placed with it.
+/// The content of a library's name is that of its structure, and the content of a submission is that of its top. Extents contain
+/// the content, and are placed with it.
 pub fn names_are_opened()
     ensures { NamesAreOpened }
 {

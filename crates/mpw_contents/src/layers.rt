@@ -1,4 +1,4 @@
-//! Contents without the shapes of other layers.
+//! Removes the shapes on other layers from contents.
 
 ghost use Rattle.std.specs.Prelude.{◌<◌, length, ◌≡◌, ◌↔◌, IsTrue, All, IfOk, MatchBool, Contains, option_copied};
 ghost use Rattle.mpw_hier.specs.Items.{Item};
@@ -20,7 +20,7 @@ fn is_one(a: Layer, b: Layer) -> bool
     a == b
 }
 
-/// Whether a layer is one of a list.
+/// Whether the list has the layer.
 fn is_among(layers: &[Layer], layer: Layer) -> bool
     ensures { MatchBool result (Contains layers.now layer) (Contains layers.now layer → ⊥) }
 {
@@ -43,7 +43,7 @@ fn is_on(layers: &[Layer], element: &Element) -> bool
     }
 }
 
-/// Whether a thing stays: an array, or a shape on one of the layers.
+/// Whether an entry stays: it is an array, or a shape on one of the layers.
 fn stays(shelf: &Shelf, layers: &[Layer], thing: &Thing) -> bool
     requires { 0 < length shelf.now }
     ensures { MatchBool result (IsThingOn shelf.now layers.now thing.now) (ShowsNone layers.now (thing_items shelf.now thing.now)) }
@@ -58,10 +58,10 @@ fn stays(shelf: &Shelf, layers: &[Layer], thing: &Thing) -> bool
 }
 
 impl Contents {
-    /// These without the shapes that are on none of the layers. What arrays show stays.
+    /// These contents without the shapes that are on none of the layers. Arrays stay, whatever their layers.
     ///
     /// # Errors
-    /// Want of memory.
+    /// Out of memory.
     pub fn on_layers(
         &self,
         alloc: Global,

@@ -1,4 +1,4 @@
-//! A submission by its nodes and structures, and what is wanted of it.
+//! A submission with its nodes and structures, and the options of its contents.
 
 ghost use Rattle.std.specs.Prelude.{◌≡◌, ◌<◌, length, IfSome};
 ghost use Rattle.mpw_contents.specs.Boxes.{AreBoxesOf};
@@ -11,56 +11,56 @@ use mpw_geom::Box2;
 use mpw_hier::{Node, Shelf, is_box_near};
 use mpw_structures::Structure;
 
-/// What contents are to be like.
+/// The options of contents.
 #[derive(Clone, Copy)]
 pub struct Wanted {
-    /// The greatest number of things.
+    /// The most entries.
     pub most: usize,
     /// Arrays whose instances are wider than this are opened, in nm.
     pub width: u64,
-    /// Widths are taken along the y axis, and not along the x axis.
+    /// Widths are measured along the y axis, not along the x axis.
     pub is_along_y: bool,
 }
 
-/// Which arrays are opened.
+/// Which arrays are opened: replaced by their structure's shapes and children.
 #[derive(Clone, Copy)]
 pub enum Opened {
-    /// Those whose instances are wider than this, in nm.
+    /// Arrays whose instances are wider than this, in nm.
     Wide {
-        /// The greatest width of the others.
+        /// The greatest width that isn't opened.
         width: u64,
-        /// Widths are taken along the y axis, and not along the x axis.
+        /// Widths are measured along the y axis, not along the x axis.
         is_along_y: bool,
     },
-    /// Those of few instances of large structures.
+    /// Arrays with few instances of large structures.
     Few {
         /// The greatest number of instances.
         instances: u32,
-        /// The greatest number of shapes that a structure of the others shows.
+        /// The greatest number of flat shapes of a structure that isn't opened.
         shapes: u64,
     },
 }
 
-/// The first submission of a shelf, and what is wanted of it.
+/// The first submission of a shelf, and the options of its contents.
 #[derive(Clone, Copy)]
 pub struct Layout<'a> {
     /// The shelf.
     pub shelf: &'a Shelf,
-    /// The nodes of the submission, each behind those that it places, the top last.
+    /// The nodes of the submission, each after those that it places. The top is last.
     pub nodes: &'a [Node],
     /// The structures of its library.
     pub structures: &'a [Structure],
-    /// What doesn't meet this is left out.
+    /// What doesn't touch this window is left out.
     pub window: Box2,
-    /// The greatest number of things.
+    /// The most entries.
     pub most: usize,
     /// Which arrays are opened.
     pub opened: Opened,
-    /// The boxes of elements, where they are held.
+    /// The boxes of elements, if they are stored.
     pub boxes: Option<&'a Boxes>,
 }
 
-/// Whether what a node shows is wider than so much where an array's first instance stands.
+/// Whether the first instance of an array of a node is wider than `width`.
 fn is_wide(array: &Array, node: &Node, width: u64, is_along_y: bool) -> bool {
     let Some(b) = node.size.extent else {
         return false;
@@ -77,14 +77,14 @@ fn is_wide(array: &Array, node: &Node, width: u64, is_along_y: bool) -> bool {
     there > width
 }
 
-/// Whether an array has so many instances at most, of a structure that shows more than so many shapes.
+/// Whether an array has at most `instances` instances, of a structure with more than `shapes` flat shapes.
 fn is_few(array: &Array, node: &Node, instances: u32, shapes: u64) -> bool {
     node.size.count > shapes
         && u32::from(array.columns).saturating_mul(u32::from(array.rows)) <= instances
 }
 
 impl<'a> Layout<'a> {
-    /// The first submission of a shelf, of which that is wanted.
+    /// The first submission of a shelf, with these options.
     pub fn of(
         shelf: &'a Shelf,
         window: Box2,
@@ -109,7 +109,7 @@ impl<'a> Layout<'a> {
         }
     }
 
-    /// The boxes of the elements of a structure; none where they aren't held.
+    /// The boxes of the elements of a structure; empty if they aren't stored.
     pub fn boxes_of(&self, structure: usize) -> &'a [Option<Box2>]
         requires { IsLayout self.now }
         ensures { HaveBoxes self.now structure result.now }

@@ -1,8 +1,8 @@
-//! What of a layout meets a window, as a short list: shapes, and arrays of instances of structures.
+//! Finds what of a layout touches a window, as a short list of entries: shapes, and arrays of instances of structures.
 //!
-//! [`contents_in`] begins with the top and opens what is wider than wanted, level by level, so that what it answers is short
-//! where the layout is regular. Two windows of equal contents up to a displacement ([`displacement`]) show the same up to
-//! it, which costs no more to find than the lists are long.
+//! [`contents_in`] begins with the top and opens what is wider than requested, level by level. So its result is short if the layout is
+//! regular. If the contents of two windows are equal up to a displacement ([`displacement`]), then so are their flat shapes. The test costs
+//! no more than the lists are long.
 #![tactic(auto)]
 
 mod boxes;

@@ -1,4 +1,4 @@
-//! How contents are made: the top, and then what is opened of it, pass by pass.
+//! Makes contents: first the top, and then what is opened of it, pass by pass.
 
 ghost use Rattle.std.specs.Prelude.{◌≡◌, ◌<◌, [], length, All, OnOk, IfOk, IfSome};
 ghost use Rattle.mpw_hier.specs.Values.{flat};
@@ -16,24 +16,24 @@ use mpw_geom::{Box2, Orient, Placing, Point};
 use mpw_hier::Shelf;
 use std::alloc::{AllocError, Global};
 
-/// The most passes: one for each level of a shelf, of which there are 64 at most, and one that opens nothing.
+/// The most passes: one for each level of a shelf, of which there are at most 64, and one that opens nothing.
 const PASSES: usize = 65;
 
-/// No step.
+/// A step of length 0.
 const STILL: Point = Point { x: 0, y: 0 };
 
-/// Where the top stands.
+/// The placing of the top.
 const HERE: Placing = Placing {
     orient: Orient::R0,
     by: STILL,
 };
 
 impl<'a> Layout<'a> {
-    /// Adds an array, which is handed over as a thing too, or what it shows one level down where it is to be opened. The result is
-    /// whether it is opened so.
+    /// Adds an array, or its structure's content one level down if it is to be opened. `thing` is the array as an entry. Returns
+    /// whether it was opened.
     ///
     /// # Errors
-    /// As those of [`Layout::open`].
+    /// The same as those of [`Layout::open`].
     pub fn pass_array(
         &self,
         array: &Array,
@@ -53,7 +53,7 @@ impl<'a> Layout<'a> {
         Ok(false)
     }
 
-    /// Adds a thing, or what it shows one level down where it is to be opened.
+    /// Adds an entry, or its content one level down if it is to be opened.
     fn pass_thing(&self, thing: &Thing, things: &mut Vec<Thing>) -> Result<(), Stop>
         requires layout { IsLayout self.now }
         requires thing { IsThing self.now.nodes.now thing.now }
@@ -69,10 +69,10 @@ impl<'a> Layout<'a> {
         }
     }
 
-    /// The things behind a pass over others.
+    /// The entries after one pass over others.
     ///
     /// # Errors
-    /// As those of [`Layout::open`].
+    /// The same as those of [`Layout::open`].
     fn pass(&self, alloc: Global, old: &[Thing]) -> Result<Vec<Thing>, Stop>
         requires layout { IsLayout self.now }
         requires things { All (IsThing self.now.nodes.now) old.now }
@@ -86,7 +86,7 @@ impl<'a> Layout<'a> {
         Ok(things)
     }
 
-    /// Whether one of the things is to be opened.
+    /// Whether one of the entries is to be opened.
     fn are_opened(&self, things: &[Thing]) -> bool {
         things.iter().any(|thing| match thing {
             Thing::Shape(_) => false,
@@ -94,10 +94,10 @@ impl<'a> Layout<'a> {
         })
     }
 
-    /// The contents that things are once one pass after another has opened them.
+    /// The contents that result when pass after pass has opened these entries.
     ///
     /// # Errors
-    /// As those of [`Layout::open`], and where things are still opened behind the last level.
+    /// The same as those of [`Layout::open`]; and if entries are still opened after the last level.
     pub fn finish(&self, alloc: Global, from: Vec<Thing>) -> Result<Contents, Stop>
         requires layout { IsLayout self.now }
         requires things { All (IsThing self.now.nodes.now) from.items }
@@ -115,7 +115,7 @@ impl<'a> Layout<'a> {
         Err(Stop::Many)
     }
 
-    /// The top, as an array of one; none where there is no node.
+    /// The top, as an array of one instance. `None` if there is no node.
     pub fn top(&self) -> Option<Array>
         requires { IsLayout self.now }
         ensures array { IfSome result (λ a. IsArray self.now.nodes.now a) }
@@ -136,10 +136,10 @@ impl<'a> Layout<'a> {
         })
     }
 
-    /// As much of the top as may meet the window.
+    /// The part of the top that may touch the window.
     ///
     /// # Errors
-    /// As those of [`Layout::push`].
+    /// The same as those of [`Layout::push`].
     fn begin(&self, alloc: Global) -> Result<Vec<Thing>, Stop>
         requires { IsLayout self.now }
         ensures { IfOk result (λ things. Adds self.now (flat self.now.shelf.now 0) [] things.items) }
@@ -155,7 +155,7 @@ impl<'a> Layout<'a> {
     /// The contents of the window.
     ///
     /// # Errors
-    /// As those of [`Layout::finish`].
+    /// The same as those of [`Layout::finish`].
     fn fill(&self, alloc: Global) -> Result<Contents, Stop>
         requires { IsLayout self.now }
         ensures boxed { IfOk result (All (IsBoxed self.now.shelf.now)) }
@@ -166,15 +166,15 @@ impl<'a> Layout<'a> {
     }
 }
 
-/// What of the first submission of a shelf meets a window, as things: each of its shapes that meets it is shown, and each shape
-/// that is shown is one of its flat list. None where there would be more things than wanted, where a name is bound outside
-/// the library, or where a displacement lies beyond 2^48 nm.
+/// What of the first submission of a shelf touches a window, as entries. They include each of its flat shapes that touches the window, and each of their
+/// flat shapes is one of its flat list. `None` if there would be more entries than the options allow, if a name is bound outside the library, or if a
+/// displacement exceeds 2^48 nm.
 ///
-/// Takes time by the things that are looked at on each level, each array that meets the window a constant one while it isn't
-/// opened, and memory for twice the things that are wanted at most.
+/// Cost: the number of entries that are visited on each level, where an array that touches the window and isn't opened takes constant
+/// time. Memory: at most for twice the entries that the options allow.
 ///
 /// # Errors
-/// Want of memory.
+/// Out of memory.
 pub fn contents_in(
     alloc: Global,
     shelf: &Shelf,

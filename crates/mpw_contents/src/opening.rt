@@ -1,5 +1,5 @@
-//! An array, one level down: for each instance that may meet the window the structure's own shapes, and an array for each of its
-//! children.
+//! Opens an array by one level: each instance that may touch the window is replaced by its structure's own shapes and by an array for each
+//! of its children.
 
 ghost use Rattle.std.specs.Prelude.{◌≡◌, ◌<◌, ◌++◌, ◌∷◌, [], length, map, slice_get, option_copied, OnOk, IfOk, IfSome, IfNone, IsTrue, Contains};
 ghost use Rattle.std.specs.List.{flat_map};
@@ -23,7 +23,7 @@ use mpw_geom::{Box2, Placing};
 use mpw_hier::{Child, Node, Shelf, Target, element_box};
 use mpw_structures::{Element, Reference};
 
-/// A window that holds one point.
+/// A window with only one point.
 const NOWHERE: Box2 = Box2 {
     x0: 0,
     y0: 0,
@@ -37,17 +37,17 @@ const NONE: Opened = Opened::Few {
     shapes: 0,
 };
 
-/// What a placed structure's elements are held against.
+/// What the elements of a placed structure are compared with.
 #[derive(Clone, Copy)]
 struct Seen<'a> {
-    /// The window as the structure sees it, if it is known.
+    /// The window in the structure's coordinates, if it is known.
     own: Option<Box2>,
-    /// The boxes of the structure's elements; none where they aren't held.
+    /// The boxes of the structure's elements; empty if they aren't stored.
     boxes: &'a [Option<Box2>],
 }
 
 impl Seen<'_> {
-    /// Whether the element at a place is known to miss the window.
+    /// Whether the element at an index is known to miss the window.
     fn is_missed(&self, place: usize) -> bool
         ensures { IsTrue result → IsMissed self.now place }
     {
@@ -58,7 +58,7 @@ impl Seen<'_> {
     }
 }
 
-/// The array of a node that a reference places, as it is placed itself.
+/// The array that a reference places, when the reference's structure is placed itself.
 fn placed_array(placing: Placing, reference: &Reference, place: usize, node: &Node) -> Array
     requires reference { IsReference reference.now }
     requires near { IsInPlane placing.by }
@@ -81,7 +81,7 @@ fn placed_array(placing: Placing, reference: &Reference, place: usize, node: &No
     }
 }
 
-/// The element of the library of a shelf's first submission that a shape is, if there is one. Constant.
+/// The element that a shape is, in the library of a shelf's first submission, if there is one. Constant time.
 pub fn element_of<'a>(shelf: &'a Shelf, shape: &Shape) -> Option<&'a Element>
     requires { 0 < length shelf.now }
     ensures is { option_copied result ≡ element_in shelf.now shape.now.structure shape.now.element }
@@ -92,7 +92,7 @@ pub fn element_of<'a>(shelf: &'a Shelf, shape: &Shape) -> Option<&'a Element>
 }
 
 impl<'a> Layout<'a> {
-    /// The element at a place of the structure at a place.
+    /// The element at index `place` of a structure.
     fn element(&self, structure: usize, place: usize) -> Option<&'a Element>
         requires { IsLayout self.now }
         ensures is { option_copied result ≡ element_at (slice_get self.now.structures.now structure) place }
@@ -102,7 +102,7 @@ impl<'a> Layout<'a> {
         structure.elements.as_slice().get(place)
     }
 
-    /// The reference at a place of the structure at a place, if there is one.
+    /// The reference at index `place` of a structure, if it is one.
     fn reference(&self, structure: usize, place: usize) -> Option<&'a Reference>
         requires { IsLayout self.now }
         ensures is { option_copied result ≡ as_reference (element_at (slice_get self.now.structures.now structure) place) }
@@ -114,10 +114,10 @@ impl<'a> Layout<'a> {
         }
     }
 
-    /// Adds a thing, which is copied whole.
+    /// Adds a copy of an entry.
     ///
     /// # Errors
-    /// Where there are as many as wanted, or want of memory.
+    /// If there are already as many entries as the options allow; or out of memory.
     pub fn push(&self, thing: &Thing, things: &mut Vec<Thing>) -> Result<(), Stop>
         ensures { OnOk result (things.new.items ≡ things.old.items ++ thing.now ∷ []) }
     {
@@ -128,7 +128,7 @@ impl<'a> Layout<'a> {
         Ok(())
     }
 
-    /// Adds the shape that the element at a place of the structure at a place is, if there is one that may meet the window.
+    /// Adds an element of a structure as a shape, if it exists and may touch the window.
     fn put_shape(
         &self,
         structure: usize,
@@ -168,10 +168,10 @@ impl<'a> Layout<'a> {
         self.push(&Thing::Shape(shape), things)
     }
 
-    /// Adds an array, or as much of it as may meet the window.
+    /// Adds the part of an array that may touch the window.
     ///
     /// # Errors
-    /// As those of [`Layout::push`].
+    /// The same as those of [`Layout::push`].
     pub fn put_array(&self, array: Array, things: &mut Vec<Thing>) -> Result<(), Stop>
         requires layout { IsLayout self.now }
         requires array { IsArray self.now.nodes.now array }
@@ -190,7 +190,7 @@ impl<'a> Layout<'a> {
         }
     }
 
-    /// Adds what a reference places, as it is placed itself.
+    /// Adds what a reference places, when the reference's structure is placed itself.
     fn put_reference(
         &self,
         reference: &Reference,
@@ -218,7 +218,7 @@ impl<'a> Layout<'a> {
         self.put_array(array, things)
     }
 
-    /// Adds what a child of a node shows, placed.
+    /// Adds the content of a child of a node, placed.
     fn put_child(
         &self,
         node: &Node,
@@ -255,7 +255,7 @@ impl<'a> Layout<'a> {
         Ok(())
     }
 
-    /// Adds what a node's children show, placed.
+    /// Adds the content of a node's children, placed.
     fn put_children(
         &self,
         node: &Node,
@@ -273,7 +273,7 @@ impl<'a> Layout<'a> {
         Ok(())
     }
 
-    /// Adds what a node shows, placed, one level down.
+    /// Adds the content of a node, placed, one level down.
     fn open_instance(
         &self,
         node: &Node,
@@ -293,7 +293,7 @@ impl<'a> Layout<'a> {
         self.put_children(node, placing, things)
     }
 
-    /// Adds what the instances of a row of an array show, one level down.
+    /// Adds the content of the instances of a row of an array, one level down.
     fn open_row(
         &self,
         array: &Array,
@@ -314,10 +314,10 @@ impl<'a> Layout<'a> {
         Ok(())
     }
 
-    /// Adds what an array shows, one level down.
+    /// Adds the content of an array, one level down.
     ///
     /// # Errors
-    /// As those of [`Layout::push`], and where a placing lies beyond 2^48 nm.
+    /// The same as those of [`Layout::push`]; and if a placing exceeds 2^48 nm.
     pub fn open(&self, array: &Array, things: &mut Vec<Thing>) -> Result<(), Stop>
         requires layout { IsLayout self.now }
         requires array { IsArray self.now.nodes.now array.now }

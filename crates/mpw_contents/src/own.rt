@@ -1,4 +1,4 @@
-//! A window as a structure sees it that is placed: what of the structure misses that needs no placing to be left out. Nothing here
+//! Converts a window to the coordinates of a placed structure. What misses it there can be left out without being placed. Nothing here
 //! takes memory.
 
 ghost use Rattle.std.specs.Prelude.{◌≡◌, IfSome};
@@ -6,7 +6,7 @@ ghost use Rattle.mpw_contents.specs.Internal.Own.{back, own_window, reversed, un
 
 use mpw_geom::{Box2, Orient, Placing, Point};
 
-/// A box before a displacement, unless 64 bits are too few.
+/// A box before a displacement. `None` if 64 bits are too few.
 fn back(b: &Box2, by: Point) -> Option<Box2>
     ensures { IfSome result (λ m. m ≡ back by b.now) }
 {
@@ -17,7 +17,7 @@ fn back(b: &Box2, by: Point) -> Option<Box2>
     Some(Box2 { x0, y0, x1, y1 })
 }
 
-/// A box on the other side of the origin, unless 64 bits are too few.
+/// A box mirrored at the origin. `None` if 64 bits are too few.
 fn reversed(b: &Box2) -> Option<Box2>
     ensures { IfSome result (λ m. m ≡ reversed b.now) }
 {
@@ -28,7 +28,7 @@ fn reversed(b: &Box2) -> Option<Box2>
     Some(Box2 { x0, y0, x1, y1 })
 }
 
-/// The box that an orientation takes to another one, whose reverse is known too.
+/// The box that an orientation takes to a given one. `back` is that one mirrored at the origin.
 fn unturned(orient: Orient, b: &Box2, back: &Box2) -> Box2
     requires { back.now ≡ reversed b.now }
     ensures { result ≡ unturned orient b.now }
@@ -75,7 +75,7 @@ fn unturned(orient: Orient, b: &Box2, back: &Box2) -> Box2
     }
 }
 
-/// The window as what is placed sees it, unless 64 bits are too few.
+/// The window in the coordinates of a placed structure. `None` if 64 bits are too few.
 pub fn own_window(placing: &Placing, window: &Box2) -> Option<Box2>
     ensures { IfSome result (λ own. own ≡ own_window placing.now window.now) }
 {

@@ -1,7 +1,7 @@
-//! A part of contents: what of them meets a window, opened as wanted.
+//! Makes a part of contents: the entries that touch a window, opened as requested.
 //!
-//! The first pass holds each thing against the window, so that only what is left is looked at again, and further passes run
-//! only where an array was opened. For an array of one instance, as nearly all are, that is a box against the window.
+//! The first pass compares each entry with the window, and only what is left is visited again. More passes run only
+//! if an array was opened. For an array of one instance, as nearly all are, a box is compared with the window.
 
 ghost use Rattle.std.specs.Prelude.{◌≡◌, ◌<◌, [], length, All, OnOk, IfOk, IfSome};
 ghost use Rattle.mpw_geom.specs.Plane.{IsInPlane};
@@ -24,22 +24,23 @@ use mpw_geom::Box2;
 use mpw_hier::Shelf;
 use std::alloc::{AllocError, Global};
 
-/// Of what a part of contents is made.
+/// The options of a part of contents.
 #[derive(Clone, Copy)]
 pub struct Part<'a> {
     /// The boxes of the elements of the shelf's structures.
     pub boxes: &'a Boxes,
-    /// What doesn't meet this is left out.
+    /// What doesn't touch this window is left out.
     pub window: Box2,
-    /// The greatest number of things.
+    /// The most entries.
     pub most: usize,
-    /// Arrays of at most so many instances, columns times rows once those that miss the window are left out, are opened,
+    /// An array with at most this many instances is opened if its structure has more than `shapes` flat shapes. Instances are
+    /// counted as columns times rows, without those that miss the window.
     pub instances: u32,
-    /// where the structure shows more than so many shapes.
+    /// The most flat shapes of a structure whose array isn't opened, if it has at most `instances` instances.
     pub shapes: u64,
 }
 
-/// What of things may meet a window, and whether one of them was opened.
+/// The parts of entries that may touch a window, and whether one of them was opened.
 #[derive(Drop)]
 struct Fitted {
     things: Vec<Thing>,
@@ -47,7 +48,7 @@ struct Fitted {
 }
 
 impl<'a> Layout<'a> {
-    /// Adds a shape, unless its area misses the window: nothing is opened.
+    /// Adds a shape, unless its area misses the window. Returns `false`: nothing is opened.
     fn fit_shape(&self, shape: &Shape, thing: &Thing, things: &mut Vec<Thing>) -> Result<bool, Stop>
         requires same { thing.now ≡ variants.Shape shape.now }
         requires near { IsNear thing.now }
@@ -61,8 +62,8 @@ impl<'a> Layout<'a> {
         Ok(false)
     }
 
-    /// What [`Layout::fit_array`] does, of an array of one instance: it stays where it is while it is looked at, and is copied as the
-    /// thing that it is.
+    /// Does what [`Layout::fit_array`] does, for an array of one instance. The array isn't copied for the test, and is added as the
+    /// entry that it is.
     fn fit_single(
         &self,
         array: &Array,
@@ -86,11 +87,11 @@ impl<'a> Layout<'a> {
         }
     }
 
-    /// Adds as much of an array as may meet the window, or what that shows one level down where it is to be opened. The
-    /// result is whether it is opened so.
+    /// Adds the part of an array that may touch the window, or that part's content one level down if it is to be opened. Returns
+    /// whether it was opened.
     ///
     /// # Errors
-    /// As those of [`Layout::open`], and where the array's node isn't its structure's.
+    /// The same as those of [`Layout::open`]; and if the array's node isn't its structure's.
     fn fit_array(&self, array: &Array, thing: &Thing, things: &mut Vec<Thing>) -> Result<bool, Stop>
         requires same { thing.now ≡ variants.Array array.now }
         requires law { NamesAreOpened }
@@ -116,7 +117,7 @@ impl<'a> Layout<'a> {
         }
     }
 
-    /// Adds as much of a thing as may meet the window, as [`Layout::fit_array`] does.
+    /// Adds the part of an entry that may touch the window, as [`Layout::fit_array`] does.
     fn fit_thing(&self, thing: &Thing, things: &mut Vec<Thing>) -> Result<bool, Stop>
         requires law { NamesAreOpened }
         requires layout { IsLayout self.now }
@@ -130,10 +131,10 @@ impl<'a> Layout<'a> {
         }
     }
 
-    /// As much of things as may meet the window.
+    /// The parts of entries that may touch the window.
     ///
     /// # Errors
-    /// As those of [`Layout::fit_array`].
+    /// The same as those of [`Layout::fit_array`].
     fn fit(&self, alloc: Global, old: &[Thing]) -> Result<Fitted, Stop>
         requires layout { IsLayout self.now }
         requires near { All IsNear old.now }
@@ -151,10 +152,10 @@ impl<'a> Layout<'a> {
         Ok(Fitted { things, is_open })
     }
 
-    /// What of things meets the window, opened as wanted.
+    /// The parts of entries that touch the window, opened as requested.
     ///
     /// # Errors
-    /// As those of [`Layout::fit`] and [`Layout::finish`].
+    /// The same as those of [`Layout::fit`] and [`Layout::finish`].
     fn part(&self, alloc: Global, old: &[Thing]) -> Result<Contents, Stop>
         requires layout { IsLayout self.now }
         requires near { All IsNear old.now }
@@ -172,10 +173,10 @@ impl<'a> Layout<'a> {
 }
 
 impl Contents {
-    /// The top of a shelf's first submission, as an array of one instance; none where there is no node.
+    /// The top of a shelf's first submission, as an array of one instance. `None` if there is no node.
     ///
     /// # Errors
-    /// Want of memory.
+    /// Out of memory.
     pub fn top(alloc: Global, shelf: &Shelf) -> Result<Option<Contents>, AllocError>
         requires { 0 < length shelf.now }
         ensures boxed { IfOk result (λ o. IfSome o (All (IsBoxed shelf.now))) }
@@ -200,16 +201,15 @@ impl Contents {
         Ok(Some(Contents { things }))
     }
 
-    /// What of these meets a window, opened as wanted: shapes and arrays that miss it, by their boxes or by division, are left
-    /// out, and arrays of few instances of large structures are opened, one level after another. None where there would be
-    /// more things than wanted, where an array's node isn't its structure's, where a name is bound outside the library, or
-    /// where a displacement lies beyond 2^48 nm.
+    /// The parts of these contents that touch a window, opened as requested. Shapes and arrays that miss it, by their boxes or by division, are left
+    /// out. Arrays with few instances of large structures are opened, one level after another. `None` if there would be more entries than requested,
+    /// if an array's node isn't its structure's, if a name is bound outside the library, or if a displacement exceeds 2^48 nm.
     ///
-    /// Takes time by the number of things, each array a constant one while it isn't opened, and by what is opened; memory for
-    /// what is left, and twice that where something is opened.
+    /// Cost: linear in the entries, where an array that isn't opened takes constant time, and in what is opened. Memory: for
+    /// what is left, and twice that if something is opened.
     ///
     /// # Errors
-    /// Want of memory.
+    /// Out of memory.
     pub fn within(
         &self,
         alloc: Global,

@@ -1,4 +1,4 @@
-//! Where things stand. Nothing here takes memory.
+//! Computes the positions of entries. Nothing here takes memory.
 
 ghost use Rattle.std.specs.Prelude.{◌≡◌, ◌↔◌, ◌+ℤ◌, ◌*ℤ◌, pos, true, IsTrue, IfSome};
 ghost use Rattle.mpw_geom.specs.Plane.{IsCoordinate, IsInPlane};
@@ -12,7 +12,7 @@ use mpw_geom::{Box2, Placing, Point};
 /// The greatest coordinate of a displacement, in nm.
 const LONGEST: i64 = 1 << 48;
 
-/// The coordinate that lies so many steps behind another, unless 64 bits are too few.
+/// The coordinate `count` steps after another. `None` if 64 bits are too few.
 fn coordinate_after(from: i64, count: u16, step: i64) -> Option<i64>
     ensures { IfSome result (λ z. z ≡ from +ℤ (pos count *ℤ step)) }
 {
@@ -20,7 +20,7 @@ fn coordinate_after(from: i64, count: u16, step: i64) -> Option<i64>
     from.checked_add(way)
 }
 
-/// The point that lies so many steps behind another, unless 64 bits are too few.
+/// The point `count` steps after another. `None` if 64 bits are too few.
 pub fn point_after(point: Point, count: u16, step: Point) -> Option<Point>
     ensures { IfSome result (λ p. p ≡ stepped point count step) }
 {
@@ -29,21 +29,21 @@ pub fn point_after(point: Point, count: u16, step: Point) -> Option<Point>
     Some(Point { x, y })
 }
 
-/// Whether a coordinate is at most 2^48 nm.
+/// Whether a coordinate is at most 2^48 nm in magnitude.
 fn is_coordinate(z: i64) -> bool
     ensures { IsTrue result ↔ IsCoordinate z }
 {
     -LONGEST <= z && z <= LONGEST
 }
 
-/// Whether both coordinates are at most 2^48 nm.
+/// Whether both coordinates are at most 2^48 nm in magnitude.
 pub fn is_in_plane(point: Point) -> bool
     ensures { IsTrue result ↔ IsInPlane point }
 {
     is_coordinate(point.x) && is_coordinate(point.y)
 }
 
-/// How the instance of a row and a column is placed, unless that is beyond 2^48 nm.
+/// The placing of the instance in a row and a column. `None` if it exceeds 2^48 nm.
 pub fn instance(array: &Array, row: u16, column: u16) -> Option<Placing>
     ensures placing { IfSome result (λ t. t ≡ instance (reference_of array.now) row column) }
     ensures near { IfSome result (λ t. IsInPlane t.by) }
@@ -59,7 +59,7 @@ pub fn instance(array: &Array, row: u16, column: u16) -> Option<Placing>
     })
 }
 
-/// Where a placing takes a near box.
+/// The image of a near box under a placing.
 pub fn placed_box(placing: Placing, b: Box2) -> Box2
     requires near { is_box_near b ≡ true }
     requires displacement { IsInPlane placing.by }

@@ -1,15 +1,15 @@
-//! Why no contents are made.
+//! The reasons why no contents are made.
 
 use std::alloc::{AllocError, AllocFailed};
 
 /// Why no contents are made.
 #[derive(Clone, Copy)]
 pub enum Stop {
-    /// There was no memory.
+    /// Out of memory.
     Memory,
-    /// There would be more things than wanted, or more levels than a shelf has.
+    /// There would be more entries than requested, or more levels than a shelf has.
     Many,
-    /// A name is bound outside the library, or a displacement lies beyond 2^48 nm.
+    /// A name is bound outside the library, or a displacement exceeds 2^48 nm.
     Outside,
 }
 

@@ -1,4 +1,4 @@
--- Prepared answers give the outcome of their row.
+-- Prepared answers give the outcome of their decision table.
 use Rattle.std.proofs.Common.{Result, Ok, Err, IfOk, sym, ap, subst}
 use Rattle.std.specs.declared.alloc.AllocError.{AllocError}
 use Rattle.mpw_rbac.specs.declared.refusal.Refusal.{Refusal}

@@ -1,4 +1,5 @@
--- What holds of a state, whatever its policy and its trail are and whether it is closed, and how steps hold on to it.
+-- What holds of a state, whatever its policy and its trail are and whether it is closed, and how steps
+-- preserve it.
 use Rattle.std.proofs.Common.{Bool, true, false, cond, List, [], ◌∷◌, Result, Ok, Err}
 use Rattle.std.specs.Prelude.{◌&&◌, not}
 use Rattle.mpw_rbac.specs.declared.refusal.Refusal.{Refusal}

@@ -1,4 +1,4 @@
--- What is placed is sound on the shelf, in every state.
+-- The placements fit the shelf, in every state.
 use Rattle.std.proofs.Common.{ℕ, Bool, List, [], ◌∷◌, Result, Ok, Err}
 use Rattle.mpw_rbac.specs.Rows as rows
 use Rattle.mpw_hier.specs.declared.submission.Submission.{Submission}

@@ -78,7 +78,7 @@ tile_stays run answer (Checking c) = checked_stays run c answer (slice_get c.til
 tile_stays run answer (Finished f) =
     one_of run (nat_lt answer.job.tile (tiles f.planned.plan)) _ _ refl refl
 
--- ---- a call counts one run at most
+-- ---- a call counts at most one run
 
 same-counts : (n m : ℕ) → n ≡ m → n ≤ m + 1
 same-counts n m e = omega (arith, e)

@@ -56,7 +56,7 @@ new_at_most most (suc n) zero x at =
     let none : 0 ≡ x.taken = ap (λ (t : Tile). t.taken) (same_Some _ x at) in omega (arith, none)
 new_at_most most (suc n) (suc k) x at = new_at_most most n k x at
 
--- ---- the run's own events hand out one more at most
+-- ---- the run's own events hand out at most one more
 
 abbrev Counts : ℕ → RunOutcome → Type 0
 Counts most o = TakenAtMost (most + 1) o.run.phase
@@ -139,7 +139,7 @@ restarted_counts most (Cutting planned) = tt
 restarted_counts most (Checking c) = tt
 restarted_counts most (Finished f) = tt
 
--- ---- a call hands out one tile at most
+-- ---- a call hands out at most one tile
 
 abbrev Few : ℕ → State → Type 0
 Few most s = TakenAtMost most s.run.phase

@@ -1,4 +1,4 @@
--- What a prepared answer has to be.
+-- What a prepared answer must be.
 use Rattle.std.specs.Prelude.{Bool}
 use Rattle.mpw_run.specs.declared.phase.RunReply.{RunReply}
 use Rattle.mpw_events.specs.declared.event.Response.{Response}
@@ -18,6 +18,6 @@ state_of_tables tables closed = record {
   closed = closed;
 }
 
--- the response that tells what the run answers
+-- the response with the run's reply
 abbrev pub run_response : RunReply → Response
 run_response reply = response.Run reply

@@ -1,4 +1,4 @@
-//! *Prepare*: the response to an event and what it changes, made aside from the desk's own.
+//! *Prepare*: the response to an event and its changes, made next to the desk's present tables.
 ghost use Rattle.std.specs.Prelude.{◌≡◌, false, IfErr, IfOk, OnOk, Ok, Result, map};
 ghost use Rattle.mpw_rbac.specs.Policy.{Policy as PolicyState};
 ghost use Rattle.mpw_rbac.specs.Rows as rows;
@@ -40,37 +40,37 @@ use mpw_wafer::run::{NextRun, RunAnswer};
 use mpw_waiver::Waivers;
 use std::alloc::{AllocError, Global};
 
-/// What moves in where an event is answered.
+/// The change that is moved in with the answer to an event.
 #[derive(Drop)]
 pub(crate) enum Next {
     Nothing,
     NextPolicy(Policy),
     NextShelf(Shelf),
     NextWafer(Wafer),
-    /// A run begins, and the waivers of the one before go.
+    /// A run begins, and the waivers of the one before are removed.
     Start(Prepared),
-    /// The run is finished, with a place for a waiver of each of its markers.
+    /// The run is finished, with an entry for a waiver of each of its markers.
     Finish(Prepared, Waivers),
-    /// What was prepared for the run, of which nothing has to be kept.
+    /// A prepared change of the run that need not be stored.
     Move(Prepared),
-    /// The run is left, which takes no memory.
+    /// The run is cancelled. It takes no memory.
     Cancel,
-    /// The user asks for a waiver of the marker at a place, which takes no memory.
+    /// The user asks for a waiver of the marker at an index. It takes no memory.
     Ask(usize, Name),
-    /// The user signs the waiver of the marker at a place, which takes no memory.
+    /// The user signs the waiver of the marker at an index. It takes no memory.
     Sign(usize, Name),
-    /// All sessions end, and a run that is checked goes back to where it is cut, which takes no memory.
+    /// All sessions end, and a run whose tiles are being checked goes back to its cutting. It takes no memory.
     Restart,
 }
 
-/// A response, and what changes with it.
+/// A response, and the change that comes with it.
 #[derive(Drop)]
 pub(crate) struct Answer {
     pub(crate) response: Response,
     pub(crate) next: Next,
 }
 
-/// How what ends a row of the policy is told.
+/// The reply of a policy request that fails.
 fn reply_of(refusal: Refusal) -> Reply
     ensures { result ≡ reply_of refusal }
 {
@@ -92,7 +92,7 @@ fn reply_of(refusal: Refusal) -> Reply
     }
 }
 
-/// A fault of the policy as an answer that changes nothing, or as want of memory.
+/// The answer of a policy fault, which changes nothing, or out of memory.
 fn refusal_of(fault: PolicyFault) -> Result<Answer, AllocError>
     ensures { IfOk result (λ answer. IsRefusal fault answer.response answer.next) }
 {
@@ -105,7 +105,7 @@ fn refusal_of(fault: PolicyFault) -> Result<Answer, AllocError>
     }
 }
 
-/// The answer of a changed copy of the policy.
+/// The answer with a changed copy of the policy.
 fn policy_answer(next: Policy, made: Result<(), PolicyFault>) -> Result<Answer, AllocError>
     ensures { (state : State) (row : Result PolicyState PolicyRefusal) → OnOk made (row ≡ Ok next) → IfErr made (IsFaultOf row) → IfOk result (λ answer. Gives state (policy_outcome state row) answer.response answer.next) }
 {
@@ -155,7 +155,7 @@ fn revision(policy: &Policy, connection: u32, request: &PolicyRequest) -> Result
     policy_answer(next, made)
 }
 
-/// Answers a request over the shelf.
+/// Answers a request of the layouts.
 fn layout(
     alloc: Global,
     tables: &Tables,
@@ -184,7 +184,7 @@ fn layout(
     }
 }
 
-/// Answers a request over the wafer.
+/// Answers a request of the wafer.
 fn wafer(
     alloc: Global,
     tables: &Tables,
@@ -215,7 +215,7 @@ fn wafer(
     }
 }
 
-/// Answers a request over the run.
+/// Answers a request of the run.
 fn checking(
     alloc: Global,
     tables: &Tables,
@@ -252,7 +252,7 @@ fn checking(
     }
 }
 
-/// Answers a request over the waivers.
+/// Answers a sign-off request.
 fn sign_off(
     alloc: Global,
     tables: &Tables,
@@ -296,7 +296,7 @@ fn trail_lines(alloc: Global, trail: &Trail) -> Result<Lines, AllocError>
     Lines::of_trail(alloc, listing)
 }
 
-/// Answers `trail`: a count for each 1024 requests so far, and the rows of the last ones.
+/// Answers `trail`. Cost: a count for each 1024 requests so far, and the rows of the last ones.
 fn trail(alloc: Global, tables: &Tables, connection: u32) -> Result<Answer, AllocError>
     ensures { IfOk result (λ answer. Gives (open_state tables.now) (trail_outcome (open_state tables.now) (permitted tables.now.policy connection Audit Desk)) answer.response answer.next) }
 {
@@ -334,7 +334,7 @@ fn ask(
     }
 }
 
-/// Answers a connection's end. Where the connection has no session there is nothing to change, and nothing is copied.
+/// Answers a connection's end. If the connection has no session, nothing changes and nothing is copied.
 fn parting(policy: &Policy, connection: u32) -> Result<Answer, AllocError>
     ensures { (state : State) → state.policy ≡ policy.now → IfOk result (λ answer. Gives state (parting_outcome state connection) answer.response answer.next) }
 {
@@ -352,12 +352,13 @@ fn parting(policy: &Policy, connection: u32) -> Result<Answer, AllocError>
     })
 }
 
-/// The answer to an event. A request takes the policy's size at most, and its own: a submission its library's size and the
-/// number of submissions on the shelf, and so does `cells`; `shapes` takes the turns of a walk too. An event of the run takes
-/// what the run's own `prepare` takes.
+/// The answer to an event.
+///
+/// Cost of a request: at most the policy's size, and its own. A submission adds its library's size and the number of submissions on the shelf.
+/// `cells` and `shapes` add that number. `shapes` also adds the turns of a walk. An event of the run costs what the run's own `prepare` does.
 ///
 /// # Errors
-/// Where there is no room for it.
+/// Out of memory.
 #[tactic(auto, unfolding(mpw_events::specs::Step::event_outcome))]
 pub(crate) fn prepare(alloc: Global, tables: &Tables, event: &Event) -> Result<Answer, AllocError>
     requires { restarts event.now ≡ false → IsReady tables.now }

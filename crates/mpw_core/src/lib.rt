@@ -1,9 +1,8 @@
 //! The core of the desk: one atomic step for each event, and the history of all steps.
 //!
-//! To every contract the core is its history. The tables that the code keeps stand under one invariant: they are what
-//! the written rows of tests give for that history. An event is answered in three parts: *prepare* makes the reply and the
-//! changed tables and all the room that they need, and changes nothing; *keep* hands the change to a keeper; *commit*
-//! moves the prepared parts in, takes no memory and cannot fail.
+//! Contracts see the core as its history. One invariant holds of the tables in the code: they are what the written decision tables give for
+//! that history. An event is answered in three parts. *Prepare* makes the reply, the changed tables and all the room that they need, and
+//! changes nothing. *Store* hands the change to a store writer. *Commit* moves the prepared parts in. It takes no memory and cannot fail.
 #![tactic(auto)]
 
 mod answer;

@@ -1,6 +1,6 @@
 //! The requests that change the policy.
 //!
-//! Each is made on a copy of the policy, which moves in where the request is accepted.
+//! Each works on a copy of the policy. If the request is accepted, the copy replaces the policy.
 ghost use Rattle.std.specs.Prelude.{◌≡◌, IfErr, OnOk, Ok};
 ghost use Rattle.mpw_rbac.specs.Rows.{IsFaultOf};
 ghost use Rattle.mpw_events.specs.PolicyRows.{row_of};
@@ -8,7 +8,7 @@ ghost use Rattle.mpw_events.specs.PolicyRows.{row_of};
 use mpw_rbac::{Policy, PolicyFault};
 use mpw_requests::PolicyRequest;
 
-/// Makes a request of the policy, which changes only where the request is accepted.
+/// Executes a policy request on a policy, which changes only if the request is accepted.
 pub(crate) fn make(
     policy: &mut Policy,
     connection: u32,

@@ -1,5 +1,5 @@
-//! The answer to an event of the run: the response is a copy of the run's reply, and what finishes the run comes with a
-//! place for a waiver of each of its markers.
+//! The answer to an event of the run. The response is a copy of the run's reply. An answer that finishes the run has an entry for a waiver
+//! of each of its markers.
 ghost use Rattle.std.specs.Prelude.{◌≡◌, IfOk};
 ghost use Rattle.mpw_run.specs.Prepared.{IsPrepared};
 ghost use Rattle.mpw_run.specs.Step.{Outcome as RunOutcome};
@@ -16,10 +16,10 @@ use mpw_run::{Phase, Prepared, Run, RunReply};
 use mpw_waiver::Waivers;
 use std::alloc::{AllocError, Global};
 
-/// What the run answers, shared by its copies. One allocation, and those of a job's copy.
+/// The response with a run's reply, which its copies share. One allocation, and those of a job's copy.
 ///
 /// # Errors
-/// Where there is no room for it, or no more copies can be counted.
+/// Out of memory, or no more copies can be counted.
 fn run_response(alloc: Global, reply: &RunReply) -> Result<Response, AllocError>
     ensures { IfOk result (λ response. response ≡ run_response reply.now) }
 {
@@ -34,10 +34,10 @@ fn finishes(reply: &RunReply) -> bool
     matches!(reply, RunReply::Finished)
 }
 
-/// Places for the waivers of a run that the prepared change finishes. One allocation.
+/// The entries for the waivers of a run that the prepared change finishes. One allocation.
 ///
 /// # Errors
-/// Where there is no room for them.
+/// Out of memory.
 fn places_for(alloc: Global, run: &Run, prepared: &Prepared) -> Result<Option<Waivers>, AllocError>
     ensures { IfOk result (λ places. places ≡ places_for run.now prepared.now) }
 {
@@ -48,7 +48,7 @@ fn places_for(alloc: Global, run: &Run, prepared: &Prepared) -> Result<Option<Wa
     Ok(Some(Waivers::new(alloc, size)?))
 }
 
-/// What moves in of what was prepared for the run: what finishes the run has to be kept, and has places for waivers.
+/// The change that a prepared change of the run moves in: one that finishes the run must be stored, and has entries for waivers.
 fn move_or_finish(prepared: Prepared, places: Option<Waivers>) -> Next
     ensures { result ≡ move_or_finish prepared places }
 {
@@ -58,17 +58,17 @@ fn move_or_finish(prepared: Prepared, places: Option<Waivers>) -> Next
     }
 }
 
-/// What an event of the run is answered, and the places for waivers of a run that it finishes.
+/// The response to an event of the run, and the entries for waivers of a run that it finishes.
 #[derive(Drop)]
 struct Answered {
     response: Response,
     places: Option<Waivers>,
 }
 
-/// What is made aside for an event of the run.
+/// The prepared answer to an event of the run.
 ///
 /// # Errors
-/// Where there is no room for it, or no more copies can be counted.
+/// Out of memory, or no more copies can be counted.
 fn prepared_answer(alloc: Global, run: &Run, prepared: &Prepared) -> Result<Answered, AllocError>
     ensures response { IfOk result (λ made. made.response ≡ run_response prepared.now.reply) }
     ensures places { IfOk result (λ made. made.places ≡ places_for run.now prepared.now) }
@@ -81,7 +81,7 @@ fn prepared_answer(alloc: Global, run: &Run, prepared: &Prepared) -> Result<Answ
 /// The answer to an event of the run.
 ///
 /// # Errors
-/// Where there is no room for the reply's copy or for the waivers' places, or no more copies can be counted.
+/// Out of memory for the reply's copy or for the waivers' entries, or no more copies can be counted.
 pub(crate) fn of_run(alloc: Global, run: &Run, prepared: Prepared) -> Result<Answer, AllocError>
     ensures { (state : State) (outcome : RunOutcome) → state.run ≡ run.now → IsPrepared prepared state.run outcome → IfOk result (λ answer. Gives state (of_run state outcome) answer.response answer.next) }
 {
@@ -94,10 +94,10 @@ pub(crate) fn of_run(alloc: Global, run: &Run, prepared: Prepared) -> Result<Ans
     }
 }
 
-/// The job of cutting the run's snapshot, where the run is cutting.
+/// The job of cutting the run's snapshot, if the run is in its cutting.
 ///
 /// # Errors
-/// Where no more copies can be counted, or there is no memory for them.
+/// Out of memory, or no more copies can be counted.
 pub(crate) fn cut_job(alloc: Global, run: &Run) -> Result<Option<CutJob>, AllocError>
     ensures { IfOk result (λ job. job ≡ job_cut run.now) }
 {

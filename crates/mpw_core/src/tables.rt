@@ -7,8 +7,8 @@ use mpw_replies::Trail;
 use mpw_run::Run;
 use mpw_waiver::Waivers;
 
-/// What the desk holds: the policy, the shelf of submissions, the wafer, the run that checks it, the waivers of its markers, and
-/// the trail of requests.
+/// The tables of a desk: the policy, the shelf of submissions, the wafer, the run that checks it, the waivers of its markers, and the trail
+/// of requests.
 pub(crate) struct Tables {
     pub(crate) policy: Policy,
     pub(crate) shelf: Shelf,

@@ -1,6 +1,6 @@
-//! Clean lines: lines at the edges of instances that cross none of the others, but close to their edges.
+//! Finds clean lines: they pass at the edges of instances and cross no instance, apart from a little slack at its edges.
 //!
-//! Whether a line is clean is told by counting: in order, how many instances have begun before it, and how many have ended.
+//! Counting decides whether a line is clean: in order, how many instances have begun before it, and how many have ended.
 
 use crate::cutting::Cuts;
 use crate::room::Span;
@@ -16,14 +16,14 @@ const ENOUGH: usize = 2;
 struct Edges {
     /// Where lines may be.
     lines: Vec<i64>,
-    /// Where what a line mustn't cross begins.
+    /// Where the intervals begin that a line must not cross.
     begins: Vec<i64>,
-    /// Where it ends.
+    /// Where these intervals end.
     ends: Vec<i64>,
 }
 
 impl Edges {
-    /// Of no instances, with room for those of so many.
+    /// No edges, with room for those of `instances` instances.
     fn empty(alloc: Global, instances: usize) -> Result<Edges, AllocError> {
         Ok(Edges {
             lines: Vec::with_capacity(alloc, instances.saturating_mul(2))?,
@@ -32,7 +32,7 @@ impl Edges {
         })
     }
 
-    /// Adds a line, if it lies strictly inside a core.
+    /// Adds a line if it lies strictly inside a core.
     fn add_line(&mut self, core: Span, at: i64) -> Result<(), AllocError> {
         if core.has(at) {
             self.lines.push(at)?;
@@ -40,7 +40,7 @@ impl Edges {
         Ok(())
     }
 
-    /// Adds where an instance mustn't be crossed.
+    /// Adds an interval in which a line would cross an instance.
     fn add_inside(&mut self, inside: Span) -> Result<(), AllocError> {
         if inside.low < inside.high {
             self.begins.push(inside.low)?;
@@ -49,7 +49,7 @@ impl Edges {
         Ok(())
     }
 
-    /// Adds an instance that reaches so far.
+    /// Adds an instance that covers this span.
     fn add(&mut self, view: &View<'_>, are_rows: bool, span: Span) -> Result<(), AllocError> {
         let core = view.span(are_rows);
         let beyond = span.moved_apart(view.margin(are_rows));
@@ -58,7 +58,7 @@ impl Edges {
         self.add_inside(span.moved_apart(view.slack().saturating_neg()))
     }
 
-    /// Of the things that a core sees, of which so many aren't shapes. Those that reach as far as the one before add nothing.
+    /// The edges of the entries in a core's window, `instances` of which are arrays. An entry with the same span as the one before adds nothing.
     fn of(
         alloc: Global,
         view: &View<'_>,
@@ -80,7 +80,7 @@ impl Edges {
         Ok(edges)
     }
 
-    /// The lines that are clean, in order.
+    /// The clean lines, in order.
     fn into_clean(self) -> Vec<i64> {
         let Edges {
             mut lines,
@@ -95,7 +95,7 @@ impl Edges {
     }
 }
 
-/// How many numbers in order are less than a place, of which so many are known to be.
+/// How many sorted numbers are less than `at`. At least `known` are.
 fn count_below(numbers: &[i64], known: usize, at: i64) -> usize {
     for count in known..numbers.len() {
         if numbers[count] >= at {
@@ -105,19 +105,19 @@ fn count_below(numbers: &[i64], known: usize, at: i64) -> usize {
     numbers.len()
 }
 
-/// The number at a place; 0, where there isn't that place.
+/// The number at an index; 0 if there is no such index.
 fn number_at(numbers: &[i64], place: usize) -> i64 {
     numbers.get(place).copied().unwrap_or(0)
 }
 
-/// Puts a number at a place, where there is that place.
+/// Sets the number at an index, if there is such an index.
 fn put(numbers: &mut Vec<i64>, place: usize, number: i64) {
     if place < numbers.len() {
         numbers[place] = number;
     }
 }
 
-/// Keeps of lines in order one at each place where as many instances have ended as had begun before it.
+/// Keeps, of sorted lines, one at each position where all instances that began before it have ended.
 fn keep_clean(lines: &mut Vec<i64>, begins: &[i64], ends: &[i64]) {
     let (mut kept, mut begun, mut ended) = (0usize, 0usize, 0usize);
     let mut last = None;
@@ -134,8 +134,8 @@ fn keep_clean(lines: &mut Vec<i64>, begins: &[i64], ends: &[i64]) {
     lines.truncate(kept);
 }
 
-/// All clean lines of a core along y, or else along x, of which there are two at least; none where there are fewer along both. So many of the
-/// things aren't shapes. An error is want of memory.
+/// All clean lines of a core along y, or else along x, if there are at least two. `None` if there are fewer along both. `instances` of the
+/// entries are arrays. The only error is out of memory.
 pub(crate) fn clean_lines(
     alloc: Global,
     view: &View<'_>,

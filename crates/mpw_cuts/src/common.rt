@@ -1,4 +1,4 @@
-//! The edge at which most of a core's instances begin or end.
+//! Finds the line at which more of a core's instances begin or end than at any other.
 
 use crate::cutting::Cut;
 use crate::room::{Span, span_of};
@@ -7,20 +7,20 @@ use crate::view::View;
 use mpw_contents::Thing;
 use std::alloc::{AllocError, Global};
 
-/// What it costs to cross an instance, in nm of the side that is cut.
+/// The cost of crossing an instance, in nm of the side that is cut.
 const CROSSED: i64 = 1_000_000;
 
-/// What it costs to cut off less than a quarter, in nm of the side that is cut.
+/// The cost of cutting off less than a quarter, in nm of the side that is cut.
 const NEAR_A_SIDE: i64 = 500_000;
 
-/// A place at which edges are, so many times.
+/// A position, and how many edges are there.
 #[derive(Clone, Copy)]
 struct Place {
     at: i64,
     times: u64,
 }
 
-/// A line, and what it costs.
+/// A line and its cost.
 #[derive(Clone, Copy)]
 struct Priced {
     cut: Cut,
@@ -28,14 +28,14 @@ struct Priced {
 }
 
 impl Place {
-    /// Whether there are more edges than at another, or as many and it is nearer to a place.
+    /// Whether there are more edges here than at another position, or as many and it is nearer to `middle`.
     fn is_better(self, other: Place, middle: i64) -> bool {
         self.times > other.times
             || (self.times == other.times && self.at.abs_diff(middle) < other.at.abs_diff(middle))
     }
 }
 
-/// Of places in order the one that comes most, and the nearest to a place of several.
+/// The most frequent of sorted positions. Of several it is the nearest to `middle`.
 fn most_common(places: &[i64], middle: i64) -> Option<i64> {
     let mut best: Option<Place> = None;
     let mut last = Place { at: 0, times: 0 };
@@ -53,7 +53,8 @@ fn most_common(places: &[i64], middle: i64) -> Option<i64> {
     best.map(|place| place.at)
 }
 
-/// Lines beyond the edges of a sample along y, or along x, that lie strictly inside a span, in order. An error is want of memory.
+/// The edges of a sample's boxes along y, or along x, that lie strictly inside a span, in order. Each box is extended by the view's margin. The only
+/// error is out of memory.
 fn edges_inside(
     alloc: Global,
     view: &View<'_>,
@@ -75,7 +76,7 @@ fn edges_inside(
     Ok(edges)
 }
 
-/// The line along y, or along x, at which most of a sample begins or ends, among those inside a span. An error is want of memory.
+/// The line inside a span along y, or along x, at which the most boxes of a sample begin or end. The only error is out of memory.
 fn common_inside(
     alloc: Global,
     view: &View<'_>,
@@ -94,8 +95,8 @@ fn common_inside(
     Ok(Some(Priced { cut, cost }))
 }
 
-/// The line along y, or along x, at which most of a sample begins or ends: in the middle half of a core, if there is one. An error is want of
-/// memory.
+/// The line along y, or along x, at which the most boxes of a sample begin or end: in the middle half of a core, if there is one. The only error is
+/// out of memory.
 fn common_along(
     alloc: Global,
     view: &View<'_>,
@@ -114,8 +115,8 @@ fn common_along(
     }))
 }
 
-/// The line at which most of a core's instances begin or end, in about: about 64 of them are looked at, of which there are so many among the things;
-/// none where no edge is inside. An error is want of memory.
+/// The line at which the most instances of a core begin or end, along y or along x, whichever costs less. It is an estimate from about 64 instances.
+/// `instances` of the entries are arrays. `None` if no edge is inside. The only error is out of memory.
 pub(crate) fn common_edge(
     alloc: Global,
     view: &View<'_>,

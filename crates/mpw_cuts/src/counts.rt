@@ -1,9 +1,8 @@
-//! How many shapes columns show: guesses that decide where columns are cut, and nothing else.
+//! Estimates how many flat shapes a column's window has. The estimates decide where columns are cut, and nothing else.
 //!
-//! The extent is seen in bins of equal width. It is counted how many shapes begin in each, and how many end, from the top's structure
-//! down: what a structure shows where it is placed is counted at once, where it is no wider than two bins, and instances that stand at
-//! the same places along the axis are counted together. A column shows those that have begun before its end and haven't ended before
-//! its begin.
+//! The extent is divided into bins of equal width. For each bin the number of shapes that begin in it and that end in it is counted, from the top
+//! down. A placed structure that is narrow is counted at once with all its shapes, and instances at the same position along the axis are counted
+//! together. A column's window has the shapes that have begun before its end and haven't ended before its beginning.
 
 use crate::line::{Instances, Line, Reach, array_of, reach_of_box, shape_reach};
 use mpw_edges::Axis;
@@ -16,13 +15,13 @@ use std::alloc::{AllocError, Global};
 /// How many bins there are.
 const BINS: u64 = 1 << 14;
 
-/// What is no wider than one bin and so many more is counted at once, with all that it shows: a hundredth of the layout or so.
+/// What is at most this many bins wider than one bin is counted at once with all its shapes. That is about a hundredth of the layout.
 const FEW_BINS: usize = 128;
 
-/// The most levels that are gone down.
+/// The most levels that are visited.
 const MOST_LEVELS: u32 = 64;
 
-/// Where the bins begin, how wide they are together, and how many shapes begin and end in each; at last, in all up to each.
+/// Where the bins begin, their width together, and how many shapes begin and end in each. At the end the numbers are cumulative.
 #[derive(Drop)]
 pub struct Counts {
     low: i64,
@@ -38,7 +37,7 @@ struct Tree<'a> {
     nodes: &'a [Node],
 }
 
-/// Adds to each of the numbers all those before it.
+/// Replaces each number by the sum of all numbers up to it.
 fn add_up(numbers: &mut Vec<u64>) {
     let mut sum = 0u64;
     for k in 0..numbers.len() {
@@ -47,7 +46,7 @@ fn add_up(numbers: &mut Vec<u64>) {
     }
 }
 
-/// The sum of the first of numbers that were added up.
+/// The sum of the first `count` numbers, given the cumulative ones.
 fn sum_of(sums: &[u64], count: usize) -> u64 {
     match count.min(sums.len()).checked_sub(1) {
         Some(last) => sums.get(last).copied().unwrap_or(0),
@@ -55,7 +54,7 @@ fn sum_of(sums: &[u64], count: usize) -> u64 {
     }
 }
 
-/// Counts so many more in a bin, where there is that bin.
+/// Adds to the count of a bin, if there is such a bin.
 fn count_in(numbers: &mut Vec<u64>, bin: usize, more: u64) {
     if bin < numbers.len() {
         numbers[bin] = numbers[bin].saturating_add(more);
@@ -63,7 +62,7 @@ fn count_in(numbers: &mut Vec<u64>, bin: usize, more: u64) {
 }
 
 impl Counts {
-    /// The bin of a place; the last one of a place behind all.
+    /// The bin of a position; the last one for a position after all of them.
     fn bin_of(&self, at: i64) -> usize {
         if at <= self.low {
             return 0;
@@ -76,7 +75,7 @@ impl Counts {
         bin.min(BINS - 1) as usize
     }
 
-    /// Counts so many shapes that reach so far.
+    /// Counts `times` shapes with this reach.
     fn add(&mut self, reach: Reach, times: u64) {
         let begin = self.bin_of(reach.low);
         let end = self.bin_of(reach.high);
@@ -84,12 +83,12 @@ impl Counts {
         count_in(&mut self.ended, end, times);
     }
 
-    /// Whether what reaches so far is no wider than one bin and [`FEW_BINS`] more.
+    /// Whether something with this reach is at most [`FEW_BINS`] wider than one bin.
     fn is_narrow(&self, reach: Reach) -> bool {
         self.bin_of(reach.low).abs_diff(self.bin_of(reach.high)) <= FEW_BINS
     }
 
-    /// Counts the shapes of a node where it is placed, at most so many levels down.
+    /// Counts the shapes of a placed node, at most `depth` levels down.
     fn add_node(&mut self, tree: Tree<'_>, placed: Instances, depth: u32) {
         let Some(node) = tree.nodes.get(placed.node) else {
             return;
@@ -117,7 +116,7 @@ impl Counts {
         }
     }
 
-    /// Counts a shape of a structure that is placed so.
+    /// Counts a shape of a placed structure.
     fn add_shape(&mut self, elements: &[Element], place: usize, placed: Instances) {
         if let Some(element) = elements.get(place) {
             if let Some(reach) = shape_reach(placed.line, element) {
@@ -145,9 +144,9 @@ impl Counts {
         }
     }
 
-    /// The counts of a layout of one submission alone, placed where it was drawn, whose extent is seen so along the axis. It takes a
-    /// step for each instance that is wider than [`FEW_BINS`], or stands in one that is, where those at the same places along the axis are
-    /// one; and for the shapes of these.
+    /// The counts of a layout of one submission, placed where it was drawn. `seen` is its extent along the axis. Cost: a step for each
+    /// instance that is wider than [`FEW_BINS`], or is in one that is, where instances at the same position along the axis are one; and a
+    /// step for each shape of these.
     pub fn of(
         alloc: Global,
         snapshot: &Snapshot,
@@ -166,7 +165,7 @@ impl Counts {
         Ok(counts)
     }
 
-    /// About how many shapes meet the places from the first to before the second. Constant.
+    /// An estimate of how many shapes touch the positions from `from` to before `to`. Constant time.
     pub fn shown(&self, from: i64, to: i64) -> u64 {
         let begun = sum_of(&self.begun, self.bin_of(to).saturating_add(1));
         let ended = sum_of(&self.ended, self.bin_of(from));

@@ -1,8 +1,8 @@
-//! Where a core is best cut, by the things that it sees.
+//! Decides where a core is cut, from the entries (shapes and arrays) in its window.
 //!
-//! Parts that show the same, displaced, are checked once, so what is wanted is few kinds of parts. An array that shows half of all is cut on a line of its
-//! lattice, into halves that are equal; an array of many instances is cut off from what is around it; instances that lie side by side are cut
-//! apart all at once, rows first: what is left then is the inside of each, and what two share. A core whose shapes are few is not cut.
+//! Parts that are identical up to translation are checked once, so the cuts should make few kinds of parts. An array with half of all shapes is cut on a line
+//! of its lattice, into equal halves. An array of many instances is cut off from what is around it. Adjacent instances are separated by cuts, all at once and
+//! rows first: what is left are the inside of each and what two share. A core with few shapes isn't cut.
 
 use crate::clean::clean_lines;
 use crate::common::common_edge;
@@ -15,31 +15,31 @@ use mpw_geom::Box2;
 use mpw_hier::Shelf;
 use std::alloc::{AllocError, Global};
 
-/// A core that is so wide and so high is checked as it is.
+/// A core that is at most this wide and high, in nm, is checked without cuts.
 const SMALL: u64 = 128;
 
-/// A core as it is seen along an axis (on H with the coordinates exchanged), and how far its window reaches beyond it to the left and right.
+/// A core as it is seen along an axis (on H with the coordinates exchanged), and how far its window exceeds it to the left and right.
 #[derive(Clone, Copy)]
 pub struct Core {
     /// The axis.
     pub axis: Axis,
-    /// Where the core is, in nm.
+    /// The area of the core, in nm.
     pub area: Box2,
-    /// How far its window reaches beyond it, in nm.
+    /// How far its window exceeds it, in nm.
     pub margin: i64,
 }
 
-/// Along which lines a core is best cut: lines across it at these y (rows) or at these x, ascending, each strictly inside; none where it is best
-/// checked as it is.
+/// The lines along which a core is cut: lines across it at these y (rows) or at these x, ascending, each strictly inside. There are none if the core should
+/// be checked without cuts.
 #[derive(Drop)]
 pub struct Cuts {
-    /// Whether the lines are at places along y, so that the parts are rows.
+    /// Whether the lines are at positions along y, so that the parts are rows.
     pub are_rows: bool,
-    /// Where the lines are, in nm.
+    /// The positions of the lines, in nm.
     pub lines: Vec<i64>,
 }
 
-/// A line that cuts a core, at a place along y (rows), or along x.
+/// A line that cuts a core, at a position along y (rows), or along x.
 #[derive(Clone, Copy)]
 pub(crate) struct Cut {
     pub are_rows: bool,
@@ -66,7 +66,7 @@ impl Cuts {
     }
 }
 
-/// Whether the core of a view is so small that it is checked as it is.
+/// Whether the core of a view is so small that it is checked without cuts.
 fn is_small(core: &Core) -> bool {
     core.area.x0.abs_diff(core.area.x1) <= SMALL && core.area.y0.abs_diff(core.area.y1) <= SMALL
 }
@@ -83,7 +83,7 @@ fn middle_line(view: &View<'_>) -> Option<Cut> {
     }
 }
 
-/// The line that serves best where one alone does, of a core that isn't a leaf and has no clean lines.
+/// The best single line, for a core that isn't a leaf and has no clean lines.
 fn last_line(
     alloc: Global,
     view: &View<'_>,
@@ -113,7 +113,7 @@ fn line_of_array(
     edge_of_large(alloc, view, contents.things(), tally.large)
 }
 
-/// The lines that cut a core which isn't a leaf.
+/// The lines that cut a core that isn't a leaf.
 fn cuts_by(
     alloc: Global,
     view: &View<'_>,
@@ -134,14 +134,14 @@ fn cuts_by(
     }
 }
 
-/// Along which lines a core is best cut that sees these things of the first submission of a shelf, as its contents
-/// ([`mpw_contents::contents_in`]). A guess: no contract speaks of it.
+/// The lines along which a core should be cut, given the entries of its window ([`mpw_contents::contents_in`]) from the
+/// first submission of a shelf. This is an estimate: no contract depends on it.
 ///
-/// Linear in the number of things where the core isn't cut, with no memory; else by a sort of the edges of those that aren't shapes, with memory
+/// Cost: linear in the number of entries if the core isn't cut, with no memory. Otherwise a sort of the edges of the arrays, with memory
 /// for up to 48 bytes for each.
 ///
 /// # Errors
-/// Want of memory.
+/// Out of memory.
 pub fn cuts_of(
     alloc: Global,
     shelf: &Shelf,

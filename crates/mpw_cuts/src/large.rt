@@ -1,4 +1,4 @@
-//! How a core is cut for its arrays of many instances.
+//! Decides where a core is cut because of its arrays of many instances.
 
 use crate::cutting::Cut;
 use crate::room::{Room, Series, Span, span_of};
@@ -14,7 +14,7 @@ use std::alloc::{AllocError, Global};
 struct Lines {
     /// The first.
     first: i64,
-    /// From one to the next.
+    /// The distance from one to the next.
     pitch: i64,
     /// How many there are.
     count: u64,
@@ -27,7 +27,7 @@ const NONE: Lines = Lines {
     count: 0,
 };
 
-/// The places of a series that lie strictly inside a span.
+/// The positions of a series that lie strictly inside a span.
 fn lines_inside(series: Series, span: Span) -> Lines {
     let base = series.from.saturating_add(series.reach().min(0));
     let pitch = series.step.unsigned_abs();
@@ -49,7 +49,7 @@ fn lines_inside(series: Series, span: Span) -> Lines {
     }
 }
 
-/// The greatest power of two that is no more than a number, which is 1 at least.
+/// The greatest power of two that is at most a number; the number is at least 1.
 fn power_within(number: u64) -> u64 {
     let mut power = 1u64;
     for _ in 0..63 {
@@ -61,8 +61,8 @@ fn power_within(number: u64) -> u64 {
 }
 
 impl Lines {
-    /// The line that cuts the span best inside which the lines lie: where it begins on a line, so that the cells before are a power of two, and
-    /// else the first.
+    /// The best of these lines to cut the span in which they lie. If the span begins on a line, the number of cells before the cut is a power of two.
+    /// Otherwise it is the first line.
     fn best(self, span: Span) -> i64 {
         if span.low.saturating_add(self.pitch) != self.first {
             return self.first;
@@ -73,7 +73,7 @@ impl Lines {
     }
 }
 
-/// The line on which a core is cut that sees an array, between its instances; none where none is inside. Constant.
+/// The line on which a core is cut because of an array, between its instances. `None` if none is inside. Constant time.
 pub(crate) fn line_of_lattice(view: &View<'_>, room: &Room) -> Option<Cut> {
     let across = lines_inside(room.series(false), view.span(false));
     let along = lines_inside(room.series(true), view.span(true));
@@ -92,14 +92,14 @@ pub(crate) fn line_of_lattice(view: &View<'_>, room: &Room) -> Option<Cut> {
 #[derive(Clone, Copy)]
 struct Edge {
     cut: Cut,
-    /// How many of a sample it crosses.
+    /// How many boxes of a sample it crosses.
     crossed: u64,
-    /// How far it lies from the core's nearer side.
+    /// Its distance from the core's nearer side.
     depth: u64,
 }
 
 impl Edge {
-    /// Whether it serves better than another: it crosses less, or as much and lies farther inside.
+    /// Whether it is better than another one: it crosses less, or as much and lies farther inside.
     fn is_better(&self, other: &Edge) -> bool {
         self.crossed < other.crossed || (self.crossed == other.crossed && self.depth > other.depth)
     }
@@ -114,7 +114,7 @@ fn better(one: Option<Edge>, other: Option<Edge>) -> Option<Edge> {
     }
 }
 
-/// An edge at which a core may be cut; none where it isn't inside.
+/// An edge at which a core may be cut. `None` if it isn't inside.
 fn edge_at(view: &View<'_>, sample: &Sample, cut: Cut) -> Option<Edge> {
     let span = view.span(cut.are_rows);
     if span.has(cut.at) {
@@ -128,7 +128,7 @@ fn edge_at(view: &View<'_>, sample: &Sample, cut: Cut) -> Option<Edge> {
     }
 }
 
-/// The better edge of a box, of both along y, or along x.
+/// The better of a box's two edges along y, or along x.
 fn edge_along(view: &View<'_>, sample: &Sample, b: &Box2, are_rows: bool) -> Option<Edge> {
     let Span { low, high } = span_of(b, are_rows);
     better(
@@ -146,8 +146,8 @@ fn edge_of_array(view: &View<'_>, sample: &Sample, room: &Room) -> Option<Edge> 
     )
 }
 
-/// An edge of an array of many instances, of which there are so many, at which it is cut off: one that crosses few things, and lies far inside the
-/// core; none where no edge is inside. About 64 of the arrays are tried, with about 64 of the things. An error is want of memory.
+/// The edge at which an array of many instances is cut off: one that crosses few entries, and lies far inside the core. `large` is the number of such
+/// arrays. `None` if no edge is inside. It tries about 64 of the arrays with about 64 of the entries. The only error is out of memory.
 pub(crate) fn edge_of_large(
     alloc: Global,
     view: &View<'_>,

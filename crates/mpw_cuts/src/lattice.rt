@@ -1,7 +1,7 @@
-//! Where arrays repeat, as choices of where columns are cut: no contract speaks of them.
+//! Finds the lines on which arrays repeat, as candidates for cuts between columns. No contract depends on them.
 //!
-//! Columns that are cut on the lines of an array's lattice show the same, displaced, so they are checked once. The lattices are those of the
-//! arrays that show most, from the top down: a cell of one holds the next.
+//! Columns that are cut on the lines of an array's lattice are identical up to translation, so they are checked once. The lattices are those of the
+//! arrays with the most flat shapes, from the top down: each array is in a cell of the one before.
 
 use mpw_edges::Axis;
 use mpw_geom::{Orient, Point};
@@ -10,19 +10,19 @@ use mpw_structures::{Element, Reference, Structure};
 use mpw_tiles::Snapshot;
 use std::alloc::{AllocError, Global};
 
-/// The most levels that are looked at.
+/// The most levels that are visited.
 const MOST_LEVELS: usize = 64;
 
 /// Lines at equal distances along an axis.
 #[derive(Clone, Copy)]
 pub struct Lattice {
-    /// Where a line stands, from a line of the lattice before, or from the top's origin.
+    /// The position of a line, relative to a line of the lattice before, or to the top's origin.
     from: i64,
-    /// From one line to the next, in nm.
+    /// The distance from one line to the next, in nm.
     pitch: u32,
-    /// How far an instance reaches along the axis, in nm.
+    /// The size of an instance along the axis, in nm.
     reach: u64,
-    /// About how many shapes the instances of its array show between two lines.
+    /// An estimate of how many flat shapes the instances of its array have between two lines.
     shown: u64,
 }
 
@@ -34,7 +34,7 @@ pub(crate) fn along(axis: Axis, point: Point) -> i64 {
     }
 }
 
-/// The distance of a reference's instances along an axis; none, where one stands alone there.
+/// The distance of a reference's instances along an axis. `None` if there is only one along it.
 fn pitch_of(axis: Axis, reference: &Reference) -> Option<u32> {
     let column = along(axis, reference.column_step).unsigned_abs();
     let row = along(axis, reference.row_step).unsigned_abs();
@@ -51,7 +51,7 @@ fn pitch_of(axis: Axis, reference: &Reference) -> Option<u32> {
     }
 }
 
-/// A reference of a node that isn't turned, the place of the node that it places, and how many shapes its instances show.
+/// A reference of a node that isn't turned, the index of the node that it places, and how many flat shapes its instances have.
 #[derive(Clone, Copy)]
 struct Most<'a> {
     reference: &'a Reference,
@@ -59,7 +59,7 @@ struct Most<'a> {
     shown: u64,
 }
 
-/// What the child of a node with these elements places, where it is a node of the same library and isn't turned.
+/// What the child of a node with these elements places, if it is a node of the same library and isn't turned.
 fn placed_by<'a>(
     nodes: &[Node],
     elements: &'a [Element],
@@ -85,7 +85,7 @@ fn placed_by<'a>(
     })
 }
 
-/// Of a node's children the one that shows most.
+/// The child of a node with the most flat shapes.
 fn most_of<'a>(nodes: &[Node], elements: &'a [Element], node: &Node) -> Option<Most<'a>> {
     let mut most: Option<Most<'a>> = None;
     for child in node.children.iter() {
@@ -99,14 +99,14 @@ fn most_of<'a>(nodes: &[Node], elements: &'a [Element], node: &Node) -> Option<M
     most
 }
 
-/// Of a node's children the one that shows most, where that is half of what the node shows at least.
+/// The child of a node with the most flat shapes, if it has at least half of the node's.
 fn array_of<'a>(structures: &'a [Structure], nodes: &[Node], place: usize) -> Option<Most<'a>> {
     let node = nodes.get(place)?;
     let elements = structures.get(node.structure)?.elements.as_slice();
     most_of(nodes, elements, node).filter(|most| most.shown >= node.size.count / 2)
 }
 
-/// How far the shapes of a node reach along an axis.
+/// The size of a node's shapes along an axis.
 fn reach_of(axis: Axis, nodes: &[Node], place: usize) -> u64 {
     let Some(extent) = nodes.get(place).and_then(|node| node.size.extent) else {
         return 0;
@@ -128,7 +128,7 @@ fn reach_of(axis: Axis, nodes: &[Node], place: usize) -> u64 {
     low.abs_diff(high)
 }
 
-/// The way down to an array: where it begins, from the last line before, how many instances it has in all, and at how many places along the axis.
+/// The path down to an array: its position relative to the last line before, how many instances it has in all, and at how many positions along the axis.
 #[derive(Clone, Copy)]
 struct Way {
     from: i64,
@@ -137,7 +137,7 @@ struct Way {
 }
 
 impl Way {
-    /// The way to the array of a reference.
+    /// Continues the path to the array of a reference.
     fn go(&mut self, axis: Axis, reference: &Reference) {
         let (columns, rows) = (u64::from(reference.columns), u64::from(reference.rows));
         self.from = self.from.wrapping_add(along(axis, reference.origin));
@@ -150,7 +150,7 @@ impl Way {
         }
     }
 
-    /// The lattice of the array that was come to, whose instances are so far from one another.
+    /// The lattice of the array at the end of the path, whose instances have this distance.
     fn lattice(&self, axis: Axis, pitch: u32, nodes: &[Node], place: usize) -> Lattice {
         let count = nodes.get(place).map_or(0, |node| node.size.count);
         Lattice {
@@ -162,11 +162,11 @@ impl Way {
     }
 }
 
-/// The lattices of the arrays that show most along an axis, of the first submission's top and of what that places. One pass over the children of
-/// a node for each level.
+/// The lattices of the arrays with the most flat shapes along an axis, in the first submission's top and in what that places. Cost: one pass over the
+/// children of a node for each level.
 ///
 /// # Errors
-/// Want of memory.
+/// Out of memory.
 pub fn lattices_of(
     alloc: Global,
     snapshot: &Snapshot,
@@ -198,7 +198,7 @@ pub fn lattices_of(
     Ok(lattices)
 }
 
-/// Whether there is a lattice along either axis ([`lattices_of`]). Two passes over the children of a node for each level; takes no memory.
+/// Whether there is a lattice along either axis ([`lattices_of`]). Cost: two passes over the children of a node for each level. Takes no memory.
 pub fn repeats(snapshot: &Snapshot) -> bool {
     repeats_along(snapshot, Axis::V) || repeats_along(snapshot, Axis::H)
 }
@@ -223,7 +223,7 @@ fn repeats_along(snapshot: &Snapshot, axis: Axis) -> bool {
     false
 }
 
-/// Whether places so far apart lie within an instance of the finest lattice, or between two of its lines.
+/// Whether a width is at most that of an instance of the finest lattice, or at most its pitch.
 pub fn is_within_cell(lattices: &[Lattice], width: u64) -> bool {
     match lattices.last() {
         Some(finest) => width <= finest.reach.max(u64::from(finest.pitch)),
@@ -231,7 +231,7 @@ pub fn is_within_cell(lattices: &[Lattice], width: u64) -> bool {
     }
 }
 
-/// How wide a column of an array is that shows about so many shapes: a number of cells of the finest lattice, one at least.
+/// The width of a column that has about `most` flat shapes of an array: a number of cells of the finest lattice, at least one.
 pub fn width_of_cells(lattices: &[Lattice], most: u64) -> u64 {
     match lattices.last() {
         Some(finest) => {
@@ -242,7 +242,7 @@ pub fn width_of_cells(lattices: &[Lattice], most: u64) -> u64 {
     }
 }
 
-/// About how many shapes of the arrays of the finest lattice a column shows that is so wide and lies among them.
+/// An estimate of how many flat shapes of the finest lattice's array a column of this width has if it lies inside the array.
 pub fn shown_by_cells(lattices: &[Lattice], width: u64) -> u64 {
     match lattices.last() {
         Some(finest) => (width / u64::from(finest.pitch.max(1))).saturating_mul(finest.shown),
@@ -250,7 +250,7 @@ pub fn shown_by_cells(lattices: &[Lattice], width: u64) -> u64 {
     }
 }
 
-/// How far a place lies behind a line, below the pitch.
+/// The distance of a position from the line before it, less than the pitch.
 fn past_line(at: i64, line: i64, pitch: u32) -> i64 {
     let pitch = i64::from(pitch.max(1));
     let past = at.wrapping_sub(line).wrapping_rem(pitch);
@@ -261,7 +261,7 @@ fn past_line(at: i64, line: i64, pitch: u32) -> i64 {
     }
 }
 
-/// The greatest power of two of which two are among so many, at least 1.
+/// The greatest power of two whose double is at most `cells`; at least 1.
 fn half_of(cells: u64) -> u64 {
     let mut half = 1u64;
     for _ in 0..63 {
@@ -272,8 +272,8 @@ fn half_of(cells: u64) -> u64 {
     half
 }
 
-/// Where the places from one to before another are best cut: on a line of the first lattice that has one between them, so that cells left of it
-/// are a power of two; none where no lattice has.
+/// Where the positions from `from` to before `to` are cut: on a line of the first lattice that has one between them. If `from` is on a line, the number of
+/// cells left of the cut is a power of two. `None` if no lattice has such a line.
 pub fn line_between(lattices: &[Lattice], from: i64, to: i64) -> Option<i64> {
     let mut base = 0i64;
     for lattice in lattices {
@@ -293,11 +293,11 @@ pub fn line_between(lattices: &[Lattice], from: i64, to: i64) -> Option<i64> {
     None
 }
 
-/// So many shapes for each that is drawn, and for each reference, are many.
+/// With at least this many flat shapes for each drawn shape and each reference, a layout is regular.
 const MANY_PLACED: u64 = 4;
 
-/// Whether a layout shows many shapes for each that is drawn and for each reference, so that the things of a window are far fewer than its shapes. One pass over
-/// the structures.
+/// Whether a layout has many flat shapes for each drawn shape and each reference, so that a window has far fewer entries than flat shapes. Cost: one pass
+/// over the structures.
 pub fn is_placed(snapshot: &Snapshot) -> bool {
     let Some(nodes) = snapshot.shelf().nodes(0) else {
         return false;

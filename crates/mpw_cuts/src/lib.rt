@@ -1,8 +1,7 @@
-//! Where the columns of a layout are best cut: guesses, which no contract speaks of.
+//! Estimates where the columns and cores of a layout are best cut. No contract depends on the estimates.
 //!
-//! [`Counts`] says about how many shapes a layout shows where, and [`lattices_of`] on which lines its arrays repeat. [`cuts_of`] says along which
-//! lines a core is best cut, by the things that it sees. Whatever they say, a check by columns finds the same markers; they decide how long it
-//! takes.
+//! [`Counts`] estimates how many flat shapes a layout has at which positions. [`lattices_of`] finds the lines on which its arrays repeat. [`cuts_of`] decides
+//! where a core is cut, from the entries of its window. A check by columns finds the same markers whatever they return: they decide how long it takes.
 #![tactic(auto)]
 
 mod clean;

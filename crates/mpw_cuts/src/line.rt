@@ -1,4 +1,4 @@
-//! Where shapes and instances come along one axis.
+//! Computes the positions of shapes and instances along one axis.
 
 use crate::lattice::along;
 use mpw_edges::Axis;
@@ -6,7 +6,7 @@ use mpw_geom::{Box2, Orient, Point};
 use mpw_hier::Target;
 use mpw_structures::{Element, Points, Reference};
 
-/// Where the points of a structure come along the axis that is counted: from a place on, or back from it, by their coordinates along one of
+/// A map from the coordinates of a structure to positions along the axis that is counted: `from`, plus or minus the coordinate along one of
 /// the structure's axes.
 #[derive(Clone, Copy)]
 pub(crate) struct Line {
@@ -15,7 +15,7 @@ pub(crate) struct Line {
     pub from: i64,
 }
 
-/// The axis of a turned structure along which the coordinates of an axis go, and whether they go back.
+/// The axis of a turned structure that lies along an axis, and whether its coordinates run backwards.
 fn turned(orient: Orient, axis: Axis) -> (Axis, bool) {
     let is_along_x = matches!(axis, Axis::V);
     match orient {
@@ -39,12 +39,12 @@ fn other(axis: Axis) -> Axis {
 }
 
 impl Line {
-    /// Where a point comes.
+    /// The position of a point.
     fn at(self, point: Point) -> i64 {
         self.shifted(along(self.axis, point))
     }
 
-    /// The place that is so far on.
+    /// The position at a coordinate.
     fn shifted(self, by: i64) -> i64 {
         if self.is_back {
             self.from.wrapping_sub(by)
@@ -53,7 +53,7 @@ impl Line {
         }
     }
 
-    /// Where the points of a structure come that a reference places, moved so far by its rows and columns.
+    /// The map for the structure that a reference places, displaced by its rows and columns.
     fn of_instance(self, reference: &Reference, by: i64) -> Line {
         let (axis, is_back) = turned(reference.orient, self.axis);
         let from = self.shifted(along(self.axis, reference.origin).wrapping_add(by));
@@ -65,7 +65,7 @@ impl Line {
     }
 }
 
-/// From where to where something reaches along the axis.
+/// An interval along the axis.
 #[derive(Clone, Copy)]
 pub(crate) struct Reach {
     pub low: i64,
@@ -73,7 +73,7 @@ pub(crate) struct Reach {
 }
 
 impl Reach {
-    /// Between two places.
+    /// The interval between two positions.
     fn between(a: i64, b: i64) -> Reach {
         Reach {
             low: a.min(b),
@@ -81,7 +81,7 @@ impl Reach {
         }
     }
 
-    /// The same, so much farther on both sides.
+    /// The interval extended on both sides.
     fn wider(self, by: i64) -> Reach {
         Reach {
             low: self.low.wrapping_sub(by),
@@ -90,14 +90,14 @@ impl Reach {
     }
 }
 
-/// How far a box reaches.
+/// The interval of a box.
 pub(crate) fn reach_of_box(line: Line, b: &Box2) -> Reach {
     let low = line.at(Point { x: b.x0, y: b.y0 });
     let high = line.at(Point { x: b.x1, y: b.y1 });
     Reach::between(low, high)
 }
 
-/// How far points reach; nowhere, where there are none.
+/// The interval of points. `None` if there are none.
 fn reach_of(line: Line, points: &Points) -> Option<Reach> {
     let mut reach: Option<Reach> = None;
     for index in 0..points.len() {
@@ -113,7 +113,7 @@ fn reach_of(line: Line, points: &Points) -> Option<Reach> {
     reach
 }
 
-/// How far a shape reaches, about; nowhere, where it is a reference.
+/// The approximate interval of a shape. `None` for a reference.
 pub(crate) fn shape_reach(line: Line, element: &Element) -> Option<Reach> {
     match element {
         Element::Boundary(boundary) => reach_of(line, &boundary.points),
@@ -125,7 +125,7 @@ pub(crate) fn shape_reach(line: Line, element: &Element) -> Option<Reach> {
     }
 }
 
-/// A node that is placed along a line, so many times at the same places.
+/// A node that is placed along a line, `times` times at the same position.
 #[derive(Clone, Copy)]
 pub(crate) struct Instances {
     pub node: usize,
@@ -133,7 +133,7 @@ pub(crate) struct Instances {
     pub times: u64,
 }
 
-/// The instances of a reference, those at the same places taken together.
+/// The instances of a reference. Those at the same position are one.
 #[derive(Clone, Copy)]
 pub(crate) struct Array<'a> {
     reference: &'a Reference,
@@ -145,7 +145,7 @@ pub(crate) struct Array<'a> {
 }
 
 impl<'a> Array<'a> {
-    /// The instances of a reference that a structure has which is placed so.
+    /// The instances of a reference that belongs to a structure placed in this way.
     fn of(reference: &'a Reference, node: usize, placed: Instances) -> Array<'a> {
         let (mut columns, mut rows) = (u64::from(reference.columns), u64::from(reference.rows));
         let mut times = placed.times;
@@ -172,7 +172,7 @@ impl<'a> Array<'a> {
         self.columns.saturating_mul(self.rows)
     }
 
-    /// Those of a number.
+    /// The instances with a number.
     pub fn at(self, number: u64) -> Instances {
         let rows = self.rows.max(1);
         let column = i64::try_from(number / rows).unwrap_or(0);
@@ -190,7 +190,7 @@ impl<'a> Array<'a> {
     }
 }
 
-/// The array of a child of a structure that is placed so, where it places a node of the same library.
+/// The array of a child of a placed structure, if it places a node of the same library.
 pub(crate) fn array_of<'a>(
     elements: &'a [Element],
     element: usize,

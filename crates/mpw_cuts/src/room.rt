@@ -1,5 +1,5 @@
-//! Where things stand, as a core sees them: on H with the coordinates exchanged. Sums that leave 64 bits stop at their ends, so all of this holds
-//! for any numbers.
+//! The positions of entries as a core sees them: on H with the coordinates exchanged. Sums saturate at 64 bits, so all of this is defined
+//! for all numbers.
 
 ghost use Rattle.std.specs.Prelude.{◌↔◌, IsTrue};
 ghost use Rattle.mpw_geom.specs.Plane.{IsCoordinate, IsInPlane};
@@ -10,7 +10,7 @@ use mpw_geom::{Box2, Placing, Point};
 /// The greatest coordinate that is placed, in nm.
 const LONGEST: i64 = 1 << 48;
 
-/// From where to where something reaches along x, or along y.
+/// An interval along x, or along y.
 #[derive(Clone, Copy, PartialEq, Eq)]
 pub(crate) struct Span {
     pub low: i64,
@@ -18,17 +18,17 @@ pub(crate) struct Span {
 }
 
 impl Span {
-    /// Whether a place lies strictly inside.
+    /// Whether a position lies strictly inside.
     pub fn has(self, at: i64) -> bool {
         self.low < at && at < self.high
     }
 
-    /// How long it is.
+    /// Its length.
     pub fn length(self) -> u64 {
         self.low.abs_diff(self.high)
     }
 
-    /// The place in the middle.
+    /// The position in the middle.
     pub fn middle(self) -> i64 {
         self.low
             .saturating_add(self.high.saturating_sub(self.low) / 2)
@@ -40,7 +40,7 @@ impl Span {
         self.moved_apart(quarter.saturating_neg())
     }
 
-    /// The same, so much farther on both sides.
+    /// The interval extended on both sides.
     pub fn moved_apart(self, by: i64) -> Span {
         Span {
             low: self.low.saturating_sub(by),
@@ -48,12 +48,12 @@ impl Span {
         }
     }
 
-    /// How far a place lies from the nearer end.
+    /// The distance of a position from the nearer end.
     pub fn depth(self, at: i64) -> u64 {
         at.abs_diff(self.low).min(at.abs_diff(self.high))
     }
 
-    /// What it covers with all that is moved so far at most, in one direction.
+    /// The interval that covers this one and all its displacements by up to `by`.
     fn stretched(self, by: i64) -> Span {
         Span {
             low: self.low.saturating_add(by.min(0)),
@@ -62,7 +62,7 @@ impl Span {
     }
 }
 
-/// How far a box reaches along y, or along x.
+/// The interval of a box along y, or along x.
 pub(crate) fn span_of(b: &Box2, are_rows: bool) -> Span {
     if are_rows {
         Span {
@@ -101,21 +101,21 @@ pub(crate) fn seen_step(axis: Axis, step: Point) -> Point {
     }
 }
 
-/// Whether a coordinate is at most 2^48 nm.
+/// Whether a coordinate is at most 2^48 nm in magnitude.
 fn is_coordinate(z: i64) -> bool
     ensures { IsTrue result ↔ IsCoordinate z }
 {
     -LONGEST <= z && z <= LONGEST
 }
 
-/// Whether both coordinates are at most 2^48 nm.
+/// Whether both coordinates are at most 2^48 nm in magnitude.
 fn is_in_plane(point: Point) -> bool
     ensures { IsTrue result ↔ IsInPlane point }
 {
     is_coordinate(point.x) && is_coordinate(point.y)
 }
 
-/// Where a placing takes a point, unless either lies beyond 2^48 nm.
+/// The image of a point under a placing. `None` if either exceeds 2^48 nm.
 fn placed_point(placing: Placing, point: Point) -> Option<Point> {
     if is_in_plane(placing.by) && is_in_plane(point) {
         Some(placing.apply(point))
@@ -124,33 +124,33 @@ fn placed_point(placing: Placing, point: Point) -> Option<Point> {
     }
 }
 
-/// Where a placing takes a box, as it is seen along an axis, unless either lies beyond 2^48 nm.
+/// The image of a box under a placing, seen along an axis. `None` if either exceeds 2^48 nm.
 pub(crate) fn seen_where_placed(axis: Axis, placing: Placing, b: Box2) -> Option<Box2> {
     let p = placed_point(placing, Point { x: b.x0, y: b.y0 })?;
     let q = placed_point(placing, Point { x: b.x1, y: b.y1 })?;
     Some(seen_box(axis, Box2::between(p, q)))
 }
 
-/// Places at equal distances along x, or along y.
+/// Positions at equal distances along x, or along y.
 #[derive(Clone, Copy)]
 pub(crate) struct Series {
     /// The first.
     pub from: i64,
-    /// From one to the next.
+    /// The distance from one to the next.
     pub step: i64,
     /// How many there are.
     pub count: u16,
 }
 
 impl Series {
-    /// How far the last one is from the first.
+    /// The distance from the first to the last.
     pub fn reach(self) -> i64 {
         self.step
             .saturating_mul(i64::from(self.count.saturating_sub(1)))
     }
 }
 
-/// Where a thing stands: a shape, or the instances of an array in columns and rows.
+/// The position of an entry: a shape, or the instances of an array in columns and rows.
 #[derive(Clone, Copy)]
 pub(crate) struct Room {
     /// The box of the shape, or of the first instance.
@@ -159,9 +159,9 @@ pub(crate) struct Room {
     pub columns: u16,
     /// The number of rows.
     pub rows: u16,
-    /// From one column to the next.
+    /// The displacement from one column to the next.
     pub column_step: Point,
-    /// From one row to the next.
+    /// The displacement from one row to the next.
     pub row_step: Point,
 }
 
@@ -171,7 +171,7 @@ impl Room {
         u64::from(self.columns).saturating_mul(u64::from(self.rows))
     }
 
-    /// Where the columns begin along y, or along x.
+    /// The positions of the columns along y, or along x.
     fn column_series(&self, are_rows: bool) -> Series {
         let step = if are_rows {
             self.column_step.y
@@ -185,7 +185,7 @@ impl Room {
         }
     }
 
-    /// Where the rows begin along y, or along x.
+    /// The positions of the rows along y, or along x.
     fn row_series(&self, are_rows: bool) -> Series {
         let step = if are_rows {
             self.row_step.y
@@ -199,7 +199,7 @@ impl Room {
         }
     }
 
-    /// Where the columns begin along y, or along x, or where the rows do, if all columns begin at one place.
+    /// The positions of the columns along y, or along x; or those of the rows if all columns are at one position.
     pub fn series(&self, are_rows: bool) -> Series {
         let columns = self.column_series(are_rows);
         if columns.step != 0 && columns.count > 1 {
@@ -209,7 +209,7 @@ impl Room {
         }
     }
 
-    /// How far all instances reach along y, or along x.
+    /// The interval of all instances along y, or along x.
     pub fn span(&self, are_rows: bool) -> Span {
         span_of(&self.first, are_rows)
             .stretched(self.column_series(are_rows).reach())

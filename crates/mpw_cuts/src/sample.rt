@@ -1,4 +1,4 @@
-//! Some of many things, by which lines are compared.
+//! Takes a sample of many entries, by which lines are compared.
 
 use crate::cutting::Cut;
 use crate::room::{Room, span_of};
@@ -7,20 +7,20 @@ use mpw_contents::Thing;
 use mpw_geom::Box2;
 use std::alloc::{AllocError, Global};
 
-/// About how many of many are taken.
+/// The approximate size of a sample.
 const TAKEN: usize = 64;
 
-/// Takes about 64 of many, one at equal distances, and the first. Below 128 it takes all.
+/// Takes about 64 of many: the first, and then one at equal distances. Below 128 it takes all.
 #[derive(Clone, Copy)]
 pub(crate) struct Share {
-    /// How many are left out behind one that is taken.
+    /// How many are left out after one that is taken.
     between: usize,
     /// How many are still left out before the next.
     left: usize,
 }
 
 impl Share {
-    /// Of so many.
+    /// For `count` entries.
     pub fn of(count: usize) -> Share {
         Share {
             between: (count / TAKEN).saturating_sub(1),
@@ -40,21 +40,21 @@ impl Share {
     }
 }
 
-/// The boxes of some things.
+/// The boxes of some entries.
 #[derive(Drop)]
 pub(crate) struct Sample {
     boxes: Vec<Box2>,
 }
 
 impl Sample {
-    /// Of no things, with room for as many as are taken of so many.
+    /// An empty sample, with room for as many as are taken of `count`.
     fn empty(alloc: Global, count: usize) -> Result<Sample, AllocError> {
         Ok(Sample {
             boxes: Vec::with_capacity(alloc, count.min(TAKEN.saturating_mul(2)))?,
         })
     }
 
-    /// Adds the box of a thing, where it has one.
+    /// Adds the box of an entry, if it has one.
     fn add(&mut self, room: Option<Room>) -> Result<(), AllocError> {
         if let Some(room) = room {
             self.boxes.push(room.whole())?;
@@ -62,7 +62,7 @@ impl Sample {
         Ok(())
     }
 
-    /// Of the things that a core sees. An error is want of memory.
+    /// A sample of the entries in a core's window. The only error is out of memory.
     pub fn of_things(
         alloc: Global,
         view: &View<'_>,
@@ -78,7 +78,7 @@ impl Sample {
         Ok(sample)
     }
 
-    /// Of those of them that aren't shapes, of which there are so many. An error is want of memory.
+    /// A sample of the arrays among them, of which there are `count`. The only error is out of memory.
     pub fn of_instances(
         alloc: Global,
         view: &View<'_>,
@@ -100,7 +100,7 @@ impl Sample {
         &self.boxes
     }
 
-    /// How many are crossed by a line, farther inside than so much.
+    /// How many boxes a line crosses farther inside than `slack`.
     pub fn crossed(&self, cut: Cut, slack: i64) -> u64 {
         let mut crossed = 0u64;
         for b in &self.boxes {

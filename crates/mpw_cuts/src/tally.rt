@@ -1,52 +1,52 @@
-//! What the things that a core sees are, taken together.
+//! Counts the entries in a core's window by kind and size.
 
 use crate::room::Room;
 use crate::view::View;
 use mpw_contents::{Array, Thing};
 
-/// So few shapes are checked as they are.
+/// A core with at most this many flat shapes is checked without cuts.
 const FEW: u64 = 24;
 
-/// The most shapes that may be checked as they are, beside instances.
+/// The most flat shapes of a core with instances that is checked without cuts.
 const MOST: u64 = 1000;
 
-/// Instances that show fewer shapes each than this are no use apart from one another.
+/// Instances with fewer flat shapes than this on average aren't worth separating.
 const LIGHT: u64 = 16;
 
-/// Instances of an array that are so many are cut off.
+/// Arrays with at least this many instances are cut off.
 const LARGE: u64 = 16;
 
-/// What things are, taken together.
+/// The counts of entries.
 #[derive(Clone, Copy)]
 pub(crate) struct Tally {
-    /// About how many shapes they show.
+    /// An estimate of how many flat shapes they have.
     pub shown: u64,
-    /// How many aren't shapes; an array counts once.
+    /// How many are arrays. Each array counts once.
     pub instances: usize,
-    /// How many of those lie mostly in the core; an array of more than one counts twice.
+    /// How many of those lie mostly in the core. An array of more than one instance counts twice.
     pub inside: u64,
-    /// How many are arrays of instances that are cut off.
+    /// How many arrays have at least [`LARGE`] instances, so that they are cut off.
     pub large: usize,
-    /// Which of the arrays of more than one instance shows most, and how much it shows; none without any.
+    /// The array of more than one instance with the most flat shapes, if there is one.
     pub greatest: Option<Greatest>,
 }
 
-/// The array of more than one instance that shows most.
+/// The array of more than one instance with the most flat shapes.
 #[derive(Clone, Copy)]
 pub(crate) struct Greatest {
-    /// Where the instances stand.
+    /// The positions of its instances.
     pub room: Room,
-    /// About how many shapes they show.
+    /// An estimate of how many flat shapes they have.
     pub shown: u64,
 }
 
-/// Whether an array has so many instances that it is cut off.
+/// Whether an array has at least [`LARGE`] instances, so that it is cut off.
 pub(crate) fn is_large(room: &Room) -> bool {
     room.count() >= LARGE
 }
 
 impl Tally {
-    /// Of no things.
+    /// No entries.
     fn none() -> Tally {
         Tally {
             shown: 0,
@@ -88,7 +88,7 @@ impl Tally {
         }
     }
 
-    /// Of the things that a core sees. Linear in their number.
+    /// The counts of the entries in a core's window. Cost: linear in their number.
     pub fn of(view: &View<'_>, things: &[Thing]) -> Tally {
         let mut tally = Tally::none();
         for thing in things {
@@ -100,7 +100,7 @@ impl Tally {
         tally
     }
 
-    /// Whether the instances are light ones, and few.
+    /// Whether the instances are small ones, and few.
     fn is_light(&self) -> bool {
         let instances = self.instances as u64;
         self.greatest.is_none()
@@ -108,12 +108,12 @@ impl Tally {
             && self.shown < instances.saturating_mul(LIGHT)
     }
 
-    /// Whether no more than one instance lies mostly in the core, and few shapes are shown.
+    /// Whether at most one instance lies mostly in the core, and there are few flat shapes.
     pub fn is_at_rest(&self) -> bool {
         self.inside <= 1 && self.shown <= MOST
     }
 
-    /// Whether a core that sees this is best checked as it is.
+    /// Whether a core with these entries should be checked without cuts.
     pub fn is_leaf(&self) -> bool {
         if self.instances == 0 || self.shown <= FEW {
             return true;
@@ -124,7 +124,7 @@ impl Tally {
         self.inside == 0 || (self.instances == 1 && self.inside == 1) || self.is_light()
     }
 
-    /// The array that shows at least half of all, if one does.
+    /// The array with at least half of all flat shapes, if there is one.
     pub fn half(&self) -> Option<Room> {
         let greatest = self.greatest?;
         if greatest.shown.saturating_mul(2) >= self.shown {

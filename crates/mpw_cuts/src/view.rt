@@ -1,4 +1,4 @@
-//! The things of a layout as a core sees them.
+//! The entries of a layout as a core sees them.
 
 use crate::cutting::Core;
 use crate::room::{Room, Span, seen_box, seen_step, seen_where_placed, span_of};
@@ -6,10 +6,10 @@ use mpw_contents::{Array, Shape, Thing};
 use mpw_geom::{Box2, Point};
 use mpw_hier::{Node, Shelf};
 
-/// No step.
+/// A step of length 0.
 const STILL: Point = Point { x: 0, y: 0 };
 
-/// A core, and the first submission of a shelf, whose things it sees.
+/// A core, and the nodes of a shelf's first submission.
 #[derive(Clone, Copy)]
 pub(crate) struct View<'a> {
     /// The core.
@@ -26,27 +26,27 @@ impl<'a> View<'a> {
         })
     }
 
-    /// How far the core reaches along y, or along x.
+    /// The interval of the core along y, or along x.
     pub fn span(&self, are_rows: bool) -> Span {
         span_of(&self.core.area, are_rows)
     }
 
-    /// How far beyond an instance its lines stand: along x where the core's window no longer meets it, and along y at its edges.
+    /// The distance of lines from an instance: along x where the core's window no longer touches it, and along y at its edges.
     pub fn margin(&self, are_rows: bool) -> i64 {
         if are_rows { 0 } else { self.core.margin }
     }
 
-    /// How far into an instance a line may cross it.
+    /// How far inside an instance a line may cross it.
     pub fn slack(&self) -> i64 {
         self.core.margin.saturating_mul(4)
     }
 
-    /// How many shapes each instance of an array shows.
+    /// How many flat shapes each instance of an array has.
     pub fn shown_by_each(&self, array: &Array) -> u64 {
         self.nodes.get(array.node).map_or(0, |node| node.size.count)
     }
 
-    /// Where a shape stands.
+    /// The position of a shape.
     fn shape_room(&self, shape: &Shape) -> Option<Room> {
         Some(Room {
             first: seen_box(self.core.axis, shape.area?),
@@ -57,7 +57,7 @@ impl<'a> View<'a> {
         })
     }
 
-    /// Where the instances of an array stand.
+    /// The positions of the instances of an array.
     pub fn array_room(&self, array: &Array) -> Option<Room> {
         let extent = self.nodes.get(array.node)?.size.extent?;
         let axis = self.core.axis;
@@ -71,7 +71,7 @@ impl<'a> View<'a> {
         })
     }
 
-    /// Where the instances stand that a thing is; none where it is a shape.
+    /// The positions of the instances of an entry. `None` if it is a shape.
     pub fn instance_room(&self, thing: &Thing) -> Option<Room> {
         match thing {
             Thing::Array(array) => self.array_room(array),
@@ -79,7 +79,7 @@ impl<'a> View<'a> {
         }
     }
 
-    /// Where a thing stands.
+    /// The position of an entry.
     pub fn room(&self, thing: &Thing) -> Option<Room> {
         match thing {
             Thing::Array(array) => self.array_room(array),
@@ -87,7 +87,7 @@ impl<'a> View<'a> {
         }
     }
 
-    /// Whether over half of a box lies in the core.
+    /// Whether more than half of a box lies in the core.
     pub fn is_mostly_inside(&self, b: &Box2) -> bool {
         let inside = self.core.area.intersection(*b);
         if inside.x0 >= inside.x1 || inside.y0 >= inside.y1 {

@@ -1,3 +1,4 @@
+-- Reading the lines of a deck's text, one after another.
 use Rattle.std.proofs.Common.{◌≡◌, ℕ, ◌+◌, ◌<◌, ◌≤◌, List, [], ◌∷◌, ◌++◌, length, get_or, take, drop, suc, ◌-◌, map, refl, sym, ap, ◌∙◌, arith, Ok, Err, Result, ◌≢◌, Bor}
 use Rattle.std.proofs.lemmas.List.{at_drop_more, take_all, get_or-map, length-map}
 use Rattle.mpw_deck.specs.declared.deck.DeckKind.{DeckKind}
@@ -35,7 +36,7 @@ rules_fault rules lines i line kind l at told =
     at_drop_more (rules_of (i + 2) rules) lines i [] l
     ∙ ap (after (i + 2) rules (drop (i + 1) lines)) (ap (next_rule rules) at ∙ told)
 
--- a fault but want of memory is the one told
+-- a fault other than out of memory is the expected one
 pub told_from_refuses : {A : Type 0} (kind : DeckKind) (told : Result A DeckKind)
     → Refuses kind told → kind ≢ Memory → told ≡ Err kind
 told_from_refuses Word told h n = h
@@ -47,7 +48,7 @@ told_from_refuses Tile told h n = h
 told_from_refuses Rules told h n = h
 told_from_refuses Memory told h n = absurd (n refl)
 
--- the words of the line at i
+-- the words of the line at index i
 pub line_at : (lines : List (Bor (List ℕ))) (i : ℕ) (d : Bor (List ℕ)) → i < length lines
     → get_or (map (λ x. x.now) lines) i [] ≡ (get_or lines i d).now
 line_at lines i d l = get_or-map (λ x. x.now) lines i d [] l

@@ -1,4 +1,4 @@
--- What holds of each deck that a text spells, a line at a time.
+-- Properties of each deck that a text spells, line by line.
 use Rattle.std.proofs.Common.{◌≡◌, ◌≢◌, ℕ, ◌+◌, ◌<◌, Bool, true, false, ◌&&◌, List, [], ◌∷◌, ◌++◌, length, get_or, Option, Some, None, Ok, Err, Result, refl, sym, subst, arith, rules as common, true≢false}
 use Rattle.std.specs.Prelude.{Contains, if◌then◌else◌, nat_le, not, ◌==◌}
 use Rattle.std.specs.Option.{ok_or}
@@ -21,7 +21,7 @@ use Rattle.mpw_deck.specs.Named.{DifferByName, HasPlainName, AreNamed}
 use Rattle.mpw_geom.specs.Layers.{same_layer}
 use Rattle.mpw_deck.specs.Reading.{◌>>=◌, is_rule_name, rule_name, layer_from, layer_of, distance_of, one_layer, two_layers, one_layer_key, one_check, two_layer_key, two_check, rule_of, is_tile_line, has_rule, next_rule, rules_of, tile_of, at_line, deck_of_lines, deck_of}
 
--- ---- what a part of the reading tells: a value with a property, or a fault that isn't want of memory
+-- ---- the result of a part of the reading: a value with a property, or a fault that isn't out of memory
 
 abbrev pub Tells : {A : Type 0} → (A → Type 0) → Result A DeckKind → Type 0
 Tells P (Ok x) = P x
@@ -102,7 +102,7 @@ words_tell (key ∷ name ∷ first ∷ second ∷ distance ∷ []) =
     (λ k _. two_tells (two_check k) name first second distance)
 words_tell (a ∷ b ∷ c ∷ d ∷ e ∷ f ∷ words) = λ e. cc
 
--- ---- a line behind others
+-- ---- a line after others
 
 record IsNew (rules : List Rule) (rule : Rule) : Type 0 where
   named : is_rule_name rule.name ≡ true

@@ -1,4 +1,4 @@
--- The words of a line as a slice pattern gives them: the rule or the layer that so many spell.
+-- The words of a line as a slice pattern gives them: the rule or the layer that a number of words spell.
 use Rattle.std.proofs.Common.{◌≡◌, ℕ, ◌≤◌, ◌<◌, List, [], ◌∷◌, length, get_or, map, Option, Result, Bor, refl, sym, ap, ◌∙◌, arith}
 use Rattle.std.specs.Option.{ok_or}
 use Rattle.mpw_deck.specs.declared.deck.DeckKind.{DeckKind}

@@ -1,4 +1,4 @@
--- Decks, and the limits that each of them keeps. Lengths are in nm.
+-- Decks, and their limits. Lengths are in nm.
 use Rattle.std.specs.Prelude.{◌≤◌, ◌^◌, ℕ, List, length, All}
 use Rattle.mpw_deck.specs.declared.rule.Rule.{Rule}
 

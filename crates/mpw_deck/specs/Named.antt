@@ -1,4 +1,4 @@
--- The names of a deck's rules, by which markers are told.
+-- The names of a deck's rules, which identify the rules of markers.
 use Rattle.std.specs.Prelude.{◌≡◌, ◌≢◌, ℕ, List, All, AllPairs, Contains, Ok, Err}
 use Rattle.mpw_deck.specs.declared.deck.DeckFault.{DeckFault}
 use Rattle.mpw_deck.specs.declared.deck.DeckKind.TheVariants.{Memory}
@@ -10,7 +10,7 @@ use Rattle.mpw_deck.specs.Reading.{deck_of}
 abbrev pub DifferByName : Rule → Rule → Type 0
 DifferByName a b = a.name ≢ b.name
 
--- A rule's name has no colon, by which the parts of a marker's key are told apart.
+-- A rule's name has no colon, since colons separate the parts of a marker's key.
 abbrev pub HasPlainName : Rule → Type 0
 HasPlainName rule = Contains rule.name 58 → ⊥
 
@@ -19,11 +19,11 @@ pub record AreNamed (rules : List Rule) : Type 0 where
   pub apart : AllPairs DifferByName rules
   pub plain : All HasPlainName rules
 
--- The rules of each deck that a text spells are named so.
+-- The rules of each deck that a text spells have such names.
 abbrev pub ReadDecksAreNamed : Type 0
 ReadDecksAreNamed = (text : List ℕ) (deck : Deck) → deck_of text ≡ Ok deck → AreNamed deck.rules
 
--- What is wrong with a text is never want of memory.
+-- The fault of a text is never out of memory.
 abbrev pub FaultsAreOfTexts : Type 0
 FaultsAreOfTexts =
     (text : List ℕ) (fault : DeckFault) → deck_of text ≡ Err fault → fault.kind ≢ Memory

@@ -31,7 +31,7 @@ is_rule_name word = (nat_le 1 (length word) && nat_le (length word) 255)
 unfoldable pub rule_name : List ℕ → Result (List ℕ) DeckKind
 rule_name word = if is_rule_name word then Ok word else Err kinds.Word
 
--- a layer: two numbers to 65535, parted by a slash
+-- a layer: two numbers to 65535, separated by a slash
 abbrev pub layer_from : List (List ℕ) → Option Layer
 layer_from (layer ∷ datatype ∷ []) = numbered (number_of 0 65535 layer) (number_of 0 65535 datatype)
   where
@@ -104,14 +104,14 @@ is_tile_line (key ∷ words) = name_eq key (codes "tile")
 abbrev pub has_rule : List Rule → List ℕ → Bool
 has_rule rules name = list_any (λ r. name_eq r.name name) rules
 
--- a line after the first, behind these rules
+-- a line after the first, after these rules
 unfoldable pub next_rule : List Rule → List ℕ → Result Rule DeckKind
 next_rule rules line = if is_tile_line (words_of line) then Err kinds.Tile else (do
   rule ← rule_of (words_of line)
   if has_rule rules rule.name then Err kinds.DoubleRule
       else (if nat_le 256 (length rules) then Err kinds.Rules else Ok rule))
 
--- the lines from the n-th on, behind these rules: all rules, or the first faulty line
+-- the lines from the n-th on, after these rules: all rules, or the first faulty line
 abbrev pub rules_of : ℕ → List Rule → List (List ℕ) → Result (List Rule) DeckFault
 rules_of n rules [] = Ok rules
 rules_of n rules (line ∷ lines) =

@@ -1,4 +1,4 @@
--- What is said of a deck's line.
+-- The words of a line's faults.
 use Rattle.std.specs.Prelude.{ℕ, List, ◌++◌, codes}
 use Rattle.std.specs.Fmt.{decimal}
 use Rattle.mpw_deck.specs.declared.deck.DeckKind.{DeckKind}

@@ -1,4 +1,4 @@
-//! Decks, and what may be wrong with one's text.
+//! Decks, and the faults of their texts.
 
 ghost use Rattle.std.specs.Prelude.{◌≡◌, ◌↔◌, IfOk, IsTrue, Some};
 ghost use Rattle.mpw_deck.specs.Decks.{IsDeck};
@@ -15,7 +15,7 @@ use std::marker::Model;
 /// The greatest number of rules of a deck.
 pub const MAX_RULES: usize = 256;
 
-/// Rules in order, which contracts see as that list. Copies share them.
+/// Rules in order. Contracts see them as a list. Copies share memory.
 pub type Rules = SharedList<Rule>;
 
 /// A deck: the side of the tiles in nm, 256 to 2^30, and at most 256 rules, each with a distance of 1 to 65535 nm.
@@ -43,7 +43,7 @@ impl Model for Deck {
 }
 
 impl Deck {
-    /// The deck of these parts. Takes no memory.
+    /// The deck with this side of the tiles and these rules. Takes no memory.
     pub fn new(tile: u32, rules: Rules) -> Deck
         requires { IsDeck (record { tile = tile; rules = rules }) }
         ensures { result ≡ record { tile = tile; rules = rules } }
@@ -65,17 +65,17 @@ impl Deck {
         &self.rules
     }
 
-    /// Each deck keeps the limits. A law: the function does nothing.
+    /// A law; the function does nothing. Each deck meets the limits.
     pub fn is_deck(&self)
         ensures { IsDeck self.now }
     {
         let _tile = self.tile;
     }
 
-    /// The same deck, in constant time and without further memory.
+    /// The same deck, in constant time and without more memory.
     ///
     /// # Errors
-    /// Where no more copies can be counted.
+    /// If no more copies can be counted.
     pub fn copy(&self) -> Result<Deck, AllocError>
         ensures { IfOk result (λ deck. deck ≡ self.now) }
     {
@@ -86,7 +86,7 @@ impl Deck {
         })
     }
 
-    /// Whether the decks have equal sides of tiles and equal rules, in order. It stops at the first difference, and takes
+    /// Whether the decks have equal sides of tiles and equal rules, in order. Stops at the first difference, and takes
     /// no memory.
     pub fn is_same(&self, other: &Deck) -> bool
         ensures { IsTrue result ↔ (self.now ≡ other.now) }
@@ -95,31 +95,31 @@ impl Deck {
     }
 }
 
-/// What is wrong with a line of a deck's text.
+/// The fault of a line of a deck's text.
 #[derive(Clone, Copy, PartialEq, Eq)]
 pub enum DeckKind {
-    /// The line has another number of words than it needs, a later line's first word is no check's name, or the rule's
-    /// name isn't 1 to 255 bytes of 21 to 7E hex without a colon. An empty later line is so too.
+    /// The number of words is wrong, the first word of a later line is no check's name, or the rule's
+    /// name isn't 1 to 255 bytes of 21 to 7E hex without a colon. An empty later line has this fault too.
     Word,
-    /// The side of the tiles isn't a number from 256 to 2^30, or the distance none from 1 to 65535: decimal, without
+    /// The side of the tiles isn't a number from 256 to 2^30, or the distance isn't one from 1 to 65535: decimal, without
     /// sign or leading zero.
     Number,
     /// A layer isn't `L/D`, two numbers from 0 to 65535.
     Layer,
-    /// The two layers of `separation` or `enclosing` are one.
+    /// The two layers of `separation` or `enclosing` are the same.
     SameLayer,
-    /// A rule before has the name.
+    /// An earlier rule has the same name.
     DoubleRule,
-    /// The first line isn't there or doesn't begin with `tile`, or a later one does.
+    /// There is no first line, or it doesn't begin with `tile`, or a later one does.
     Tile,
-    /// There are 256 rules before it.
+    /// There are already 256 rules.
     Rules,
-    /// There was no room to read on; it says nothing of the text.
+    /// Out of memory. It says nothing about the text.
     Memory,
 }
 
 impl DeckKind {
-    /// What is said of a line.
+    /// The word of the fault.
     #[tactic(auto, unfolding(crate::specs::Words::kind_words))]
     fn words(self) -> &'static str
         ensures { result.now ≡ kind_words self }
@@ -161,13 +161,13 @@ impl From<AllocError> for DeckKind {
     }
 }
 
-/// The first faulty line of a deck's text, counted from 1, and its first fault. At `Memory` the
-/// line is where reading stopped.
+/// The first faulty line of a deck's text, counted from 1, and its first fault. For `Memory` it is the
+/// line at which reading stopped.
 #[derive(Clone, Copy, Debug, PartialEq, Eq)]
 pub struct DeckFault {
     /// The first test that the line fails.
     pub kind: DeckKind,
-    /// Counted from 1. A text without lines has its fault at line 1.
+    /// The line, counted from 1. The fault of a text without lines is at line 1.
     pub line: usize,
 }
 

@@ -1,4 +1,4 @@
-//! The words of a rule's line: its name, its layers and its distance.
+//! Reads the words of a rule's line: its name, its layers and its distance.
 
 ghost use Rattle.std.specs.Prelude.{◌≡◌, ◌≤◌, IfOk, ◌==◌, ◌&&◌, not, nat_le, map};
 ghost use Rattle.std.specs.List.{list_all};
@@ -10,7 +10,7 @@ use mpw_geom::{Layer, Name, NameFault};
 use mpw_text::{parts, read_number};
 use std::alloc::Global;
 
-/// Whether all bytes are visible, and none is a colon.
+/// Whether all bytes are visible and none is a colon.
 fn are_rule_bytes(word: &[u8]) -> bool
     ensures { result ≡ list_all (λ b. (nat_le 0x21 b && nat_le b 0x7E) && not (b == 58)) word.now }
 {
@@ -24,7 +24,7 @@ fn is_rule_name(word: &[u8]) -> bool
     !word.is_empty() && word.len() <= 255 && are_rule_bytes(word)
 }
 
-/// The rule's name that the word is.
+/// The rule's name in a word.
 #[tactic(auto, unfolding(crate::specs::Reading::rule_name))]
 pub(crate) fn rule_name(alloc: Global, word: &[u8]) -> Result<Name, DeckKind>
     ensures { Reads result (rule_name word.now) }

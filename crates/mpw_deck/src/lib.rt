@@ -1,7 +1,7 @@
 //! Decks: the tile's side and the rules of a check, and how they are read from a text.
 //!
-//! [`read_deck`] reads the whole text or tells the first faulty line. A [`DeckText`] shares a text with the deck
-//! that reading it gave.
+//! [`read_deck`] reads the whole text or returns the first faulty line. A [`DeckText`] shares a text with the deck
+//! that was read from it.
 #![tactic(auto)]
 
 mod deck;

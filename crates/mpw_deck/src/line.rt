@@ -1,4 +1,4 @@
-//! The lines of a deck's text: the tile line and the rules' lines, by their words.
+//! Reads the lines of a deck's text, by their words: the tile line and the rules' lines.
 
 ghost use Rattle.std.specs.Prelude.{◌≡◌, ◌≤◌, ◌<◌, ◌^◌, map, length, IfOk};
 ghost use Rattle.mpw_deck.specs.Decks.{IsRule};
@@ -84,7 +84,7 @@ impl TwoLayers {
     }
 }
 
-/// The words of a rule of one layer, behind its key.
+/// The words of a rule of one layer, after its key.
 #[tactic(auto, unfolding(crate::specs::Reading::one_layer))]
 fn one_layer(
     alloc: Global,
@@ -106,7 +106,7 @@ fn one_layer(
     })
 }
 
-/// The words of a rule of two layers, behind its key.
+/// The words of a rule of two layers, after its key.
 #[tactic(auto, unfolding(crate::specs::Reading::two_layers))]
 fn two_layers(
     alloc: Global,
@@ -170,7 +170,7 @@ fn is_tile_line(words: &[&[u8]]) -> bool
     }
 }
 
-/// The side of the tiles, in nm, of the words of the first line.
+/// The side of the tiles, in nm, from the words of the first line.
 #[tactic(auto, unfolding(crate::specs::Reading::tile_of))]
 pub(crate) fn tile(words: &[&[u8]]) -> Result<u32, DeckKind>
     ensures value { result ≡ tile_of (map (λ x. x.now) words.now) }
@@ -189,7 +189,7 @@ pub(crate) fn tile(words: &[&[u8]]) -> Result<u32, DeckKind>
     }
 }
 
-/// The rule that a later line spells, behind the rules before it.
+/// The rule on a later line, given the rules before it.
 #[tactic(auto, unfolding(crate::specs::Reading::next_rule))]
 pub(crate) fn next_rule(alloc: Global, rules: &[Rule], line: &[u8]) -> Result<Rule, DeckKind>
     ensures reads { Reads result (next_rule rules.now line.now) }

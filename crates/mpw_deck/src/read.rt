@@ -1,4 +1,4 @@
-//! The whole text of a deck.
+//! Reads the whole text of a deck.
 
 ghost use Rattle.std.specs.Prelude.{◌≡◌, ◌≢◌, ◌≤◌, ◌^◌, [], map, length, All, IfOk, IfErr, Ok, Err};
 ghost use Rattle.mpw_deck.specs.Decks.{IsRule};
@@ -12,7 +12,7 @@ use crate::rule::Rule;
 use mpw_text::{lines, parts};
 use std::alloc::Global;
 
-/// Want of memory at a line.
+/// The fault `Memory` at a line.
 fn no_memory(line: usize) -> DeckFault
     ensures { result.kind ≡ Memory }
 {
@@ -50,7 +50,7 @@ fn rules(alloc: Global, lines: &[&[u8]]) -> Result<Vec<Rule>, DeckFault>
     Ok(rules)
 }
 
-/// The side of the tiles that the first line spells, in nm.
+/// The side of the tiles on the first line, in nm.
 fn side(alloc: Global, line: &[u8]) -> Result<u32, DeckFault>
     ensures ok { IfOk result (λ n. tile_of (words_of line.now) ≡ Ok n) }
     ensures fault { IfErr result (λ f.
@@ -67,18 +67,18 @@ fn side(alloc: Global, line: &[u8]) -> Result<u32, DeckFault>
     }
 }
 
-/// Reads a deck. Its text is lines that end with a line feed, which the last may lack, of words
-/// parted by one space: `tile S` first, then at most 256 rules, each
-/// `width NAME L/D d`, `space NAME L/D d`, `separation NAME L/D L/D d` or
-/// `enclosing NAME L/D L/D d`. The cost is one pass, and for each rule a look at the names before
-/// it. It keeps 16 bytes for each line of the text at once, also for the lines behind its first fault ([`lines`]).
+/// Reads a deck. Its text is lines that end with a line feed, which the last one may lack. A line is words
+/// separated by one space: first `tile S`, then at most 256 rules, each `width NAME L/D d`, `space NAME L/D d`,
+/// `separation NAME L/D L/D d` or `enclosing NAME L/D L/D d`. Cost: one pass, and for each rule a comparison with
+/// the names before it. All lines of the text together take 16 bytes of memory each, even those after the first
+/// fault ([`lines`]).
 ///
 /// # Errors
-/// The first faulty line, counted from 1, with its first fault. A line is tested in this order.
-/// The first line: its first word (`Tile`), the number of its words (`Word`), the side, 256 to 2^30
-/// (`Number`); a text without lines is `Tile` at line 1. A later line: a first word `tile`
+/// The first faulty line, counted from 1, with its first fault. A line is tested in this order. The
+/// first line: its first word (`Tile`), the number of its words (`Word`), the side, 256 to 2^30
+/// (`Number`). A text without lines is `Tile` at line 1. A later line: a first word `tile`
 /// (`Tile`), another first word or number of words, then the name (`Word`), each layer, two numbers
-/// to 65535 (`Layer`), the distance, 1 to 65535 (`Number`), equal layers of a rule of two
+/// to 65535 (`Layer`), the distance, 1 to 65535 (`Number`), equal layers of a rule with two
 /// (`SameLayer`), a name used before (`DoubleRule`), more than 256 rules (`Rules`).
 pub fn read_deck(alloc: Global, text: &[u8]) -> Result<Deck, DeckFault>
     ensures ok { IfOk result (λ deck. deck_of text.now ≡ Ok deck) }

@@ -9,25 +9,25 @@ use std::alloc::AllocError;
 /// A check, named after the KLayout DRC reference, with its layers.
 #[derive(Clone, Copy, PartialEq, Eq)]
 pub enum Check {
-    /// `width` of a layer: a rise, and the fall to its right with all squares between covered.
+    /// `width` of a layer: a rise, and the fall to its right if all squares between are covered.
     Width(Layer),
-    /// `space` of a layer: a fall, and each rise to its right, also behind other shapes.
+    /// `space` of a layer: a fall, and each rise to its right, even after other shapes.
     Space(Layer),
-    /// `separation` of two layers: a fall of one, and a rise of the other at the same place or to its right; which of
-    /// them falls is the side, 0 the first and 1 the second. Touching edges count.
+    /// `separation` of two layers: a fall of one, and a rise of the other at the same position or to its right. The side is the layer
+    /// that falls: 0 the first, 1 the second. Touching edges count.
     Separation(Layer, Layer),
-    /// `enclosing`, by the first layer of the second: at side 0 a rise of the first, and one of the second at the same
-    /// place or to its right; at side 1 a fall of the second, and one of the first so. Coinciding edges count.
+    /// `enclosing`, of the second layer by the first. Side 0: a rise of the first, and one of the second at the same position or to its right.
+    /// Side 1: a fall of the second, and one of the first at the same position or to its right. Coinciding edges count.
     Enclosing(Layer, Layer),
 }
 
 /// A rule: its name, which has no colon, its check, and its distance in nm, 1 to 65535.
 pub struct Rule {
-    /// By which its markers are told. A deck that was read has no other rule of that name.
+    /// The name that identifies its markers. A deck that was read has no other rule with that name.
     pub name: Name,
-    /// Which edges are looked at, and on which layers.
+    /// Which edges are checked, and on which layers.
     pub check: Check,
-    /// Edges nearer than this are too near; those just so far apart are good.
+    /// Edges nearer than this are too near. Edges exactly at this distance are allowed.
     pub distance: u32,
 }
 
@@ -43,10 +43,10 @@ impl Drop for Rule {
 }
 
 impl Rule {
-    /// The same rule. Constant time, and no memory but what counts a name's copies.
+    /// The same rule. Constant time. The only memory is the count of the name's copies.
     ///
     /// # Errors
-    /// Where no more copies of the name can be counted.
+    /// If no more copies of the name can be counted.
     pub fn copy(&self) -> Result<Rule, AllocError>
         ensures { IfOk result (λ rule. rule ≡ self.now) }
     {

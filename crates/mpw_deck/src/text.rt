@@ -1,4 +1,4 @@
-//! A deck's text that was read.
+//! A deck's text, with the deck that was read from it.
 
 ghost use Rattle.std.specs.Prelude.{◌≡◌, IfOk};
 ghost use Rattle.mpw_deck.specs.Reading.{deck_of};
@@ -12,13 +12,13 @@ use std::marker::Model;
 use std::sync::Arc;
 use thiserror::Error;
 
-/// The first faulty line of a text, whose kind is never `Memory`, or want of memory.
+/// The first faulty line of a text, whose kind is never `Memory`; or out of memory.
 #[derive(Clone, Copy, Debug, Error)]
 pub enum DeckError {
-    /// There was no room to read the text, which says nothing of it.
+    /// Out of memory. It says nothing about the text.
     #[error("out of memory")]
     Memory,
-    /// The text spells no deck: its first faulty line, with that line's first fault.
+    /// The text is no deck: its first faulty line, with that line's first fault.
     #[error("{0}")]
     Fault(DeckFault),
 }
@@ -31,8 +31,8 @@ impl From<AllocError> for DeckError {
     }
 }
 
-/// The bytes of a text, with what reading them gave: a deck, or the first faulty line. Contracts see
-/// the bytes. Copies share both; [`DeckText::alone`] has the bytes alone.
+/// The bytes of a text, with the result of reading them: a deck, or the first faulty line. Contracts see
+/// the bytes. Copies share both; [`DeckText::alone`] has only the bytes.
 pub struct DeckText {
     bytes: Arc<Vec<u8>>,
     outcome: Option<Result<Deck, DeckFault>>,
@@ -61,7 +61,7 @@ impl DeckText {
     /// The text of these bytes. They are read once, here.
     ///
     /// # Errors
-    /// Want of memory, for the deck or for what is shared.
+    /// Out of memory, for the deck or for what is shared.
     pub fn read(alloc: Global, bytes: Vec<u8>) -> Result<DeckText, AllocError>
         ensures { IfOk result (λ text. text ≡ bytes.items) }
     {
@@ -80,10 +80,10 @@ impl DeckText {
         self.bytes.as_slice()
     }
 
-    /// The deck that the text spells: in constant time, or read again where the bytes stand alone.
+    /// The deck of the text: in constant time, or read again if only the bytes are stored.
     ///
     /// # Errors
-    /// The first faulty line, counted from 1, with its first fault, or want of memory.
+    /// The first faulty line, counted from 1, with its first fault, or out of memory.
     pub fn deck(&self, alloc: Global) -> Result<Deck, DeckError>
         ensures { GivesDeck result (deck_of self.now) }
     {
@@ -93,11 +93,11 @@ impl DeckText {
         }
     }
 
-    /// The same text, in constant time and without further memory, with its bytes alone: what reading
-    /// them gave can go.
+    /// The same text, in constant time and without more memory, with only its bytes. The result of reading
+    /// them can be freed.
     ///
     /// # Errors
-    /// Where no more copies can be counted.
+    /// If no more copies can be counted.
     pub fn alone(&self) -> Result<DeckText, AllocError>
         ensures { IfOk result (λ text. text ≡ self.now) }
     {
@@ -107,10 +107,10 @@ impl DeckText {
         })
     }
 
-    /// The same text, in constant time and without further memory.
+    /// The same text, in constant time and without more memory.
     ///
     /// # Errors
-    /// Where no more copies can be counted.
+    /// If no more copies can be counted.
     pub fn copy(&self) -> Result<DeckText, AllocError>
         ensures { IfOk result (λ text. text ≡ self.now) }
     {
@@ -121,7 +121,7 @@ impl DeckText {
     }
 }
 
-/// Reads the bytes, and tells want of memory apart from what is wrong with them.
+/// Reads the bytes, and distinguishes out of memory from the faults of the text.
 fn read(alloc: Global, bytes: &[u8]) -> Result<Deck, DeckError>
     ensures { GivesDeck result (deck_of bytes.now) }
 {
@@ -134,7 +134,7 @@ fn read(alloc: Global, bytes: &[u8]) -> Result<Deck, DeckError>
     }
 }
 
-/// What reading the bytes gives.
+/// The result of reading the bytes.
 fn outcome_of(alloc: Global, bytes: &[u8]) -> Result<Result<Deck, DeckFault>, AllocError>
     ensures { IfOk result (λ outcome. deck_of bytes.now ≡ outcome) }
 {
@@ -145,7 +145,7 @@ fn outcome_of(alloc: Global, bytes: &[u8]) -> Result<Result<Deck, DeckFault>, Al
     }
 }
 
-/// The deck that reading gave, or why it gave none.
+/// The deck that was read, or why there is none.
 fn deck_of_outcome(outcome: &Result<Deck, DeckFault>) -> Result<Deck, DeckError>
     ensures { GivesDeck result outcome.now }
 {
@@ -155,7 +155,7 @@ fn deck_of_outcome(outcome: &Result<Deck, DeckFault>) -> Result<Deck, DeckError>
     }
 }
 
-/// What reading gave, shared.
+/// The result of reading, shared.
 fn copy_of(
     outcome: &Option<Result<Deck, DeckFault>>,
 ) -> Result<Option<Result<Deck, DeckFault>>, AllocError>

@@ -1,4 +1,4 @@
--- A session that may do nothing is told nothing of layouts.
+-- A session that may do nothing learns nothing of layouts.
 use Rattle.std.proofs.Common.{◌≡◌, ℕ, Bool, true, false, cond, not, ◌&&◌, List, [], ◌∷◌, map, is_some, Option, Result, Ok, Err, refl, sym, ap, subst, ◌∙◌}
 use Rattle.std.specs.List.{flat_map}
 use Rattle.mpw_roles.specs.Decided.{decided}
@@ -44,7 +44,7 @@ use Rattle.mpw_events.specs.PolicyRows.{row_of}
 use Rattle.mpw_events.specs.Step.{State, Outcome, no_change, not_kept_response, identity_lines, policy_outcome, query_outcome, over_shelf, over_run, over_waivers, outcome_of, event_outcome, settlement, step}
 use Rattle.mpw_denial_laws.specs.Blind.{MayNothing, DifferInLayouts, NothingIsToldOfLayouts}
 
--- ---- two outcomes that are told and kept alike
+-- ---- two outcomes with the same response, that both are or aren't a change
 
 record Alike (o u : Outcome) : Type 0 where
   response : o.response ≡ u.response
@@ -67,7 +67,7 @@ settled_alike a b e kept o u h =
 
 -- ---- what is lacked
 
--- what ends the row of a request whose permission is lacked
+-- what ends the decision table of a request whose permission is lacked
 record Lacks (policy : Policy) (connection : ℕ) (asked : Operation) (on : Object) : Type 0 where
   why : Ending
   is : permitted policy connection asked on ≡ Err why
@@ -157,7 +157,7 @@ no_lines f none (cell ∷ cells) = rw (none cell) (no_lines f none cells)
 abbrev none_listed : Bool × Ending → Result (List Listed) Ending
 none_listed test = decided (test ∷ []) []
 
--- ---- rows that end so give outcomes alike
+-- ---- decision tables with this end have the same outcomes
 
 module _ (a b : State) (connection : ℕ) (d : DifferInLayouts a b)
     (nothing : MayNothing a.policy connection) where

@@ -1,9 +1,9 @@
-//! The law. The function has an empty body: its contract is the law.
+//! The law. The function has an empty body. Its contract is the law.
 
 ghost use Rattle.mpw_denial_laws.specs.Blind.{NothingIsToldOfLayouts};
 
-/// Two desks with the same policy, run and waivers answer whatever a connection asks alike, if nothing is permitted to it, whatever
-/// else they have: submissions, placings, decks and trails. So a cell that it may not read is there, or is not, without its being told.
+/// If nothing is permitted to a connection, two desks with the same policy, run and waivers answer its requests identically, whatever else
+/// they have: submissions, placements, decks and trails. So nothing shows whether a cell exists that it may not read.
 pub fn nothing_is_told_of_layouts()
     ensures { NothingIsToldOfLayouts }
 {}

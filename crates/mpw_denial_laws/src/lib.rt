@@ -1,6 +1,6 @@
-//! What denials tell: nothing of what others have on the desk.
+//! What denials show: nothing of what others have on the desk.
 //!
-//! The function does nothing: its contract is the law, and it speaks of the desk's step. No program links this crate.
+//! The function does nothing. Its contract is the law, and speaks of the desk's step. No program links this crate.
 #![tactic(auto)]
 
 mod laws;

@@ -1,4 +1,4 @@
--- Parts of a list, edges of bands, and what a binary search over them asks and tells.
+-- Parts of a list, edges of bands, and the preconditions and results of a binary search over them.
 use Rattle.std.proofs.Common.{◌≡◌, ℕ, ◌+◌, ◌<◌, ◌≤◌, ℤ, ◌≤ℤ◌, ◌<ℤ◌, Bool, true, false, List, [], ◌∷◌, length, get_or, take, drop, map, ◌⊎◌, inl, inr, subst, sym, ap, refl, arith}
 use Rattle.std.specs.Prelude.{All, AllPairs, Contains, int_lt, int_le}
 use Rattle.std.specs.List.{AllWithin}
@@ -102,7 +102,7 @@ pub edges_ordered : (end : End) (boxes : List Box2) → AreBands boxes
 edges_ordered Rise boxes h = rises_ordered boxes h
 edges_ordered Fall boxes h = falls_ordered boxes h
 
--- ---- what a binary search asks and tells
+-- ---- preconditions and results of a binary search
 
 pub partitioned_by_x : (edges : List Edge) (x : ℤ) → AllPairs IsLeftOf edges
     → IsPartitionedBy (λ e. int_lt e.x x) edges
@@ -145,7 +145,7 @@ pub left_of_place : (edges : List Edge) (x : ℤ) (r : ℕ)
 left_of_place edges x r h = all_taken (λ (e : Edge). e.x <ℤ x) edges r
     (λ k d l b. lt_from_test (get_or edges k d).x x (h.0 k d l b))
 
--- an edge that begins no higher than the first has its rows, and else lies above it
+-- an edge that begins no higher than the first has its rows, otherwise it lies above it
 same_rows : (edges : List Edge) (k : ℕ) (d : Edge) → AreEdges edges → k < length edges
     → (get_or edges k d).y0 ≤ℤ (get_or edges 0 d).y0
     → HasRowsOf (get_or edges 0 d) (get_or edges k d)
@@ -233,7 +233,7 @@ IsBand-from_search edges r h some within p = record {
           | inr s ↦ s.2
         ]
 
--- edges looked at one by one: all begin no higher than the first, and the next one does
+-- edges tested one by one: all begin no higher than the first, and the next one does
 pub IsBand-from_steps : (edges : List Edge) (n : ℕ) → AreEdges edges → 1 ≤ length edges
     → n < length edges → All (λ e. e.y0 ≤ℤ (get_or edges 0 no_edge).y0) (take n edges)
     → (get_or edges 0 no_edge).y0 <ℤ (get_or edges n no_edge).y0 → IsBand edges n
@@ -266,7 +266,7 @@ only_first (x ∷ xs) k d l =
     let is = ap (λ (m : ℕ). (get_or (x ∷ []) m d).y0) z in
     omega (arith, ints, is)
 
--- what is left of an edge is left of those behind it
+-- what is left of an edge is left of those after it
 pub left_of_later : (froms tos : List Edge) (i n : ℕ) → AllPairs IsLeftOf froms → i < length froms
     → All (λ to. to.x <ℤ (get_or froms i no_edge).x) (take n tos) → (k : ℕ) (d : Edge) → i + 1 ≤ k
     → k < length froms → All (λ to. to.x <ℤ (get_or froms k d).x) (take n tos)

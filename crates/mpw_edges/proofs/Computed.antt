@@ -1,3 +1,4 @@
+-- The computed tests of pair steps are true exactly for pair steps.
 use Rattle.std.proofs.Common.{◌≡◌, ℕ, zero, suc, ℤ, pos, negsuc, ◌+ℤ◌, ◌-ℤ◌, ◌≤ℤ◌, ◌<ℤ◌, Bool, true, false, ◌&&◌, not, ◌==◌, refl, sym, subst, arith, Decides}
 use Rattle.std.specs.Prelude.{◌↔◌, int_le, int_lt}
 use Rattle.std.proofs.lemmas.Int.{ints, by_lt_z}

@@ -1,3 +1,4 @@
+-- The runs that each check finds have exactly the rows of its pair steps.
 use Rattle.std.proofs.Common.{◌≡◌, ℕ, ℤ, pos, ◌-ℤ◌, ◌≤ℤ◌, ◌<ℤ◌, true, false, List, [], map, ◌⊎◌, inl, inr, subst, sym, ap, arith}
 use Rattle.std.proofs.lemmas.Int.{ints}
 use Rattle.mpw_geom.specs.declared.plane.Box2.{Box2}
@@ -19,13 +20,13 @@ use Rattle.mpw_edges.specs.Pieces.{IsInCore}
 use Rattle.mpw_edges.specs.Internal.Pairs.{IsNear, IsPairOf, IsWidthOf, IsBetween, IsEdgeAt, rise_of, fall_of, edge_of}
 use Rattle.mpw_edges.proofs.Region.{EdgesAre, rises_are, falls_are, box_of_width, rise_of_box, fall_of_box, covered}
 
--- the runs that were added find the places, told in other words
+-- the runs that were added find the positions, described in another way
 found : (runs : List Run) (P Q : Line → ℤ → Type 0) → Adds [] runs P
     → ((line : Line) (j : ℤ) → P line j → Q line j) → ((line : Line) (j : ℤ) → Q line j → P line j)
     → Finds runs Q
 found runs P Q h f g = Finds-from_adds runs Q (Adds-same [] runs P Q h f g)
 
--- the two edges of a line, near each other, in a row, where the first lies in the core
+-- the two edges of a line, near each other, in a row, if the first lies in the core
 abbrev pub IsFoundPair : ℕ → Limits → (ℤ → ℤ → Type 0) → (ℤ → ℤ → Type 0) → Line → ℤ → Type 0
 IsFoundPair side limits E F line j = (line.side ≡ side) × E line.first j × F line.second j
     × IsNear limits line.first line.second × IsInCore limits.core line.first j

@@ -1,3 +1,4 @@
+-- Separate runs are the maximal ones, and the pieces of both axes are in order.
 use Rattle.std.proofs.Common.{◌≡◌, ℕ, ◌-◌, ◌<◌, ℤ, pos, ◌-ℤ◌, ◌≤ℤ◌, ◌<ℤ◌, List, ◌++◌, length, get_or, map, ◌⊎◌, inl, inr, subst, refl, sym, ap, ◌∙◌, arith}
 use Rattle.std.specs.Prelude.{◌↔◌, AllPairs, Contains}
 use Rattle.std.specs.Ordering.{nat_cmp, int_cmp, ordering_then}
@@ -22,9 +23,9 @@ use Rattle.mpw_edges.specs.declared.run.Piece.{Piece}
 use Rattle.mpw_edges.specs.Edges.{Squares}
 use Rattle.mpw_edges.specs.Pieces.{HasStep, IsPiece, ComesBefore, piece_of}
 
--- ---- runs that stand apart
+-- ---- separate runs
 
--- two runs of one line are one, or apart
+-- two runs on one line are equal, or apart
 alike : (runs : List Run) (r s : Run) → AreApart runs → Contains runs r → Contains runs s
     → r.line ≡ s.line → (r ≡ s) ⊎ ((r.to <ℤ s.from) ⊎ (s.to <ℤ r.from))
 alike runs r s h p q e =
@@ -38,14 +39,14 @@ alike runs r s h p q e =
     apart x y (inl less) f = absurd (line_before x.line y.line less f)
     apart x y (inr stands) f = stands.1
 
--- a maximal run of the places of P
+-- a maximal run of the positions of P
 pub record IsRunOf (P : Line → ℤ → Type 0) (r : Run) : Type 0 where
   pub filled : r.from <ℤ r.to
   pub steps : (j : ℤ) → r.from ≤ℤ j → j <ℤ r.to → P r.line j
   pub below : P r.line (r.from -ℤ pos 1) → ⊥
   pub above : P r.line r.to → ⊥
 
--- the runs hold just the places of P
+-- the runs have exactly the positions of P
 abbrev pub HoldJust : List Run → (Line → ℤ → Type 0) → Type 0
 HoldJust runs P = (line : Line) (j : ℤ) → CoversPlace runs line j ↔ P line j
 
@@ -270,7 +271,7 @@ ordered_pieces : (vs hs : List Run) → AreApart vs → AreApart hs
 ordered_pieces vs hs va ha = all_pairs_append ComesBefore (map (piece_of V) vs)
     (map (piece_of H) hs) (on_axis V vs va) (on_axis H hs ha) (across vs hs)
 
--- ---- the list of the code, which was made of two lists
+-- ---- the list of the code, which was made from two lists
 
 both_lists : (all : List Piece) (seen vs seen' hs : List Run) → all ≡ map (piece_of V) seen
     ++ map (piece_of H) seen' → seen ≡ vs → seen' ≡ hs → all ≡ map (piece_of V) vs

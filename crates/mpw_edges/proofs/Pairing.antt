@@ -1,4 +1,4 @@
--- Two lists of edges gone through by bands: what is found, and what is left to find.
+-- Two lists of edges visited by bands: what is found, and what is left to find.
 use Rattle.std.proofs.Common.{◌≡◌, ℕ, ◌+◌, ◌<◌, ◌≤◌, ℤ, pos, ◌-ℤ◌, ◌≤ℤ◌, ◌<ℤ◌, Bool, true, false, List, length, get_or, take, drop, ◌⊎◌, inl, inr, subst, sym, ap, ◌∙◌, arith}
 use Rattle.std.specs.Prelude.{All, AllPairs, Contains, MatchBool}
 use Rattle.std.proofs.Math.Logic.{⊎_map}
@@ -45,7 +45,7 @@ pub none_outside : (side : ℕ) (limits : Limits) (from : Edge) (tos : List Edge
 none_outside side limits from tos runs h = Adds-none runs (IsPairFrom side limits tos from)
     (λ line j p. h (p.2.2, p.2.3))
 
--- what lies behind an edge that is too far is too far
+-- what comes after an edge that is too far is too far
 pub pairs_from_past : (side : ℕ) (limits : Limits) (from : Edge) (tos : List Edge)
     (old new : List Run) (n : ℕ) → AllPairs IsLeftOf tos → n < length tos
     → pos limits.distance ≤ℤ ((get_or tos n no_edge).x -ℤ from.x)
@@ -222,7 +222,7 @@ none_lower edges e y h c below =
           omega (arith, ints, below, same, is)
     ]
 
--- what is left to find, told in other words
+-- what is left to find, described in another way
 moves_as : (old new : List Run) (P Q R : Line → ℤ → Type 0) → Moves old P new Q
     → ((line : Line) (at : ℤ) → Q line at → R line at)
     → ((line : Line) (at : ℤ) → R line at → Q line at) → Moves old P new R
@@ -281,7 +281,7 @@ past_low_to runs side limits froms tos n h low =
     (All-contains (λ (e : Edge). e.y1 ≤ℤ (get_or froms 0 no_edge).y0) (take n tos) to low d))
     (Moves-start runs (IsPairOf side limits froms tos))
 
--- bands that end together have no further pairs
+-- bands that end together have no more pairs
 past_both : (old new : List Run) (side : ℕ) (limits : Limits) (froms tos : List Edge) (m n : ℕ)
     → IsBand froms m → IsBand tos n → (get_or froms 0 no_edge).y1 ≡ (get_or tos 0 no_edge).y1
     → Adds old new (IsPairOf side limits (take m froms) (take n tos))

@@ -1,3 +1,4 @@
+-- The edges of a region's squares are the ends of its boxes.
 use Rattle.std.proofs.Common.{◌≡◌, ℤ, pos, ◌-ℤ◌, ◌≤ℤ◌, ◌<ℤ◌, true, false, List, map, ◌⊎◌, inl, inr, subst, sym, refl, ap, arith}
 use Rattle.std.specs.Prelude.{Contains}
 use Rattle.std.proofs.lemmas.Int.{ints, by_lt_z}
@@ -52,7 +53,7 @@ left_of : (b c : Box2) (j : ℤ) → StandsInBands b c → HasRow b j → HasRow
 left_of b c j (inl below) p q = absurd (omega (arith, ints, below, p.1, q.0))
 left_of b c j (inr beside) p q = beside.2
 
--- two boxes of one row are one, or apart
+-- two boxes with a row in common are equal, or apart
 alike : (boxes : List Box2) (b c : Box2) (j : ℤ) → AreBands boxes → Contains boxes b
     → Contains boxes c → HasRow b j → HasRow c j → (b ≡ c) ⊎ ((b.x1 <ℤ c.x0) ⊎ (c.x1 <ℤ b.x0))
 alike boxes b c j h p q u v =
@@ -109,7 +110,7 @@ box_of_fall boxes x j r =
     (λ less. absurd (lacks boxes s.0 x j r.1 s.1 (omega (arith, ints, s.2.left)) less u))
     (λ more. (s.0, s.1, omega (arith, ints, more, s.2.right), u))
 
--- the box between a rise and a fall with all between covered
+-- the box between a rise and a fall, if everything between is covered
 pub box_of_width : (boxes : List Box2) (x1 x2 j : ℤ) → AreBands boxes → IsRise (covers boxes) x1 j
     → IsFall (covers boxes) x2 j → x1 <ℤ x2
     → ((i : ℤ) → x1 ≤ℤ i → i <ℤ x2 → covers boxes i j ≡ true) → (b : Box2) × Contains boxes b
@@ -131,11 +132,11 @@ box_of_width boxes x1 x2 j h r f l between =
 
 -- ---- lists of edges
 
--- the edge that an index past the end is taken to give
+-- the default edge of an index past the end
 abbrev pub no_edge : Edge
 no_edge = record { x = pos 0; y0 = pos 0; y1 = pos 0 }
 
--- the list has just the edges of E
+-- the list has exactly the edges of E
 pub record EdgesAre (edges : List Edge) (E : ℤ → ℤ → Type 0) : Type 0 where
   pub there : (e : Edge) (j : ℤ) → Contains edges e → IsInRow e j → E e.x j
   pub back : (x j : ℤ) → E x j → (e : Edge) × Contains edges e × ((e.x ≡ x) × IsInRow e j)

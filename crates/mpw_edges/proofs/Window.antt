@@ -1,3 +1,4 @@
+-- The laws of exchanged coordinates and of windows.
 use Rattle.std.proofs.Common.{◌≡◌, ℕ, ◌+◌, ◌≤◌, ℤ, pos, ◌-ℤ◌, ◌≤ℤ◌, ◌<ℤ◌, inl, inr, refl, sym, ap, ◌∙◌, arith}
 use Rattle.std.specs.Prelude.{◌↔◌, ◌⊎◌}
 use Rattle.std.proofs.lemmas.Int.{ints}
@@ -71,7 +72,7 @@ at_first x1 x2 = omega (arith, ints)
 weak : (x1 x2 : ℤ) → x1 <ℤ x2 → x1 ≤ℤ x2
 weak x1 x2 h = omega (arith, ints, h)
 
--- either side of two layers, where each of its steps stays
+-- either side of two layers, if each of its steps stays
 either_same : {S T A B C D A' B' C' D' : Type 0} → (A → A') → (B → B') → (C → C') → (D → D')
     → ((S × A × B) ⊎ (T × C × D)) → ((S × A' × B') ⊎ (T × C' × D'))
 either_same a b c d (inl p) = inl (p.0, a p.1, b p.2)

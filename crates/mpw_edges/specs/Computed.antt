@@ -1,4 +1,4 @@
--- The tests that decide pair steps: worked examples can be computed by them, and proofs go by them.
+-- The computed tests of pair steps, for worked examples and proofs.
 use Rattle.std.specs.Prelude.{◌≡◌, ℕ, zero, suc, ℤ, pos, negsuc, ◌+ℤ◌, ◌-ℤ◌, int_le, int_lt, Bool, true, ◌&&◌, ◌||◌, not, ◌==◌, ◌↔◌}
 use Rattle.mpw_deck.specs.declared.rule.Check.{Check}
 use Rattle.mpw_deck.specs.declared.rule.Check.TheVariants.{Width, Space, Separation, Enclosing}
@@ -39,7 +39,7 @@ abbrev pub has_pair_step : Check → ℕ → Squares → Squares → ℕ → ℤ
 has_pair_step check distance a b side x1 x2 j =
     has_pair check a b side x1 x2 j && int_lt (x2 -ℤ x1) (pos distance)
 
--- the test is true exactly at pair steps
+-- the test is true exactly for pair steps
 abbrev pub TestDecidesPairSteps : Type 0
 TestDecidesPairSteps =
     (check : Check) (distance : ℕ) (a b : Squares) (side : ℕ) (x1 x2 j : ℤ)

@@ -9,10 +9,10 @@ Squares = ℤ → ℤ → Bool
 abbrev pub exchanged : Squares → Squares
 exchanged squares i j = squares j i
 
--- a rise at x in row j: the square at x is there, the one before isn't
+-- a rise at x in row j: the square at x is covered, the one before isn't
 abbrev pub IsRise : Squares → ℤ → ℤ → Type 0
 IsRise squares x j = (squares x j ≡ true) × (squares (x -ℤ pos 1) j ≡ false)
 
--- a fall at x in row j: the square before x is there, the one at x isn't
+-- a fall at x in row j: the square before x is covered, the one at x isn't
 abbrev pub IsFall : Squares → ℤ → ℤ → Type 0
 IsFall squares x j = (squares (x -ℤ pos 1) j ≡ true) × (squares x j ≡ false)

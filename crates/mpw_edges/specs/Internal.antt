@@ -1,2 +1,2 @@
--- What private functions and proofs alone need: no public contract speaks of it.
+-- Definitions for private functions and proofs. No public contract refers to them.
 pub mod Pairs

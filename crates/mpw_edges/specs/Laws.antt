@@ -1,4 +1,4 @@
--- Laws of the definitions alone.
+-- Laws about the definitions.
 use Rattle.std.specs.Prelude.{◌≡◌, ℕ, ◌+◌, ◌≤◌, ℤ, ◌≤ℤ◌, ◌<ℤ◌, ◌↔◌}
 use Rattle.mpw_geom.specs.declared.plane.Box2.{Box2}
 use Rattle.mpw_geom.specs.Plane.{widened}
@@ -30,7 +30,7 @@ abbrev pub AreSameIn : Box2 → Squares → Squares → Type 0
 AreSameIn window a b =
     (i j : ℤ) → window.x0 ≤ℤ i → i <ℤ window.x1 → window.y0 ≤ℤ j → j <ℤ window.y1 → a i j ≡ b i j
 
--- what a core finds depends on the squares of its window alone: the core widened by the greatest distance plus 1
+-- what a core finds depends only on the squares of its window: the core extended by the greatest distance plus 1
 abbrev pub WindowDecides : Type 0
 WindowDecides =
     (rule : Rule) (greatest : ℕ) (a b a' b' : Squares) (core : Box2) → rule.distance ≤ greatest

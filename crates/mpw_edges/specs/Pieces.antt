@@ -1,4 +1,4 @@
--- What a core finds: the maximal runs of rows with one pair step.
+-- What a core finds: the maximal runs of rows with the same pair step.
 use Rattle.std.specs.Prelude.{◌≡◌, ℕ, ℤ, pos, ◌-ℤ◌, ◌≤ℤ◌, ◌<ℤ◌}
 use Rattle.std.specs.Ordering.{nat_cmp, int_cmp, ordering_then}
 use Rattle.std.specs.declared.cmp.Ordering.{Ordering}

@@ -4,7 +4,7 @@ use Rattle.mpw_deck.specs.declared.rule.Check.{Check}
 use Rattle.mpw_deck.specs.declared.rule.Check.TheVariants.{Width, Space, Separation, Enclosing}
 use Rattle.mpw_edges.specs.Edges.{Squares, IsRise, IsFall}
 
--- width: a rise, a fall to its right, and all between covered
+-- width: a rise, a fall to its right, and everything between covered
 abbrev pub IsWidth : Squares → ℕ → ℤ → ℤ → ℤ → Type 0
 IsWidth a side x1 x2 j = (side ≡ 0) × IsRise a x1 j × IsFall a x2 j × (x1 <ℤ x2)
     × ((i : ℤ) → x1 ≤ℤ i → i <ℤ x2 → a i j ≡ true)
@@ -13,7 +13,7 @@ IsWidth a side x1 x2 j = (side ≡ 0) × IsRise a x1 j × IsFall a x2 j × (x1 <
 abbrev pub IsSpace : Squares → ℕ → ℤ → ℤ → ℤ → Type 0
 IsSpace a side x1 x2 j = (side ≡ 0) × IsFall a x1 j × IsRise a x2 j × (x1 <ℤ x2)
 
--- separation: a fall of one layer, and a rise of the other at it or later; side 0 where the first layer falls
+-- separation: a fall of one layer, and a rise of the other at it or later; side 0 if the first layer falls
 abbrev pub IsSeparation : Squares → Squares → ℕ → ℤ → ℤ → ℤ → Type 0
 IsSeparation a b side x1 x2 j = (x1 ≤ℤ x2)
     × (((side ≡ 0) × IsFall a x1 j × IsRise b x2 j) ⊎ ((side ≡ 1) × IsFall b x1 j × IsRise a x2 j))

@@ -1,4 +1,4 @@
-//! The vertical edges of a region, and what each check looks for among them.
+//! The vertical edges of a region, and which pairs of them each check finds.
 
 ghost use Rattle.std.specs.Prelude.{◌≡◌, ◌<ℤ◌, ◌-ℤ◌, pos, IfOk, OnOk, map};
 ghost use Rattle.mpw_region.specs.Internal.Runs.{Adds, Finds};
@@ -23,14 +23,14 @@ use mpw_geom::Box2;
 use mpw_region::Run;
 use std::alloc::{AllocError, Global};
 
-/// An end of a box from left to right: where it begins, or where it ends.
+/// An end of a box from left to right: its beginning or its end.
 #[derive(Clone, Copy)]
 pub(crate) enum End {
     Rise,
     Fall,
 }
 
-/// Which edges of two layers are pairs: those of the first layer with later ones of the second, and those of the second with
+/// Which edges of two layers form pairs: those of the first layer with later ones of the second, and those of the second with
 /// later ones of the first.
 #[derive(Clone, Copy)]
 pub(crate) struct Ends {
@@ -72,7 +72,7 @@ fn edges(alloc: Global, boxes: &[Box2], end: End) -> Result<Vec<Edge>, AllocErro
     }
 }
 
-/// Adds the rows of the pairs on one side: of edges at an end of the first boxes with later ones at an end of the second.
+/// Adds the rows of the pairs on one side: edges at an end of the first boxes with later ones at an end of the second.
 fn add_pairs_of(
     alloc: Global,
     runs: &mut Vec<Run>,
@@ -104,7 +104,7 @@ fn add_widths(runs: &mut Vec<Run>, boxes: &[Box2], limits: &Limits) -> Result<()
     Ok(())
 }
 
-/// The rows of the rises and falls of one layer that bound what is covered between them.
+/// The rows of the rises and falls of one layer between which everything is covered.
 fn widths(alloc: Global, boxes: &[Box2], distance: u32, core: Box2) -> Result<Vec<Run>, AllocError>
     requires { AreBands boxes.now }
     ensures { IfOk result (λ v. Finds v.items (λ line j.
@@ -139,7 +139,7 @@ fn spaces(alloc: Global, boxes: &[Box2], distance: u32, core: Box2) -> Result<Ve
     Ok(runs)
 }
 
-/// The rows of edges of each layer and later ones of the other, touching ones too.
+/// The rows of edges of each layer and later ones of the other, including touching ones.
 fn between(
     alloc: Global,
     first: &[Box2],
@@ -189,8 +189,8 @@ fn enclosing() -> Ends
     }
 }
 
-/// The rows with a pair step between vertical edges of the regions' boxes, cut where a band of either
-/// region ends. A width costs a test a box, the others what [`add_pairs`] does.
+/// The rows with a pair step between vertical edges of the regions' boxes, split where a band of either
+/// region ends. Cost: one test for each box for a width, and what [`add_pairs`] takes for the others.
 pub(crate) fn runs(
     alloc: Global,
     rule: &Rule,

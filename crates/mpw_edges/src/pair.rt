@@ -1,7 +1,7 @@
-//! Pairs of edges, one of each list, that are near each other in a row of a core.
+//! Finds pairs of edges, one of each list, that are near each other in a row of a core.
 //!
-//! Each pair within the distance is told, as a rule is defined, and not the nearest alone. The edges of one list stand at
-//! least 2 nm apart in a row; so where many lie within the distance, an edge has up to half of it, in nm, of pairs in that row.
+//! All pairs within the distance are found, as the rules are defined, and not only the nearest. The edges of one list are at
+//! least 2 nm apart in a row. So an edge has at most half the distance, in nm, of pairs in that row.
 
 ghost use Rattle.std.specs.Prelude.{
   ◌≡◌,
@@ -35,10 +35,10 @@ use mpw_geom::Box2;
 use mpw_region::{Line, Run};
 use std::alloc::AllocError;
 
-/// So many edges are looked at one by one before a binary search.
+/// This many edges are tested one by one before a binary search.
 const FEW: usize = 16;
 
-/// An edge at `x` through the rows from `y0` to before `y1`, in nm.
+/// An edge at `x` in the rows from `y0` to before `y1`, in nm.
 #[derive(Clone, Copy)]
 pub(crate) struct Edge {
     pub(crate) x: i64,
@@ -46,7 +46,7 @@ pub(crate) struct Edge {
     pub(crate) y1: i64,
 }
 
-/// What makes two edges a pair: whether touching counts, the distance in nm that they are nearer
+/// What makes two edges a pair: whether touching counts, the distance in nm that they must be nearer
 /// than, and the core of the lower left point.
 #[derive(Clone, Copy)]
 pub(crate) struct Limits {
@@ -56,7 +56,7 @@ pub(crate) struct Limits {
 }
 
 impl Limits {
-    /// Edges of one place aren't near each other.
+    /// The limits for checks in which edges at the same position aren't a pair.
     pub(crate) fn apart(distance: u32, core: Box2) -> Limits
         ensures { result ≡ record { touching = false; distance = distance; core = core } }
     {
@@ -112,7 +112,7 @@ fn rows_of(from: &Edge, to: &Edge, core: &Box2) -> Option<(i64, i64)>
     Some((y0, y1))
 }
 
-/// The run of rows of the core that both edges have, where they are near and the first lies in the
+/// The run of rows of the core that both edges have, if they are near and the first lies in the
 /// core.
 fn run_of(side: u8, from: &Edge, to: &Edge, limits: &Limits) -> Option<Run>
     ensures { MatchOption result
@@ -169,8 +169,8 @@ fn is_inside(from: &Edge, core: &Box2) -> bool
     core.x0 <= from.x && from.x < core.x1
 }
 
-/// The place of the first edge that isn't left of this one, where those before `start` are. The first few from there
-/// are looked at one by one, and behind them a binary search.
+/// The index of the first edge that isn't left of this one. Those before `start` are left of it. The first few from there
+/// are tested one by one, and the others by a binary search.
 fn place_of(tos: &[Edge], start: usize, from: &Edge) -> usize
     requires ordered { AllPairs IsLeftOf tos.now }
     requires within { start ≤ length tos.now }
@@ -186,7 +186,7 @@ fn place_of(tos: &[Edge], start: usize, from: &Edge) -> usize
     tos.partition_point(|to| to.x < from.x)
 }
 
-/// Adds the rows of each pair of this edge and one of a band's, those before `start` being left of it: one test a pair and
+/// Adds the rows of each pair of this edge and one of a band's. Those before `start` are left of it. Cost: one test for each pair, and
 /// one more.
 fn add_pairs_from(
     runs: &mut Vec<Run>,
@@ -236,7 +236,7 @@ fn add_band_pairs(
     Ok(())
 }
 
-/// How many edges the band of the first one has. The first few are looked at one by one, and behind them a binary search.
+/// How many edges the band of the first one has. The first few are tested one by one, and the others by a binary search.
 fn band_length(edges: &[Edge]) -> usize
     requires edges { AreEdges edges.now }
     requires some { 1 ≤ length edges.now }
@@ -251,7 +251,7 @@ fn band_length(edges: &[Edge]) -> usize
     edges.partition_point(|edge| edge.y0 <= first.y0)
 }
 
-/// How many edges, from the first on, end where the other begins or below it. A test an edge and one more.
+/// How many edges, from the first on, end where the other begins or below it. Cost: one test for each of them, and one more.
 fn count_below(edges: &[Edge], other: &Edge) -> usize
     ensures within { result ≤ length edges.now }
     ensures below { All (λ e. e.y1 ≤ℤ other.now.y0) (take result edges.now) }
@@ -278,8 +278,8 @@ fn end_together(from: &Edge, to: &Edge) -> bool
     from.y1 == to.y1
 }
 
-/// Adds the rows of each pair of the lists' lowest bands, and tells how many edges of each list have no
-/// further pairs: those that lie below the other list, or else the band that ends first, or both bands.
+/// Adds the rows of each pair of the lists' lowest bands. Returns how many edges of each list have no
+/// more pairs: those that lie below the other list, or else the band that ends first, or both bands.
 fn add_bands(
     runs: &mut Vec<Run>,
     side: u8,
@@ -321,10 +321,10 @@ fn add_bands(
 
 /// Adds the rows of each pair of an edge of each list.
 ///
-/// The bands of both lists are gone through from below, by two pointers. In two bands with rows in
-/// common each edge of the first looks for the near ones of the second: a search from where that of the edge left of it
-/// ended, which is binary where it goes far, and the pairs that it finds. Each of these is a run of its own: up to half the
-/// distance, in nm, for an edge and a band.
+/// The bands of both lists are visited from below, by two pointers. In two bands with rows in common, each edge of the
+/// first needs the near ones of the second: a search from where the search of the edge to its left ended, which is binary
+/// if it goes far, and the pairs that it finds. Each pair is a run of its own: at most half the distance, in nm, for an
+/// edge and a band.
 pub(crate) fn add_pairs(
     runs: &mut Vec<Run>,
     side: u8,

@@ -1,4 +1,4 @@
-//! The pieces that a core finds.
+//! Finds the pieces of a core.
 
 ghost use Rattle.std.specs.Prelude.{◌≡◌, ◌↔◌, ◌++◌, ℤ, IfOk, map, Contains, AllPairs};
 ghost use Rattle.mpw_region.specs.declared.runs.Line.{Line as LineValue};
@@ -22,14 +22,14 @@ use mpw_geom::Box2;
 use mpw_region::{Bands, Run, exchanged_box, join_runs};
 use std::alloc::{AllocError, Global};
 
-/// The maximal runs of rows with a pair step between vertical edges of bands, whose boxes are given: the line
-/// of a run has the side, `x1` and `x2`. They are what [`pieces`] tells of axis `V`, for a caller that finds
+/// The maximal runs of rows with a pair step between vertical edges of the bands with these boxes. The line
+/// of a run has the side, `x1` and `x2`. They are what [`pieces`] finds on axis `V`, for a caller that finds
 /// the steps of many cores and joins their runs.
 ///
-/// For `k` runs before they are joined the cost is that of finding them (see [`pieces`]) and `k log k`.
+/// Cost for `k` runs before they are joined: that of finding them (see [`pieces`]) and `k log k`.
 ///
 /// # Errors
-/// Where there is no room.
+/// Out of memory.
 pub fn vertical_steps(
     alloc: Global,
     rule: &Rule,
@@ -90,7 +90,7 @@ fn pieces_on(alloc: Global, axis: Axis, runs: &[Run]) -> Result<Vec<Piece>, Allo
 /// The runs of both axes as pieces, those of axis `V` first. One pass.
 ///
 /// # Errors
-/// Where there is no room.
+/// Out of memory.
 pub fn pieces_of(
     alloc: Global,
     vertical: &[Run],
@@ -105,21 +105,21 @@ pub fn pieces_of(
     Ok(pieces)
 }
 
-/// What the rule finds in the half-open core, from `(x0, y0)` to before `(x1, y1)`: the maximal runs
-/// of rows with one pair step, ordered by axis, side, `x1`, `x2` and `y0`. `first` is the region of
+/// What the rule finds in the half-open core, from `(x0, y0)` to before `(x1, y1)`: the maximal runs of
+/// rows with the same pair step, ordered by axis, side, `x1`, `x2` and `y0`. `first` is the region of
 /// the check's first layer, `second` that of its second; a check of one layer ignores `second`.
 ///
 /// A pair step of axis `V` in row `j` belongs to the core with the point `(x1, j)`; on axis `H` the
-/// coordinates are exchanged. So what is found depends on the squares of the core alone, widened on
+/// coordinates are exchanged. So the result depends only on the squares of the core, extended on
 /// each side by the distance plus 1.
 ///
-/// The cost on each axis is a test a box for a width. For the other checks it is, in each two bands of
+/// Cost on each axis: one test for each box for a width. For the other checks, in each two bands of
 /// the regions with rows in common, a binary search for each box of the first, and the pairs found,
-/// which are cut where a band ends; each list of bands is gone through once. Then the runs found are
-/// sorted and joined.
+/// which are split where a band ends; each list of bands is visited once. Then the runs are sorted
+/// and joined.
 ///
 /// # Errors
-/// Where there is no room.
+/// Out of memory.
 pub fn pieces(
     alloc: Global,
     rule: &Rule,

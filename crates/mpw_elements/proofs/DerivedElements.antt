@@ -1,4 +1,4 @@
--- An element is read exactly where the records derive it.
+-- An element is read exactly if the records derive it.
 use Rattle.std.proofs.Common.{◌≡◌, ℕ, Bool, true, false, eqb, ◌||◌, ◌&&◌, not, List, [], ◌∷◌, Option, Some, None, Ok, Err, refl, ap, subst, ◌∙◌, inl, inr}
 use Rattle.std.proofs.lemmas.Bool.{eqb-true}
 use Rattle.mpw_structures.specs.declared.element.Element.{Element}
@@ -67,7 +67,7 @@ ignored_complete (Behind.over {s = s} p d) start rest =
 
 -- ---- all of them
 
--- an element that is read behind its first record is derived with it, where what is read is derived
+-- an element that is read after its first record is derived with it, if what is read is derived
 first_of : {A : Type 0} (unit : ℕ) (first : RawRecord) (all : List RecordOutcome)
     (read : Reading A) (make : A → Option Element) (D : List RawRecord → A → Type 0)
     (x : Option Element × List RecordOutcome)

@@ -1,4 +1,4 @@
--- Reading one record of an element: it is read exactly where it stands, behind records that say nothing.
+-- Reading one record of an element: it is read exactly if it is there, after records that are skipped.
 use Rattle.std.proofs.Common.{◌≡◌, ℕ, Bool, true, false, cond, eqb, ◌||◌, List, [], ◌∷◌, ◌++◌, Result, Ok, Err, refl, sym, ap, subst, ◌∙◌, inl, inr}
 use Rattle.std.specs.Prelude.{◌⊎◌}
 use Rattle.std.proofs.lemmas.Bool.{eqb-true}
@@ -38,7 +38,7 @@ chosen false x y z e = inr (refl, e)
 pub equals : (a b : ℕ) → a ≡ b → eqb a b ≡ true
 equals a b e = elim (eqb_tells a b) [ inl p ↦ p.0 | inr p ↦ absurd (p.1 e) ]
 
--- ---- records one behind the other
+-- ---- records one after the other
 
 pub records_both : (xs ys : List RawRecord) (rest : List RecordOutcome)
     → records_then (xs ++ ys) rest ≡ records_then xs (records_then ys rest)
@@ -100,7 +100,7 @@ pub demanded_complete : (kind : ℕ) (r : RawRecord) → r.kind ≡ kind → dem
 unfolding demanded
 demanded_complete kind r e = rw (equals r.kind kind e) refl
 
--- a record that was read ahead, and is of the type that is demanded
+-- a record that was read ahead, and has the type that is demanded
 pub ahead_sound : (start kind : ℕ) (all : List RecordOutcome)
     (next : RawRecord × List RecordOutcome) (r : RawRecord) → field start all ≡ Ok next
     → demanded kind next.0 ≡ Ok r → Begins all next.1 (λ rs. IsField kind rs r)
@@ -138,7 +138,7 @@ expected_complete {kind = kind} {r = r} d start rest h =
 
 -- ---- a record that was read ahead
 
--- some records of which all is told, and the record read ahead behind them
+-- some records with a property, and the record read ahead after them
 pub record BeginsAhead (start : ℕ) (all : List RecordOutcome)
     (next : RawRecord × List RecordOutcome) (Told : List RawRecord → Type 0) : Type 0 where
   pub rest : List RecordOutcome
@@ -183,7 +183,7 @@ abbrev pub is_among : List ℕ → ℕ → Bool
 is_among [] kind = false
 is_among (k ∷ kinds) kind = eqb kind k || is_among kinds kind
 
--- the record that stands next is of one of these types
+-- the next record has one of these types
 pub record Ahead (start : ℕ) (all : List RecordOutcome) (next : RawRecord × List RecordOutcome)
     (kinds : List ℕ) : Type 0 where
   pub reads : field start all ≡ Ok next
@@ -211,7 +211,7 @@ or_more : (a b : Bool) → b ≡ true → (a || b) ≡ true
 or_more true b e = refl
 or_more false b e = e
 
--- the record that stands ahead of what may be absent, and what reading gives from there
+-- the record ahead of an optional one, and the result of reading from there
 pub record OptionalAhead {V : Type 0} (start kind : ℕ) (value : RawRecord → Result V ReadFault)
     (default v : V) (all : List RecordOutcome) (next : RawRecord × List RecordOutcome)
     (kinds : List ℕ) : Type 0 where

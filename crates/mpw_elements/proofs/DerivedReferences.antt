@@ -1,4 +1,4 @@
--- A reference is read exactly where the records derive it.
+-- A reference is read exactly if the records derive it.
 use Rattle.std.proofs.Common.{◌≡◌, ℕ, false, eqb, List, [], ◌∷◌, ◌++◌, Ok, refl, ap, subst, ◌∙◌, inl, inr}
 use Rattle.std.proofs.lemmas.Bool.{eqb-true}
 use Rattle.mpw_structures.specs.declared.element.Reference.{Reference}
@@ -56,7 +56,7 @@ orientation_sound start all next read x e =
           })
     ]
 
--- the record that stands ahead of an orientation, and what reading gives from there
+-- the record ahead of an orientation, and the result of reading from there
 record OrientAhead (start : ℕ) (orient : Orient) (all : List RecordOutcome)
     (next : RawRecord × List RecordOutcome) : Type 0 where
   before : RawRecord × List RecordOutcome
@@ -107,7 +107,7 @@ single_end start unit name orient next rs = do
     last.1,
   )
 
--- a reference whose rest is read so, behind its name and its orientation, is derived
+-- a reference whose rest is read in this way, after its name and its orientation, is derived
 abbrev IsEndSound : ℕ → (List ℕ → Orient → RawRecord → List RecordOutcome → Reading Reference)
     → (List RawRecord → Reference → Type 0) → Type 0
 IsEndSound start end D =
@@ -117,7 +117,7 @@ IsEndSound start end D =
     → Begins o2 o3 (λ rs. DerivesOrient rs orient) → field start o3 ≡ Ok (next, rs)
     → end name orient next rs ≡ Ok x → Begins o1 x.1 (λ rs. D rs x.0)
 
--- what stands before the rest of a reference is read alike for one instance and for an array
+-- what comes before the rest of a reference is read in the same way for one instance and for an array
 reference_sound : (start : ℕ)
     (end : List ℕ → Orient → RawRecord → List RecordOutcome → Reading Reference)
     (D : List RawRecord → Reference → Type 0)

@@ -1,4 +1,4 @@
--- A boundary and a path are read exactly where the records derive them.
+-- A boundary and a path are read exactly if the records derive them.
 use Rattle.std.proofs.Common.{◌≡◌, ℕ, pos, false, List, [], ◌∷◌, ◌++◌, Ok, refl, ap, subst, ◌∙◌}
 use Rattle.mpw_structures.specs.declared.element.Boundary.{Boundary}
 use Rattle.mpw_structures.specs.declared.element.Path.{Path}
@@ -154,7 +154,7 @@ path_end_sound start unit o1 o2 o3 o4 o5 o6 o7 layer datatype path_type width be
     v.1
     (expected_sound start ENDEL rs l.0 l.1))
 
--- path behind DATATYPE
+-- path after DATATYPE
 abbrev path_rest : (start unit : ℕ) (layer datatype : RawRecord) → RawRecord × List RecordOutcome
     → Reading Path
 path_rest start unit layer datatype next = do

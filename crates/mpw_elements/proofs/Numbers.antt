@@ -47,13 +47,13 @@ joined xs e some within =
     let at : (e - 1) + 1 ≡ e = omega arith in
     sym (ap (λ n. take n xs) at) ∙ take_more xs (e - 1) 0 (omega arith)
 
--- a NUL behind the rest is taken off
+-- a NUL after the rest is taken off
 pub trim_zero : (xs : List ℕ) (e : ℕ) → 0 < e → e ≤ length xs → get_or xs (e - 1) 0 ≡ 0
     → without_nuls (take (e - 1) xs) ≡ without_nuls (take e xs)
 trim_zero xs e some within h = sym (ap without_nuls
     (joined xs e some within ∙ ap (λ b. take (e - 1) xs ++ b ∷ []) h) ∙ nul_last (take (e - 1) xs))
 
--- behind another byte nothing is
+-- after another byte nothing is
 pub trim_done : (xs : List ℕ) (e : ℕ) → 0 < e → e ≤ length xs → (get_or xs (e - 1) 0 ≡ 0 → ⊥)
     → without_nuls (take e xs) ≡ take e xs
 trim_done xs e some within h =

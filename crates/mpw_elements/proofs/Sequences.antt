@@ -9,14 +9,14 @@ use Rattle.mpw_elements.specs.Values.{corners_of, centre_of, origin_of, path_typ
 use Rattle.mpw_elements.specs.Grammar.{boundary, path, orientation, single, array, element}
 use Rattle.mpw_elements.specs.Internal.Grammar.{layer, end_element, boundary_by_layer, breadth, path_by_breadth, single_behind, array_behind, reference, element_by_parts, as_element}
 
--- Two steps and a third behind them are the first step and the others behind it.
+-- Two steps and a third after them are the first step and the two others after it.
 behind : {A B C : Type 0} (m : Result A ReadFault) (f : A → Result B ReadFault)
     (g : B → Result C ReadFault) (h : A → Result C ReadFault) → ((x : A) → (f x >>= g) ≡ h x)
     → ((m >>= f) >>= g) ≡ (m >>= h)
 behind (Ok x) f g h same = same x
 behind (Err e) f g h same = refl
 
--- What begins with the same step goes on alike.
+-- If two readings begin with the same step and continue in the same way, they are equal.
 alike : {A B C D : Type 0} (m : Result A ReadFault) (f : A → Result B ReadFault)
     (g : B → Result D ReadFault) (h : A → Result C ReadFault) (k : C → Result D ReadFault)
     → ((x : A) → (f x >>= g) ≡ (h x >>= k)) → ((m >>= f) >>= g) ≡ ((m >>= h) >>= k)

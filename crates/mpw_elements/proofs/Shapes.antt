@@ -1,4 +1,4 @@
--- What is read satisfies what elements do.
+-- What is read has the properties of elements.
 use Rattle.std.proofs.Common.{◌≡◌, ℕ, zero, suc, ◌+◌, ◌-◌, ◌*◌, ◌/◌, ◌%◌, ◌^◌, ◌<◌, ◌≤◌, Bool, true, false, cond, not, ◌&&◌, ltb, leb, eqb, ℤ, pos, negsuc}
 use Rattle.std.proofs.Common.{List, [], ◌∷◌, length, take, drop, map, Ok, Err, refl, sym, ap, subst, ◌∙◌, inl, inr, arith, length-take}
 use Rattle.std.specs.Prelude.{unsigned_abs, int_div}
@@ -157,7 +157,7 @@ and_both : (a b : Bool) → (a && b) ≡ true → (a ≡ true) × (b ≡ true)
 and_both true b e = (refl, e)
 and_both false b e = absurd cc
 
--- x and y are one number both ways
+-- equality of points is symmetric
 turned : (p q : Point) → same_point q p ≡ same_point p q
 turned p q = ap (λ b. b && int_eq q.y p.y) (int_eq_equiv.symm q.x p.x)
     ∙ ap (λ b. int_eq p.x q.x && b) (int_eq_equiv.symm q.y p.y)

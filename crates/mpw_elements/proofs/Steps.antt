@@ -27,7 +27,7 @@ module _ (f : Point → Point → Bool) (d : Point) where
   and_assoc3 true b c = refl
   and_assoc3 false b c = refl
 
-  -- one more point behind the last, which has the index k
+  -- one more point after the last, which has the index k
   pub step_more : (ps : List Point) (k : ℕ) (q : Point) → k + 1 ≡ length ps
       → each_step f (ps ++ q ∷ []) ≡ (each_step f ps && f (get_or ps k d) q)
   step_more [] k q e = absurd (omega arith)

@@ -1,4 +1,4 @@
--- The elements by cases (GDSII Stream, "Stream syntax"): of which element a list of records is the text, from its first record to ENDEL.
+-- The elements by cases (GDSII Stream, "Stream syntax"): which element a list of records is, from its first record to ENDEL.
 use Rattle.std.specs.Prelude.{◌≡◌, ◌↔◌, ℕ, ◌&&◌, ◌==◌, not, Bool, true, ℤ, pos, List, [], ◌∷◌, ◌++◌, Option, Some, None, Result, Ok}
 use Rattle.mpw_geom.specs.declared.plane.Point.{Point}
 use Rattle.mpw_geom.specs.declared.plane.Orient.{Orient}
@@ -17,24 +17,24 @@ use Rattle.mpw_structures.specs.Coordinates.{no_point}
 use Rattle.mpw_elements.specs.Values.{short_of, corners_of, centre_of, origin_of, path_type_of, width_of, extension_of, lengthening, name_of, mirrored_of, magnification_of, turns_of, orient_of, counts_of, grid_of}
 use Rattle.mpw_elements.specs.Grammar.{element}
 
--- A record of a type, behind any records that may be passed over.
+-- A record of a type, after any records that may be skipped.
 pub data Behind (passed : ℕ → Bool) (kind : ℕ) : List RawRecord → RawRecord → Type 0 where
   here : {r : RawRecord} → r.kind ≡ kind → Behind passed kind (r ∷ []) r
   over : {s r : RawRecord} {rs : List RawRecord} → passed s.kind ≡ true → Behind passed kind rs r
       → Behind passed kind (s ∷ rs) r
 
--- A record of an element. ELFLAGS, PLEX, PROPATTR and PROPVALUE may stand before it.
+-- A record of an element. ELFLAGS, PLEX, PROPATTR and PROPVALUE may come before it.
 abbrev pub IsField : ℕ → List RawRecord → RawRecord → Type 0
 IsField kind rs r = Behind is_skipped kind rs r
 
--- A record of an element that may be absent, and the value that it tells, else a default.
+-- An optional record of an element, with its value; or a default if it is absent.
 pub data IsOptional {V : Type 0} (kind : ℕ) (value : RawRecord → Result V ReadFault) (default : V) :
     List RawRecord → V → Type 0 where
   absent : IsOptional kind value default [] default
   present : {rs : List RawRecord} {r : RawRecord} {v : V} → IsField kind rs r → value r ≡ Ok v
       → IsOptional kind value default rs v
 
--- BOUNDARY LAYER DATATYPE XY ENDEL, behind its first record; BOX has BOXTYPE for DATATYPE.
+-- BOUNDARY LAYER DATATYPE XY ENDEL, after its first record; BOX has BOXTYPE for DATATYPE.
 pub data DerivesBoundary (unit datatype_kind : ℕ) : List RawRecord → Boundary → Type 0 where
   boundary : {layers datatypes xys lasts : List RawRecord} {layer datatype xy last : RawRecord}
       {corners : List Point}
@@ -48,7 +48,7 @@ pub data DerivesBoundary (unit datatype_kind : ℕ) : List RawRecord → Boundar
         points = corners;
       })
 
--- PATH LAYER DATATYPE [PATHTYPE] [WIDTH] [BGNEXTN] [ENDEXTN] XY ENDEL, behind its first record.
+-- PATH LAYER DATATYPE [PATHTYPE] [WIDTH] [BGNEXTN] [ENDEXTN] XY ENDEL, after its first record.
 pub data DerivesPath (unit : ℕ) : List RawRecord → Path → Type 0 where
   path : {layers datatypes types widths begins ends xys lasts : List RawRecord}
       {layer datatype xy last : RawRecord} {path_type : ℕ} {width begin end : ℤ}
@@ -81,7 +81,7 @@ pub data DerivesOrient : List RawRecord → Orient → Type 0 where
       → IsOptional ANGLE turns_of 0 angles angle
       → DerivesOrient (flags ++ magnifications ++ angles) (orient_of mirrored angle)
 
--- SREF SNAME [STRANS [MAG] [ANGLE]] XY ENDEL, behind its first record.
+-- SREF SNAME [STRANS [MAG] [ANGLE]] XY ENDEL, after its first record.
 pub data DerivesSingle (unit : ℕ) : List RawRecord → Reference → Type 0 where
   single : {names turns xys lasts : List RawRecord} {sname xy last : RawRecord} {name : List ℕ}
       {orient : Orient} {origin : Point}
@@ -100,7 +100,7 @@ pub data DerivesSingle (unit : ℕ) : List RawRecord → Reference → Type 0 wh
         row_step = no_point;
       })
 
--- AREF SNAME [STRANS [MAG] [ANGLE]] COLROW XY ENDEL, behind its first record.
+-- AREF SNAME [STRANS [MAG] [ANGLE]] COLROW XY ENDEL, after its first record.
 pub data DerivesArray (unit : ℕ) : List RawRecord → Reference → Type 0 where
   array : {names turns colrows xys lasts : List RawRecord} {sname colrow xy last : RawRecord}
       {name : List ℕ} {orient : Orient} {counts : ℕ × ℕ} {grid : Grid}
@@ -120,7 +120,7 @@ pub data DerivesArray (unit : ℕ) : List RawRecord → Reference → Type 0 whe
         row_step = grid.row_step;
       })
 
--- What TEXT and NODE may have in them: any record but ENDEL and ENDLIB.
+-- What TEXT and NODE may contain: any record but ENDEL and ENDLIB.
 abbrev pub is_inner : ℕ → Bool
 is_inner kind = not (kind == ENDEL) && not (kind == ENDLIB)
 
@@ -143,20 +143,20 @@ pub data DerivesElement (unit : ℕ) : List RawRecord → Option Element → Typ
   node : {first last : RawRecord} {rs : List RawRecord} → first.kind ≡ NODE
       → Behind is_inner ENDEL rs last → DerivesElement unit (first ∷ rs) None
 
--- ---- what the reading of an element has to do with them
+-- ---- how reading an element relates to them
 
--- The records, none of them a fault, and what stands behind them.
+-- The records, none of them a fault, and what comes after them.
 abbrev pub records_then : List RawRecord → List RecordOutcome → List RecordOutcome
 records_then [] rest = rest
 records_then (r ∷ rs) rest = Ok r ∷ records_then rs rest
 
--- Records without fault, of which something is told, and the rest behind them.
+-- Records without a fault that have a property, and the rest after them.
 pub record Begins (all rest : List RecordOutcome) (Told : List RawRecord → Type 0) : Type 0 where
   pub records : List RawRecord
   pub parts : all ≡ records_then records rest
   pub told : Told records
 
--- Reading gives an element exactly where the records that it takes are without fault and derive the element.
+-- Reading gives an element exactly if the records that it takes have no fault and derive the element.
 abbrev pub ElementsAreDerived : Type 0
 ElementsAreDerived =
     (unit : ℕ) (first : RawRecord) (all rest : List RecordOutcome) (found : Option Element)

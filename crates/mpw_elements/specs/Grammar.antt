@@ -54,7 +54,7 @@ path start unit rs = do
     last.1,
   )
 
--- [STRANS [MAG] [ANGLE]]: the orientation, and the record behind it.
+-- [STRANS [MAG] [ANGLE]]: the orientation, and the record after it.
 unfoldable pub orientation : (start : ℕ) → RawRecord → List RecordOutcome
     → Reading (Orient × RawRecord)
 orientation start r rs =

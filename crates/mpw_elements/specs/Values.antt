@@ -1,4 +1,4 @@
--- What the data of a record tells, and the faults of a value, at its record.
+-- The values of a record's data, and the faults of a value, at its record.
 use Rattle.std.specs.Prelude.{ℕ, zero, suc, ◌+◌, ◌-◌, ◌*◌, ◌/◌, ◌%◌, ◌&&◌, ◌||◌, ◌==◌, not, nat_lt, nat_le, Bool, true, false, bit_and, if◌then◌else◌}
 use Rattle.std.specs.Prelude.{ℤ, pos, neg_ℤ, ◌-ℤ◌, ◌*ℤ◌, unsigned_abs, int_div, int_rem}
 use Rattle.std.specs.Prelude.{List, [], ◌∷◌, length, take, drop, map, slice_index_or, Option, Some, None, Result, Ok, Err}
@@ -34,7 +34,7 @@ point_at unit bytes i =
 unfoldable pub points_of : ℕ → List ℕ → List Point
 points_of unit bytes = map (point_at unit bytes) (range_with_len 0 (length bytes / 8))
 
--- Of two or more points, a last one equal to the first is the closing point.
+-- The last point closes the boundary if there are at least two points and it equals the first.
 unfoldable pub is_closing : List Point → Bool
 is_closing ps = nat_le 2 (length ps) && same_point (slice_index_or ps 0 no_point)
     (slice_index_or ps (length ps - 1) no_point)
@@ -79,7 +79,7 @@ width_of unit r =
 abbrev pub extension_of : ℕ → RawRecord → Result ℤ ReadFault
 extension_of unit r = Ok (scaled unit r.bytes)
 
--- How far an end is lengthened: by type 2 half the width, by type 4 as given, else not.
+-- The extension of an end: half the width for type 2, the given number for type 4, otherwise 0.
 abbrev pub lengthening : ℕ → ℤ → ℤ → ℤ
 lengthening path_type width given =
     if path_type == 4 then given else if path_type == 2 then int_div width (pos 2) else pos 0
@@ -105,7 +105,7 @@ name_of r =
 
 -- ---- orientations
 
--- Whether the reference is mirrored: bit 8000 hex of STRANS. Bit 0002 is refused, and the others say nothing here.
+-- Whether the reference is mirrored: bit 8000 hex of STRANS. Bit 0002 is refused, and the others are ignored.
 unfoldable pub mirrored_of : RawRecord → Result Bool ReadFault
 mirrored_of r = if bit_and (short_of r) 2 == 0 then Ok (not (bit_and (short_of r) 0x8000 == 0))
     else Err (fault_at Absolute r)
@@ -132,7 +132,7 @@ turns_or_fault None r = Err (fault_at Angle r)
 abbrev pub turns_of : RawRecord → Result ℕ ReadFault
 turns_of r = turns_or_fault (turns (real_value r.bytes)) r
 
--- Mirrored about the x axis or not, and then turned counterclockwise.
+-- The orientation that mirrors about the x axis, or doesn't, and then turns counterclockwise.
 abbrev pub orient_of : Bool → ℕ → Orient
 orient_of false zero = R0
 orient_of false (suc zero) = R90
@@ -158,7 +158,7 @@ counts_of r =
 abbrev pub divides : ℕ → ℤ → Bool
 divides n z = int_eq (int_rem z (pos n)) (pos 0)
 
--- The whole number of which n make z, if there is one.
+-- The whole number that is an n-th of z, if there is one.
 abbrev pub part_of : ℕ → ℤ → Option ℤ
 part_of n z = if divides n z then Some (int_div z (pos n)) else None
 
@@ -167,7 +167,7 @@ both (Some x) (Some y) = Some (record { x = x; y = y })
 both (Some x) None = None
 both None y = None
 
--- The step of which n lead from a point to another, if it is whole.
+-- The step that leads from one point to another in n steps, if it is whole.
 abbrev pub step_of : ℕ → Point → Point → Option Point
 step_of n p q = both (part_of n (q.x -ℤ p.x)) (part_of n (q.y -ℤ p.y))
 

@@ -1,4 +1,4 @@
-//! BOUNDARY and BOX.
+//! Reads BOUNDARY and BOX.
 
 ghost use Rattle.std.specs.Prelude.{◌≤◌, length, IfOk, IfSome};
 ghost use Rattle.mpw_structures.specs.Element.{IsElement};
@@ -13,11 +13,11 @@ use crate::shape::corners;
 use mpw_records::{Records, kind};
 use mpw_structures::{Boundary, Element, Storage};
 
-/// The boundary whose first record was read, which begins at `start`, as an element. A box has BOXTYPE in the place
+/// The boundary that begins at `start`, as an element. Its first record was read. A box has BOXTYPE instead
 /// of DATATYPE.
 ///
 /// # Errors
-/// The first fault of its records, or want of memory.
+/// The first fault of its records, or out of memory.
 #[tactic(auto, unfolding(crate::specs::Internal::Grammar::boundary_by_layer, mpw_records::specs::Format::least_size))]
 pub fn read_boundary(
     storage: Storage<'_>,

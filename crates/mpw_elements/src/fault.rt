@@ -1,4 +1,4 @@
-//! Why an element or a library couldn't be read.
+//! The errors of reading an element or a library.
 
 ghost use Rattle.std.specs.Prelude.{◌≡◌};
 ghost use Rattle.mpw_elements.specs.declared.fault.ReadError.TheVariants.{Memory, Fault};
@@ -7,13 +7,13 @@ use mpw_records::ReadFault;
 use std::alloc::{AllocError, AllocFailed};
 use thiserror::Error;
 
-/// The first fault of a text, or want of memory.
+/// The first fault of a text, or out of memory.
 #[derive(Clone, Copy, Debug, Error)]
 pub enum ReadError {
-    /// There was no room for what was read, which says nothing of the text.
+    /// Out of memory. It says nothing about the text.
     #[error("out of memory")]
     Memory,
-    /// The text is no library's: its first fault, with the offset in bytes.
+    /// The text is not a valid library: its first fault, with the offset in bytes.
     #[error("{0}")]
     Fault(ReadFault),
 }

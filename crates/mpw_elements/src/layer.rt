@@ -1,4 +1,4 @@
-//! LAYER with DATATYPE or BOXTYPE.
+//! Reads LAYER with DATATYPE or BOXTYPE.
 
 ghost use Rattle.std.specs.Prelude.{◌≤◌, length};
 ghost use Rattle.mpw_records.specs.Format.{least_size};
@@ -11,7 +11,7 @@ use crate::values::short;
 use mpw_geom::Layer;
 use mpw_records::{Records, kind};
 
-/// The layer of an element that begins at `start`. A box has BOXTYPE in the place of DATATYPE.
+/// The layer of an element that begins at `start`. A box has BOXTYPE instead of DATATYPE.
 ///
 /// # Errors
 /// The first fault of its two records.

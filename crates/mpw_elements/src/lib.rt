@@ -1,4 +1,4 @@
-//! Reading the elements of a GDSII structure by the grammar: boundaries, paths and references, in nm.
+//! Reads the elements of a GDSII structure by the grammar: boundaries, paths and references, in nm.
 #![tactic(auto)]
 
 mod boundary;

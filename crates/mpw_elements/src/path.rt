@@ -1,4 +1,4 @@
-//! PATH.
+//! Reads PATH.
 
 ghost use Rattle.std.specs.Prelude.{◌≤◌, length, IfOk, IfSome, pos};
 ghost use Rattle.mpw_structures.specs.Element.{IsWithinReach, IsElement};
@@ -18,18 +18,18 @@ use crate::values::{lengthening, path_type, width};
 use mpw_records::{Record, Records, kind};
 use mpw_structures::{Boxed, Element, Path, Storage, scale};
 
-/// The width of a path and how far its ends are lengthened, in nm.
+/// The width of a path and the extensions of its ends, in nm.
 #[derive(Clone, Copy)]
 pub struct Breadth {
-    /// The whole width, even and not negative; 0 where there is no WIDTH.
+    /// The whole width, even and not negative; 0 if there is no WIDTH.
     pub width: i64,
-    /// How far it goes beyond the first point, by PATHTYPE and BGNEXTN; it may be negative.
+    /// The extension beyond the first point, by PATHTYPE and BGNEXTN. It may be negative.
     pub begin: i64,
-    /// How far it goes beyond the last point, by PATHTYPE and ENDEXTN; it may be negative.
+    /// The extension beyond the last point, by PATHTYPE and ENDEXTN. It may be negative.
     pub end: i64,
 }
 
-/// PATHTYPE, if the record is one, else 0; and the record behind it.
+/// PATHTYPE if the record is one, else 0; and the record after it.
 #[tactic(auto, unfolding(crate::specs::Reading::optional, mpw_records::specs::Format::least_size))]
 fn optional_path_type<'a>(
     records: &mut Records<'a>,
@@ -47,7 +47,7 @@ fn optional_path_type<'a>(
     value_and_next(records, start, path_type(found))
 }
 
-/// WIDTH, if the record is one, else 0; and the record behind it.
+/// WIDTH if the record is one, else 0; and the record after it.
 #[tactic(auto, unfolding(crate::specs::Reading::optional, mpw_records::specs::Format::least_size))]
 fn optional_width<'a>(
     records: &mut Records<'a>,
@@ -68,7 +68,7 @@ fn optional_width<'a>(
     value_and_next(records, start, width(unit, found))
 }
 
-/// BGNEXTN or ENDEXTN, if the record is one, else 0; and the record behind it.
+/// BGNEXTN or ENDEXTN if the record is one, else 0; and the record after it.
 #[tactic(auto, unfolding(crate::specs::Reading::optional, mpw_records::specs::Format::least_size))]
 fn optional_extension<'a>(
     records: &mut Records<'a>,
@@ -91,7 +91,7 @@ fn optional_extension<'a>(
     value_and_next(records, start, Ok(scale(unit, found.bytes)))
 }
 
-/// How broad a path is and how far its ends are lengthened, and the record behind what tells it.
+/// The width of a path and the extensions of its ends, and the record after these.
 #[tactic(auto, unfolding(crate::specs::Internal::Grammar::breadth, mpw_records::specs::Format::least_size))]
 fn read_breadth<'a>(
     records: &mut Records<'a>,
@@ -117,10 +117,10 @@ fn read_breadth<'a>(
     Ok((breadth, found))
 }
 
-/// The path whose first record was read, which begins at `start`, as an element.
+/// The path that begins at `start`, as an element. Its first record was read.
 ///
 /// # Errors
-/// The first fault of its records, or want of memory.
+/// The first fault of its records, or out of memory.
 #[tactic(auto, unfolding(crate::specs::Internal::Grammar::path_by_breadth, mpw_records::specs::Format::least_size))]
 pub fn read_path(
     storage: Storage<'_>,

@@ -1,4 +1,4 @@
-//! Elements by their records.
+//! Reads elements from their records.
 
 ghost use Rattle.std.specs.Prelude.{◌≡◌, ◌≤◌, [], length, IfOk, IfSome, OnErr};
 ghost use Rattle.mpw_structures.specs.Element.{IsElement};
@@ -16,7 +16,7 @@ use crate::reference::read_reference;
 use mpw_records::{Code, ReadFault, Record, Records, kind};
 use mpw_structures::{Element, Storage};
 
-/// Goes on behind ENDEL.
+/// Skips the records up to ENDEL.
 fn skip(records: &mut Records<'_>, start: usize) -> Result<(), ReadError>
     ensures ignored { GivesReading (λ x. x) result records.new (ignored start records.old) }
     ensures rest { length records.new ≤ length records.old }
@@ -64,16 +64,16 @@ fn one_element(
     }
 }
 
-/// Reads an element whose first record, `first`, was given by `records`, up to its ENDEL: an
-/// element, or none where a TEXT or a NODE ends, which are passed over. Each four-byte number is
-/// multiplied by `unit`, in nm, before it is tested.
+/// Reads an element up to its ENDEL. Its first record, `first`, was read from `records`. Returns the
+/// element, or `None` for a TEXT or a NODE, which are skipped. Each four-byte number is multiplied
+/// by `unit`, in nm, before it is tested.
 ///
-/// It takes memory for an element alone, whose points stay in the text where the storage has that, and looks at each byte a
+/// It takes memory only for one element, whose points stay in the text if the storage has the text, and reads each byte a
 /// fixed number of times.
 ///
 /// # Errors
-/// The fault of the first record that can't stand where it stands, by the order of tests; or want of
-/// memory. From then on `records` gives nothing.
+/// The first fault of the element's records, in the order of the tests; or out of memory. After an error
+/// `records` gives nothing more.
 pub fn read_element(
     storage: Storage<'_>,
     records: &mut Records<'_>,

@@ -1,4 +1,4 @@
-//! Reading on in the records of an element.
+//! Reads the next records of an element.
 
 ghost use Rattle.std.specs.Prelude.{◌≡◌, ◌≤◌, ◌==◌, length, IsTrue, IfOk, IfSome};
 ghost use Rattle.mpw_structures.specs.Element.{IsElement};
@@ -30,10 +30,10 @@ fn is_skipped(kind: u8) -> bool
     )
 }
 
-/// The next record of the element that began at `start`, without those that say nothing of it.
+/// The next record of the element that began at `start`. Records that don't concern its shape are skipped.
 ///
 /// # Errors
-/// The record's fault; `Unexpected` at `start` where there are no more records.
+/// The record's fault; `Unexpected` at `start` if there are no more records.
 pub fn next_field<'a>(records: &mut Records<'a>, start: usize) -> Result<Record<'a>, ReadError>
     ensures field { GivesReading raw result records.new (field start records.old) }
     ensures rest { length records.new ≤ length records.old }
@@ -51,7 +51,7 @@ pub fn next_field<'a>(records: &mut Records<'a>, start: usize) -> Result<Record<
     }))
 }
 
-/// The value that a record told, and the next record of the element. A fault of the value comes first.
+/// The value of a record, and the next record of the element. A fault of the value comes first.
 ///
 /// # Errors
 /// The value's fault, or that of [`next_field`].
@@ -78,10 +78,10 @@ pub fn is_kind(found: Record<'_>, kind: u8) -> bool
     found.kind == kind
 }
 
-/// A record that must be of a type. Constant time.
+/// The record, which must have the given type. Constant time.
 ///
 /// # Errors
-/// `unexpected`, at the record, where it is of another one.
+/// `Unexpected`, at the record, if it has another type.
 #[tactic(auto, unfolding(crate::specs::Reading::demanded))]
 pub fn demand(found: Record<'_>, kind: u8) -> Result<Record<'_>, ReadFault>
     requires { IsSized (raw found) }
@@ -95,7 +95,7 @@ pub fn demand(found: Record<'_>, kind: u8) -> Result<Record<'_>, ReadFault>
     Ok(found)
 }
 
-/// The next record of the element, which must be of a type.
+/// The next record of the element, which must have the given type.
 ///
 /// # Errors
 /// The fault of [`next_field`], or `Unexpected` at a record of another type.

@@ -1,4 +1,4 @@
-//! SREF and AREF.
+//! Reads SREF and AREF.
 
 ghost use Rattle.std.specs.Prelude.{◌≡◌, ◌≤◌, length, IfOk, IfSome};
 ghost use Rattle.mpw_structures.specs.Element.{IsElement};
@@ -20,7 +20,7 @@ use mpw_records::{Record, Records, kind};
 use mpw_structures::{Boxed, Element, Reference};
 use std::alloc::Global;
 
-/// Past MAG, if the record is one: the record behind it.
+/// Skips MAG if the record is one. Returns the record after it.
 #[tactic(auto, unfolding(crate::specs::Reading::optional, mpw_records::specs::Format::least_size))]
 fn optional_magnification<'a>(
     records: &mut Records<'a>,
@@ -39,7 +39,7 @@ fn optional_magnification<'a>(
     next_field(records, start)
 }
 
-/// The quarter turns of ANGLE, if the record is one, else 0; and the record behind it.
+/// The quarter turns of ANGLE if the record is one, else 0; and the record after it.
 #[tactic(auto, unfolding(crate::specs::Reading::optional, mpw_records::specs::Format::least_size))]
 fn optional_turns<'a>(
     records: &mut Records<'a>,
@@ -57,7 +57,7 @@ fn optional_turns<'a>(
     value_and_next(records, start, turns(found))
 }
 
-/// The orientation, and the record behind it.
+/// The orientation, and the record after it.
 #[tactic(auto, unfolding(crate::specs::Grammar::orientation, mpw_records::specs::Format::least_size))]
 fn orientation<'a>(
     records: &mut Records<'a>,
@@ -78,7 +78,7 @@ fn orientation<'a>(
     Ok((orient(mirrored, turns), found))
 }
 
-/// Which structure is placed, and how it is turned.
+/// The name of the structure that is placed, and its orientation.
 struct Instance {
     name: Name,
     orient: Orient,
@@ -102,7 +102,7 @@ impl Instance {
     }
 }
 
-/// The reference of an SREF whose name and orientation were read, and one record behind them, as an element.
+/// The reference of an SREF, as an element. Its name, its orientation and one record after them were read.
 #[tactic(auto, unfolding(crate::specs::Internal::Grammar::single_behind, mpw_records::specs::Format::least_size))]
 fn read_single(
     alloc: Global,
@@ -134,7 +134,7 @@ fn read_single(
     end_element(records, start, Element::Reference(reference))
 }
 
-/// The reference of an AREF whose name and orientation were read, and one record behind them, as an element.
+/// The reference of an AREF, as an element. Its name, its orientation and one record after them were read.
 #[tactic(auto, unfolding(crate::specs::Internal::Grammar::array_behind, mpw_records::specs::Format::least_size))]
 fn read_array(
     alloc: Global,
@@ -168,10 +168,10 @@ fn read_array(
     end_element(records, start, Element::Reference(reference))
 }
 
-/// The reference whose SREF or AREF was read, which begins at `start`, as an element.
+/// The reference that begins at `start`, as an element. Its SREF or AREF was read.
 ///
 /// # Errors
-/// The first fault of its records, or want of memory.
+/// The first fault of its records, or out of memory.
 #[tactic(auto, unfolding(crate::specs::Internal::Grammar::reference, mpw_records::specs::Format::least_size))]
 pub fn read_reference(
     alloc: Global,

@@ -1,4 +1,4 @@
-//! The points of an element, as its XY record has them.
+//! Reads the points of an element from its XY record.
 
 ghost use Rattle.std.specs.Prelude.{◌≡◌, ◌+◌, ◌*◌, ◌<◌, ◌≤◌, ◌^◌, unsigned_abs, length, IfOk, IsTrue};
 ghost use Rattle.std.specs.List.{dedup};
@@ -19,7 +19,7 @@ use std::alloc::{AllocError, Global};
 /// The bytes before a record's data (GDSII Stream release 6, record header).
 const HEADER: usize = 4;
 
-/// The point with an index among those of XY.
+/// The point at an index of XY.
 pub fn point(unit: u16, bytes: &[u8], index: usize) -> Point
     requires unit { unit ≤ 1000 }
     requires bytes { 8 * index + 8 ≤ length bytes.now }
@@ -66,7 +66,7 @@ fn is_manhattan(points: &[Point]) -> bool
     true
 }
 
-/// The same, and of the step from the last point to the first.
+/// Whether each step is, including the step from the last point to the first.
 fn is_ring(points: &[Point]) -> bool
     ensures { result ≡ each_step is_manhattan_step (closed points.now) }
 {
@@ -79,7 +79,7 @@ fn is_ring(points: &[Point]) -> bool
     is_step(points[points.len() - 1], points[0])
 }
 
-/// Whether the last of two or more points is the first again.
+/// Whether there are at least two points, and the last equals the first.
 #[tactic(auto, unfolding(crate::specs::Values::is_closing))]
 fn has_closing(points: &[Point]) -> bool
     ensures closing { result ≡ is_closing points.now }
@@ -98,7 +98,7 @@ fn drop_closing(mut points: Vec<Point>) -> Vec<Point>
     points
 }
 
-/// Takes consecutive equal points as one.
+/// Merges consecutive equal points.
 fn merge_repeats(mut points: Vec<Point>) -> Vec<Point>
     ensures { result.items ≡ dedup same_point points.items }
 {
@@ -109,7 +109,7 @@ fn merge_repeats(mut points: Vec<Point>) -> Vec<Point>
 /// The corners of a boundary.
 ///
 /// # Errors
-/// `NotManhattan` where an edge, the closing one too, is neither horizontal nor vertical; or want of memory.
+/// `NotManhattan` if an edge, or the closing edge, is neither horizontal nor vertical; or out of memory.
 #[tactic(auto, unfolding(crate::specs::Values::corners_of))]
 pub fn corners(storage: Storage<'_>, unit: u16, xy: Record<'_>) -> Result<Points, ReadError>
     requires { unit ≤ 1000 }
@@ -125,8 +125,8 @@ pub fn corners(storage: Storage<'_>, unit: u16, xy: Record<'_>) -> Result<Points
 /// The centre line of a path.
 ///
 /// # Errors
-/// `PointPath` where all points are one, and then `NotManhattan` where a segment is neither horizontal nor vertical; or
-/// want of memory.
+/// `PointPath` if all points are equal, and then `NotManhattan` if a segment is neither horizontal nor vertical; or
+/// out of memory.
 #[tactic(auto, unfolding(crate::specs::Values::centre_of))]
 pub fn centre(storage: Storage<'_>, unit: u16, xy: Record<'_>) -> Result<Points, ReadError>
     requires { unit ≤ 1000 }

@@ -1,4 +1,4 @@
-//! What a record of an element tells, and the faults of its value.
+//! Reads the value of an element's record, and finds the faults of the value.
 
 ghost use Rattle.std.specs.Prelude.{◌≡◌, ◌<◌, ◌≤◌, ◌^◌, ◌-ℤ◌, unsigned_abs, ℕ, pos, length, IfOk, IfSome};
 ghost use Rattle.mpw_structures.specs.Element.{IsWithinReach, IsPointWithinReach, IsCount};
@@ -18,10 +18,10 @@ use mpw_records::{Code, ReadFault, Real8, Record};
 use mpw_structures::scale;
 use std::alloc::Global;
 
-/// Where an array begins, and its steps, in nm.
+/// The origin and the steps of an array, in nm.
 #[derive(Clone, Copy)]
 pub struct Grid {
-    /// Where the structure's origin comes in the first column of the first row.
+    /// The origin of the instance in the first column and the first row.
     pub origin: Point,
     /// The step from one column to the next, in any direction.
     pub column_step: Point,
@@ -40,7 +40,7 @@ pub fn short(from: Record<'_>) -> u16
 /// The one point of a reference.
 ///
 /// # Errors
-/// `BadSize` where there isn't just one point.
+/// `BadSize` unless there is exactly one point.
 #[tactic(auto, using(crate::proofs::Shapes::near_point), unfolding(crate::specs::Values::origin_of))]
 pub fn place(unit: u16, xy: Record<'_>) -> Result<Point, ReadFault>
     requires { unit ≤ 1000 }
@@ -73,7 +73,7 @@ pub fn path_type(from: Record<'_>) -> Result<u16, ReadFault>
 /// WIDTH as an absolute value in nm.
 ///
 /// # Errors
-/// `OddWidth` where it is odd in nm.
+/// `OddWidth` if it is odd in nm.
 #[tactic(auto, unfolding(crate::specs::Values::width_of))]
 pub fn width(unit: u16, from: Record<'_>) -> Result<i64, ReadFault>
     requires unit { unit ≤ 1000 }
@@ -88,7 +88,7 @@ pub fn width(unit: u16, from: Record<'_>) -> Result<i64, ReadFault>
     Ok(width as i64)
 }
 
-/// How far an end of a path of a type is lengthened, where BGNEXTN or ENDEXTN gives so much.
+/// The extension of an end of a path, for its path type and width, and the number in BGNEXTN or ENDEXTN.
 pub fn lengthening(path_type: u16, width: i64, given: i64) -> i64
     ensures lengthening { result ≡ lengthening path_type width given }
     ensures reach { IsWidth width → IsWithinReach given → IsWithinReach result }
@@ -111,10 +111,10 @@ fn trim_nuls(bytes: &[u8]) -> &[u8]
     &bytes[..end]
 }
 
-/// The name that a STRNAME or SNAME record tells, without the NULs at its end.
+/// The name in a STRNAME or SNAME record, without the NULs at its end.
 ///
 /// # Errors
-/// `BadName` at the record, or want of memory.
+/// `BadName` at the record, or out of memory.
 #[tactic(auto, unfolding(crate::specs::Values::name_of))]
 pub fn read_name(alloc: Global, from: Record<'_>) -> Result<Name, ReadError>
     ensures name { GivesValue (λ name. name) result (name_of (raw from.entry)) }
@@ -130,7 +130,7 @@ pub fn read_name(alloc: Global, from: Record<'_>) -> Result<Name, ReadError>
 /// Whether STRANS mirrors.
 ///
 /// # Errors
-/// `Absolute` where bit 0002 hex says that the angle is. Other bits than that and 8000 are ignored.
+/// `Absolute` if bit 0002 hex makes the angle absolute. All other bits except 8000 are ignored.
 #[tactic(auto, unfolding(crate::specs::Values::mirrored_of))]
 pub fn is_mirrored(from: Record<'_>) -> Result<bool, ReadFault>
     requires { 2 ≤ length from.bytes.now }
@@ -146,7 +146,7 @@ pub fn is_mirrored(from: Record<'_>) -> Result<bool, ReadFault>
 /// A magnification of 1.
 ///
 /// # Errors
-/// `Magnification` where it isn't exactly 1.
+/// `Magnification` if it isn't exactly 1.
 #[tactic(auto, unfolding(crate::specs::Values::magnification_of))]
 pub fn magnification(from: Record<'_>) -> Result<(), ReadFault>
     requires { 8 ≤ length from.bytes.now }
@@ -181,7 +181,7 @@ fn quarter_turns(angle: &Real8) -> Option<u8>
 /// The quarter turns of ANGLE.
 ///
 /// # Errors
-/// `Angle` where it isn't a multiple of 90 degrees from -360 to 360.
+/// `Angle` if it isn't a multiple of 90 degrees from -360 to 360.
 pub fn turns(from: Record<'_>) -> Result<u8, ReadFault>
     requires { 8 ≤ length from.bytes.now }
     ensures { result ≡ turns_of (raw from.entry) }
@@ -192,7 +192,7 @@ pub fn turns(from: Record<'_>) -> Result<u8, ReadFault>
     }
 }
 
-/// Mirrored about the x axis or not, and then turned.
+/// The orientation that mirrors about the x axis, or doesn't, and then turns.
 pub fn orient(mirrored: bool, turns: u8) -> Orient
     ensures { result ≡ orient_of mirrored turns }
 {
@@ -211,7 +211,7 @@ pub fn orient(mirrored: bool, turns: u8) -> Orient
 /// The columns and the rows of COLROW.
 ///
 /// # Errors
-/// `Columns` where one of them isn't 1 to 32767.
+/// `Columns` unless both are from 1 to 32767.
 #[tactic(auto, unfolding(crate::specs::Values::counts_of))]
 pub fn counts(from: Record<'_>) -> Result<(u16, u16), ReadFault>
     requires { 4 ≤ length from.bytes.now }
@@ -227,7 +227,7 @@ pub fn counts(from: Record<'_>) -> Result<(u16, u16), ReadFault>
     Ok((columns, rows))
 }
 
-/// A whole number of nm of which `count` make a length, if there is one.
+/// The whole number of nm that is one `count`-th of a length, if there is one.
 fn part(count: u16, whole: i64) -> Option<i64>
     requires count { 1 ≤ count }
     requires whole { unsigned_abs whole < 2 ^ 43 }
@@ -261,7 +261,7 @@ fn both(x: Option<i64>, y: Option<i64>) -> Option<Point>
     }
 }
 
-/// The step of which `count` lead from a point to another, if it is whole.
+/// The step that leads from one point to another in `count` steps, if it is whole.
 fn step(count: u16, from: Point, to: Point) -> Option<Point>
     requires count { 1 ≤ count }
     requires from { IsNear from }
@@ -274,10 +274,10 @@ fn step(count: u16, from: Point, to: Point) -> Option<Point>
     both(part(count, across), part(count, up))
 }
 
-/// Where an array of so many columns and rows begins, and its steps.
+/// The origin and the steps of an array with `columns` columns and `rows` rows.
 ///
 /// # Errors
-/// `BadSize` where there aren't three points, and then `Pitch` where a step isn't a whole number of nm.
+/// `BadSize` unless there are three points, and then `Pitch` if a step isn't a whole number of nm.
 #[tactic(auto, unfolding(crate::specs::Values::grid_of))]
 pub fn read_grid(unit: u16, columns: u16, rows: u16, xy: Record<'_>) -> Result<Grid, ReadFault>
     requires unit { unit ≤ 1000 }

@@ -1,4 +1,4 @@
--- The requests that change the policy, each by its row.
+-- The requests that change the policy, each by its decision table.
 use Rattle.std.specs.Prelude.{ℕ, Result}
 use Rattle.mpw_rbac.specs.declared.refusal.Refusal.{Refusal}
 use Rattle.mpw_rbac.specs.Policy.{Policy}
@@ -6,7 +6,8 @@ use Rattle.mpw_rbac.specs.Rows as rows
 use Rattle.mpw_requests.specs.declared.policy.PolicyRequest.{PolicyRequest}
 use Rattle.mpw_requests.specs.declared.policy.PolicyRequest.TheVariants.{Open, Close, Activate, DropRole, AddUser, DelUser, AddRole, DelRole, Assign, Deassign, Grant, Revoke, Inherit, Uninherit, Ssd, Dsd, UnSsd, UnDsd}
 
--- the row of a request that changes the policy: the policy that it leaves, or the refusal of its first failing test
+-- the decision table of a request that changes the policy: the new policy, or the refusal of its first
+-- failing test
 abbrev pub row_of : Policy → ℕ → PolicyRequest → Result Policy Refusal
 row_of policy connection (Open user digest) = rows.open_session policy connection user digest
 row_of policy connection Close = rows.close_session policy connection

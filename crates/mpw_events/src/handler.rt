@@ -14,31 +14,31 @@ use std::alloc::{AllocError, Global};
 pub trait Handler {
     ghost desk: { Self → Desk };
 
-    /// That of a new desk, with an empty history, behind a pointer.
+    /// The handler of a new desk, with an empty history, in a box.
     ///
     /// # Errors
-    /// Where there is no room for it.
+    /// Out of memory.
     fn new_boxed(alloc: Global, officer: Name, digest: Digest) -> Result<Box<Self>, AllocError>
         ensures { IfOk result (λ handler. desk handler.value ≡ new_desk officer digest) };
 
-    /// Handles one event. What it changes is handed to the keeper first; where that could not keep it, the desk is closed.
+    /// Handles one event. Its change is handed to the store writer first. If it can't be stored, the desk is closed.
     ///
     /// # Errors
-    /// Where there is no room; the desk is then as it was, and the keeper has neither kept nor failed.
+    /// Out of memory. Then the desk is unchanged, and the store writer has neither stored nor failed.
     fn handle<K: Keeper>(&mut self, keeper: &mut K, event: Event) -> Result<Response, AllocError>
         requires restart { restarts event ≡ true → K.kept keeper.old ≡ None }
         ensures ok { IfOk result (λ response. IsHandled (kept_desk (desk self.old) (K.kept keeper.old) (K.failures keeper.old)) event response (kept_desk (desk self.new) (K.kept keeper.new) (K.failures keeper.new))) }
         ensures err { OnErr result (kept_desk (desk self.new) (K.kept keeper.new) (K.failures keeper.new) ≡ kept_desk (desk self.old) (K.kept keeper.old) (K.failures keeper.old)) };
 
-    /// The calls so far, each with what it was answered. Constant time.
+    /// The calls so far, each with its response. Constant time.
     fn calls(&self) -> &[Call]
         ensures { result.now ≡ (desk self.now).history };
 
-    /// Handles an event that was handled and kept before, as where a desk is made from stored changes: nothing is handed to a
-    /// keeper, and the history's limit doesn't count.
+    /// Handles an event that was handled and stored before, for example when a desk is made from stored changes. Nothing is handed to a
+    /// store writer, and the history's limit doesn't count.
     ///
     /// # Errors
-    /// Where there is no room, or the history has 2^31 calls; the desk is then as it was.
+    /// Out of memory, or the history has 2^31 calls. Then the desk is unchanged.
     fn restore(&mut self, event: Event) -> Result<Response, AllocError>
         requires open { (state_of (desk self.old)).closed ≡ false }
         ensures ok { IfOk result (λ response. IsRestored (desk self.old) event response (desk self.new)) }
@@ -48,11 +48,11 @@ pub trait Handler {
     fn has_session(&self, connection: u32) -> bool
         ensures { result ≡ is_some (session_of (state_of (desk self.now)).policy connection) };
 
-    /// The job of cutting the run's snapshot, where the run is cutting: that of a call for a job, which is none of the
-    /// history's. It costs a copy of the snapshot.
+    /// The job of cutting the run's snapshot, if the run is in its cutting. It is the job that a call gets, but this is no call of the
+    /// history. Cost: a copy of the snapshot.
     ///
     /// # Errors
-    /// Where no more copies can be counted, or there is no memory for them.
+    /// Out of memory, or no more copies can be counted.
     fn cut_job(&self, alloc: Global) -> Result<Option<CutJob>, AllocError>
         ensures { IfOk result (λ job. job ≡ job_cut (state_of (desk self.now)).run) };
 }

@@ -1,7 +1,7 @@
-//! What the desk is said to do: its events, what they are answered, the step, and the history of all steps.
+//! What the desk does, as a specification: its events, their responses, the step, and the history of all steps.
 //!
-//! Whoever serves a connection sees the desk as a [`Handler`] of events, and the core is one. So what serves a connection stands on
-//! what the desk is said to do, and not on how the core does it.
+//! Code that serves a connection sees the desk as a [`Handler`] of events. The core is one. So such code relies on this specification, and
+//! not on how the core does it.
 #![tactic(auto)]
 
 mod event;

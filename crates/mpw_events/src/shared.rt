@@ -1,4 +1,4 @@
-//! What is large in events and responses, shared by their copies.
+//! The large parts of events and responses, which copies share.
 use mpw_job::{CutAnswer, TileAnswer};
 use mpw_lists::Shared;
 use mpw_run::RunReply;

@@ -12,11 +12,11 @@ abbrev pub holding : Option Box2 → Point → Option Box2
 holding None p = Some (box_at p)
 holding (Some b) p = Some (joined b (box_at p))
 
--- The least box with all points of XY's data, in nm; none without a point.
+-- The least box with all points of XY's data, in nm; none if there are no points.
 abbrev pub box_of : ℕ → List ℕ → Option Box2
 box_of unit bytes = fold holding None (points_of unit bytes)
 
--- That of the XY at a place.
+-- The least box of the XY at an offset.
 abbrev pub boxed : ℕ → RecordOutcome → Option Box2
 boxed unit (Err fault) = None
 boxed unit (Ok r) = if r.kind == XY then box_of unit r.bytes else None

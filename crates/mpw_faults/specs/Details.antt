@@ -1,4 +1,4 @@
--- Where an element stands, by its records.
+-- The structure and the position of an element, by its records.
 use Rattle.std.specs.Prelude.{ℕ, ◌==◌, List, Option, Some, None, option_and_then, Result, Ok, Err, if◌then◌else◌}
 use Rattle.mpw_elements.specs.Values.{name_of, point_at}
 use Rattle.mpw_geom.specs.declared.plane.Point.{Point}
@@ -15,11 +15,11 @@ abbrev pub named : RecordOutcome → Option (List ℕ)
 named (Ok r) = read (name_of r)
 named (Err fault) = None
 
--- The structure whose STRNAME stands at a place, where the name is one.
+-- The name of the structure whose STRNAME is at an offset, if it is a valid name.
 abbrev pub structure_of : List ℕ → ℕ → Option (List ℕ)
 structure_of text at = named (front text at)
 
--- The first point of the XY at a place, in nm.
+-- The first point of the XY at an offset, in nm.
 abbrev pub pointed : ℕ → RecordOutcome → Option Point
 pointed unit (Err fault) = None
 pointed unit (Ok r) = if r.kind == XY then Some (point_at unit r.bytes 0) else None

@@ -1,4 +1,4 @@
--- The faults of a library's text: the one that reading it tells, and those of its elements, each read by itself.
+-- The faults of a library's text: the one that reading it reports, and those of its elements, each read by itself.
 use Rattle.std.specs.Prelude.{ℕ, ◌+◌, ◌-◌, ◌^◌, ◌==◌, min, List, [], ◌∷◌, drop, Option, Some, None, option_map, Result, Ok, Err, if◌then◌else◌}
 use Rattle.std.specs.List.{flat_map}
 use Rattle.mpw_elements.specs.Grammar.{element}
@@ -13,7 +13,7 @@ use Rattle.mpw_faults.specs.declared.found.FaultFound.{FaultFound}
 
 -- ---- the database unit
 
--- The nm that the first UNITS tells, in metres, if that is a whole number of them.
+-- The number of nm in the first UNITS, in metres, if it is whole.
 unfoldable pub unit_in : List RecordOutcome → Option ℕ
 unit_in [] = None
 unit_in (Err fault ∷ rest) = None
@@ -35,7 +35,7 @@ fault_in unit [] = None
 fault_in unit (Err fault ∷ rest) = Some fault
 fault_in unit (Ok first ∷ rest) = fault_of (element unit first rest)
 
--- A fault in the text from a place on, with its place in the whole.
+-- A fault in the part of a text from an offset on, with its offset in the whole text.
 abbrev pub moved : ℕ → ReadFault → ReadFault
 moved at fault = record { code = fault.code; offset = min (fault.offset + at) (2 ^ 64 - 1) }
 
@@ -52,19 +52,19 @@ told e (Some fault) = record { fault = fault; element = Some e } ∷ []
 abbrev pub of_elements : ℕ → List ℕ → List FaultFound
 of_elements unit text = flat_map (λ e. told e (own_fault unit text e.start)) (elements_of text)
 
--- None where the unit isn't read.
+-- None if the unit can't be read.
 abbrev pub by_unit : Option ℕ → List ℕ → List FaultFound
 by_unit None text = []
 by_unit (Some unit) text = of_elements unit text
 
--- The fault that reading the library tells stands first: it is that of the first of them, or of no element.
+-- The fault that reading the library reports comes first: it is that of the first element with a fault, or of no element.
 abbrev pub begun_by : ReadFault → List FaultFound → List FaultFound
 begun_by first [] = record { fault = first; element = None } ∷ []
 begun_by first (f ∷ fs) =
     if first.offset == f.fault.offset then record { fault = first; element = f.element } ∷ fs
     else record { fault = first; element = None } ∷ f ∷ fs
 
--- A library has none.
+-- A valid library has none.
 abbrev pub behind : {A : Type 0} → Result A ReadFault → List FaultFound → List FaultFound
 behind (Ok library) found = []
 behind (Err first) found = begun_by first found

@@ -1,4 +1,4 @@
--- Where an element lies in the coordinates of a top, by the references that lead to its structure.
+-- The position of an element in the coordinates of a top, by the references that lead to its structure.
 use Rattle.std.specs.Prelude.{ℕ, zero, suc, ◌^◌, ◌==◌, ◌&&◌, ◌||◌, nat_le, unsigned_abs, ℤ, Bool, true, List, [], ◌∷◌, filter, drop, Option, Some, None, option_map, option_and_then, Ok, Err, if◌then◌else◌}
 use Rattle.mpw_elements.specs.Grammar.{element}
 use Rattle.mpw_elements.specs.Reading.{Reading}
@@ -31,7 +31,7 @@ named_in (Ok r ∷ rest) =
 abbrev pub is_reference : ℕ → Bool
 is_reference kind = (kind == SREF) || (kind == AREF)
 
--- An element may refer to the structure of that name: it does, or which one it refers to isn't found.
+-- An element may refer to the structure with that name: it does, or its target isn't found.
 abbrev pub may_name : List ℕ → Option (List ℕ) → Bool
 may_name name None = true
 may_name name (Some other) = name_eq other name
@@ -40,9 +40,9 @@ abbrev pub refers : List ℕ → List ℕ → ElementSpan → Bool
 refers text name e =
     is_reference e.kind && may_name name (named_in (outcomes_of (drop e.start text)))
 
--- ---- the placing of one
+-- ---- the placing of a reference
 
--- It stands once, without columns and rows.
+-- The placing of a reference without columns and rows.
 abbrev pub single : Reference → Option Placing
 single r =
     if (r.columns == 1) && (r.rows == 1) then Some (record { orient = r.orient; by = r.origin })
@@ -58,7 +58,7 @@ abbrev pub placing_read : Reading (Option Element) → Option Placing
 placing_read (Err fault) = None
 placing_read (Ok read) = placing_by read.0
 
--- That of the element that records begin with, where it is read.
+-- The placing of the element with which records begin, if it can be read.
 abbrev pub placing_in : ℕ → List RecordOutcome → Option Placing
 placing_in unit [] = None
 placing_in unit (Err fault ∷ rest) = None
@@ -78,7 +78,7 @@ low b = record { x = b.x0; y = b.y0 }
 abbrev pub high : Box2 → Point
 high b = record { x = b.x1; y = b.y1 }
 
--- A box placed, where it lies near the origin, and so does the displacement.
+-- A box placed, if it is near the origin, and the displacement too.
 abbrev pub placed_area : Placing → Box2 → Option Box2
 placed_area t b =
     if are_near t.by && are_near (low b) && are_near (high b)
@@ -100,14 +100,14 @@ by_one unit text area (e ∷ []) =
     above e.structure area (placing_in unit (outcomes_of (drop e.start text)))
 by_one unit text area (e ∷ f ∷ rest) = None
 
--- From the structure whose name stands at a place.
+-- From the structure whose STRNAME is at an offset.
 abbrev pub step_from : ℕ → List ℕ → List ElementSpan → ℕ → Box2 → Option Step
 step_from unit text spans at area =
     by_one unit text area (filter (refers text (name_at text at)) spans)
 
 -- ---- up to the top
 
--- Up to so many levels; none where a structure on the way isn't placed just once.
+-- At most `levels` levels up; none if a structure on the way isn't placed exactly once.
 unfoldable pub lifted : (levels unit : ℕ) → List ℕ → List ElementSpan → (top : List ℕ) → ℕ → Box2
     → Option Box2
 lifted zero unit text spans top at area =
@@ -117,12 +117,12 @@ lifted (suc n) unit text spans top at area =
     else option_and_then (λ s. lifted n unit text spans top s.structure s.area)
     (step_from unit text spans at area)
 
--- The box of an element's points in the top's coordinates, where a structure has at most 64 levels above it.
+-- The box of an element's points in the top's coordinates, if its structure has at most 64 levels above it.
 abbrev pub area_of : ℕ → List ℕ → List ElementSpan → (top : List ℕ) → ElementSpan → Option Box2
 area_of unit text spans top e =
     option_and_then (lifted 64 unit text spans top e.structure) (own_area unit text e.points)
 
--- The same of its first point.
+-- The same for its first point.
 abbrev pub point_of : ℕ → List ℕ → List ElementSpan → (top : List ℕ) → ElementSpan → Option Point
 point_of unit text spans top e =
     option_map low

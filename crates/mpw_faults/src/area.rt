@@ -1,4 +1,4 @@
-//! The box of an element's points.
+//! Computes the box of an element's points.
 ghost use Rattle.std.specs.Prelude.{◌≡◌, ◌≤◌, ◌+◌, ◌*◌, length};
 ghost use Rattle.mpw_elements.specs.Values.{point_at};
 ghost use Rattle.mpw_faults.specs.Areas.{box_of, boxed, holding, own_area};
@@ -9,7 +9,7 @@ use mpw_records::kind::XY;
 use mpw_skipping::record_at;
 use mpw_structures::scale;
 
-/// The point with that place in XY's data.
+/// The point at index `place` in XY's data.
 fn point_of(unit: u16, bytes: &[u8], place: usize) -> Point
     requires unit { unit ≤ 1000 }
     requires bytes { 8 * place + 8 ≤ length bytes.now }
@@ -44,7 +44,7 @@ fn box_of(unit: u16, bytes: &[u8]) -> Option<Box2>
     area
 }
 
-/// That of the XY at a place of a text of that unit.
+/// The least box of the XY at an offset of a text with that unit.
 fn box_at(unit: u16, text: &[u8], at: usize) -> Option<Box2>
     requires { unit ≤ 1000 }
     ensures { result ≡ boxed unit (front text.now at) }
@@ -55,7 +55,7 @@ fn box_at(unit: u16, text: &[u8], at: usize) -> Option<Box2>
     }
 }
 
-/// The least box with all points of the XY that stands at that place of a text of that unit, if it does, in nm. Linear in the points.
+/// The least box with all points of the XY at that offset of a text with that unit, if there is one, in nm. Cost: linear in the points.
 pub(crate) fn own_area(unit: u16, text: &[u8], place: Option<usize>) -> Option<Box2>
     requires { unit ≤ 1000 }
     ensures { result ≡ own_area unit text.now place }

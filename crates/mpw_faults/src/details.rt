@@ -1,4 +1,4 @@
-//! Where an element stands.
+//! Finds the structure and the position of an element.
 ghost use Rattle.std.specs.Prelude.{◌≡◌, ◌≤◌, length, IfOk};
 ghost use Rattle.mpw_elements.specs.Values.{point_at};
 ghost use Rattle.mpw_faults.specs.Details.{first_point, pointed, structure_of};
@@ -11,10 +11,10 @@ use mpw_skipping::record_at;
 use mpw_structures::scale;
 use std::alloc::{AllocError, Global};
 
-/// The structure whose STRNAME stands at a place of a text, where its name is one. Constant time but for the name.
+/// The name of the structure whose STRNAME is at an offset of a text, if it is a valid name. Constant time except for the name.
 ///
 /// # Errors
-/// Want of memory.
+/// Out of memory.
 pub fn structure_of(alloc: Global, text: &[u8], at: usize) -> Result<Option<Name>, AllocError>
     ensures { IfOk result (λ name. name ≡ structure_of text.now at) }
 {
@@ -28,7 +28,7 @@ pub fn structure_of(alloc: Global, text: &[u8], at: usize) -> Result<Option<Name
     }
 }
 
-/// The first of points.
+/// The first point of XY's data.
 fn point(unit: u16, bytes: &[u8]) -> Point
     requires unit { unit ≤ 1000 }
     requires bytes { 8 ≤ length bytes.now }
@@ -40,7 +40,7 @@ fn point(unit: u16, bytes: &[u8]) -> Point
     }
 }
 
-/// The first point of the XY that stands at a place of a text of that unit.
+/// The first point of the XY at an offset of a text with that unit.
 #[tactic(auto, unfolding(mpw_records::specs::Format::least_size))]
 fn point_at(unit: u16, text: &[u8], at: usize) -> Option<Point>
     requires { unit ≤ 1000 }
@@ -52,7 +52,7 @@ fn point_at(unit: u16, text: &[u8], at: usize) -> Option<Point>
     }
 }
 
-/// The first point of the XY that stands at that place of a text of that unit, if it does, in nm. Constant time.
+/// The first point of the XY at that offset of a text with that unit, if there is one, in nm. Constant time.
 pub fn first_point(unit: u16, text: &[u8], place: Option<usize>) -> Option<Point>
     requires { unit ≤ 1000 }
     ensures { result ≡ first_point unit text.now place }

@@ -1,4 +1,4 @@
-//! All faults of a text.
+//! Finds all faults of a text.
 ghost use Rattle.std.specs.Prelude.{◌≡◌, ◌≤◌, ◌++◌, IfOk};
 ghost use Rattle.mpw_faults.specs.Faults.{begun_by, by_unit, faults_of, of_elements, told, unit_of};
 
@@ -26,7 +26,7 @@ fn add(
     Ok(())
 }
 
-/// The faults of a text's elements, of that unit.
+/// The faults of the elements of a text with that unit.
 fn of_elements(alloc: Global, unit: u16, text: &[u8]) -> Result<Vec<FaultFound>, AllocError>
     requires { unit ≤ 1000 }
     ensures { IfOk result (λ found. found.items ≡ of_elements unit text.now) }
@@ -39,7 +39,7 @@ fn of_elements(alloc: Global, unit: u16, text: &[u8]) -> Result<Vec<FaultFound>,
     Ok(found)
 }
 
-/// The same, where the unit is read.
+/// The faults of a text's elements; none if the unit can't be read.
 fn by_unit(alloc: Global, text: &[u8]) -> Result<Vec<FaultFound>, AllocError>
     ensures { IfOk result (λ found. found.items ≡ by_unit (unit_of text.now) text.now) }
 {
@@ -49,7 +49,7 @@ fn by_unit(alloc: Global, text: &[u8]) -> Result<Vec<FaultFound>, AllocError>
     }
 }
 
-/// Those faults with the one that reading the library tells first.
+/// These faults, with the one that reading the library reports in front.
 fn begun_by(
     alloc: Global,
     first: ReadFault,
@@ -78,16 +78,16 @@ fn begun_by(
     Ok(all)
 }
 
-/// The faults of a library's text: none where it is one; else those of its elements, a fault for each that has one when it is read by itself,
-/// from its first record on, in the order in which they stand. The first is the one that reading the library tells: where it isn't
-/// that of the first of these, it stands before them, without an element. Which elements a text has, [`elements_of`] says. Nothing
-/// but the first is told where the database unit isn't read.
+/// The faults of a library's text. There are none if it is a valid library. Otherwise each element of the text is read by itself, from its first record on, and
+/// each that has a fault gives one, in the order of the text. The first of all is the fault that reading the library reports. If it isn't at the offset of the
+/// first faulty element's fault, it comes before them, without an element. [`elements_of`] defines the elements of a text. If the database unit can't be read,
+/// there is only the first fault.
 ///
-/// The text is read once, and gone over once more, in which each element is read once: linear in the text, whatever it is. It takes
+/// Cost: linear in the text, whatever it is. The text is read once as a library, and once more to find the elements, each of which is read once. It takes
 /// memory for the library, and then for the elements and the faults.
 ///
 /// # Errors
-/// Want of memory.
+/// Out of memory.
 pub fn all_faults(alloc: Global, text: &[u8]) -> Result<Vec<FaultFound>, AllocError>
     ensures { IfOk result (λ found. found.items ≡ faults_of text.now) }
 {

@@ -6,8 +6,8 @@ use mpw_skipping::ElementSpan;
 /// A fault, and the element that has it.
 #[derive(Clone, Copy)]
 pub struct FaultFound {
-    /// The fault, with its place in the text.
+    /// The fault, with its offset in the text.
     pub fault: ReadFault,
-    /// Its element; none where it is in none.
+    /// Its element; `None` if it is in none.
     pub element: Option<ElementSpan>,
 }

@@ -1,8 +1,8 @@
-//! All faults of a library's elements.
+//! Finds all faults of a library's elements.
 //!
-//! Reading a library ends at its first fault. [`all_faults`] goes on behind each element that has one: it reads each element of the text by
-//! itself, from its first record on. The first of the list is the fault that reading the library tells. [`structure_of`] and [`first_point`] tell where an
-//! element stands, [`area_in_top`] and [`point_in_top`] where it lies in the coordinates of a top.
+//! Reading a library ends at its first fault. [`all_faults`] continues after each element that has one: it reads each element of the text by itself,
+//! from its first record on. The first of the list is the fault that reading the library reports. [`structure_of`] and [`first_point`] are the
+//! structure and the position of an element. [`area_in_top`] and [`point_in_top`] are its box and its position in the coordinates of a top.
 #![tactic(auto)]
 
 mod area;

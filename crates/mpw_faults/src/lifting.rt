@@ -1,4 +1,4 @@
-//! Where an element lies in the coordinates of a top, by the references that lead to its structure.
+//! Computes the position of an element in the coordinates of a top, by the references that lead to its structure.
 ghost use Rattle.std.specs.Prelude.{◌≡◌, ◌≤◌, drop, filter, IfOk, IsTrue, option_map};
 ghost use Rattle.mpw_faults.specs.Lifting.{above, area_of, are_near, by_one, high, is_near, is_reference, lifted, low, may_name, named_in, placed_area, placing_by, placing_in, point_of, refers, single, step_from, to_step};
 ghost use Rattle.mpw_geom.specs.Names.{name_eq};
@@ -17,10 +17,10 @@ use mpw_skipping::{ElementSpan, record_at};
 use mpw_structures::{Element, Reference, Storage};
 use std::alloc::{AllocError, Global};
 
-/// How many levels of references are gone up.
+/// How many levels of references are followed upwards.
 const MAX_LEVELS: usize = 64;
 
-/// A text of a library, its unit, the elements that stand in it, and the name of the top as its record has it.
+/// A text of a library, its unit, its elements, and the name of the top as its record has it.
 #[derive(Clone, Copy, Drop)]
 pub struct Seen<'a> {
     /// The database unit, in nm.
@@ -29,18 +29,18 @@ pub struct Seen<'a> {
     pub text: &'a [u8],
     /// Its elements.
     pub spans: &'a [ElementSpan],
-    /// The top's name, with the NUL that makes its bytes even.
+    /// The top's name, with the NUL that makes the number of its bytes even.
     pub top: &'a [u8],
 }
 
-/// A box in the coordinates of the structure whose name stands at a place.
+/// A box in the coordinates of the structure whose STRNAME is at an offset.
 #[derive(Clone, Copy)]
 struct Step {
     structure: usize,
     area: Box2,
 }
 
-/// The data of the record at a place: the name that stands there.
+/// The data of the record at an offset: the name in it.
 fn name_at(text: &[u8], at: usize) -> &[u8]
     ensures { result.now ≡ name_at text.entry.now at }
 {
@@ -50,7 +50,7 @@ fn name_at(text: &[u8], at: usize) -> &[u8]
     }
 }
 
-/// The first SNAME of the element that begins at a place.
+/// The first SNAME of the element that begins at an offset.
 #[tactic(auto, unfolding(crate::specs::Lifting::named_in))]
 fn named_in(text: &[u8], at: usize) -> Option<&[u8]>
     ensures { option_map (λ name. name.now) result ≡ named_in (outcomes_of (drop at text.entry.now)) }
@@ -67,7 +67,7 @@ fn named_in(text: &[u8], at: usize) -> Option<&[u8]>
     None
 }
 
-/// Whether an element with that SNAME may refer to the structure of that name.
+/// Whether an element with that SNAME may refer to the structure with that name.
 fn may_name(found: Option<&[u8]>, name: &[u8]) -> bool
     ensures { result ≡ may_name name.now (option_map (λ n. n.now) found.entry) }
 {
@@ -84,7 +84,7 @@ fn is_reference(kind: u8) -> bool
     (kind == SREF) | (kind == AREF)
 }
 
-/// Whether an element may refer to the structure of that name.
+/// Whether an element may refer to the structure with that name.
 fn refers(text: &[u8], name: &[u8], span: &ElementSpan) -> bool
     ensures { result ≡ refers text.now name.now span.now }
 {
@@ -95,7 +95,7 @@ fn refers(text: &[u8], name: &[u8], span: &ElementSpan) -> bool
     }
 }
 
-/// The elements that may refer to the structure of that name.
+/// The elements that may refer to the structure with that name.
 fn references_to(
     alloc: Global,
     text: &[u8],
@@ -113,7 +113,7 @@ fn references_to(
     Ok(found)
 }
 
-/// How a reference places its structure, where it does so once.
+/// The placing of a reference that places its structure once.
 fn single(reference: &Reference) -> Option<Placing>
     ensures { result ≡ single reference.now }
 {
@@ -127,7 +127,7 @@ fn single(reference: &Reference) -> Option<Placing>
     }
 }
 
-/// The same of an element.
+/// The placing of an element that is such a reference.
 fn placing_by(element: &Option<Element>) -> Option<Placing>
     ensures { result ≡ placing_by element.now }
 {
@@ -139,7 +139,7 @@ fn placing_by(element: &Option<Element>) -> Option<Placing>
     }
 }
 
-/// The same of the element that begins at a place of a text of that unit.
+/// The placing of the element that begins at an offset of a text with that unit, if it is such a reference.
 fn placing_in(
     alloc: Global,
     unit: u16,
@@ -173,7 +173,7 @@ fn is_near(z: i64) -> bool
     z.unsigned_abs() <= 1 << 47
 }
 
-/// Whether a point's coordinates do.
+/// Whether both coordinates of a point lie within -2^47 to 2^47 nm.
 fn are_near(point: Point) -> bool
     ensures near { result ≡ are_near point }
     ensures plane { IsTrue result → IsInPlane point }
@@ -181,7 +181,7 @@ fn are_near(point: Point) -> bool
     is_near(point.x) & is_near(point.y)
 }
 
-/// A box placed, where it and the displacement lie near the origin.
+/// The image of a box under a placing, if both the box and the displacement are near the origin.
 fn placed_area(placing: Placing, area: Box2) -> Option<Box2>
     ensures { result ≡ placed_area placing area }
 {
@@ -207,7 +207,7 @@ fn placed_area(placing: Placing, area: Box2) -> Option<Box2>
     Some(Box2::between(placing.apply(low), placing.apply(high)))
 }
 
-/// That box in that structure.
+/// The box in that structure, placed.
 fn above(structure: usize, area: Box2, placing: Option<Placing>) -> Option<Step>
     ensures { result ≡ above structure area placing }
 {
@@ -220,7 +220,7 @@ fn above(structure: usize, area: Box2, placing: Option<Placing>) -> Option<Step>
     }
 }
 
-/// A box one level up, by the only reference that may lead to the structure whose name stands at a place.
+/// The box one level up, by the only reference that may lead to the structure whose STRNAME is at an offset.
 fn step_from(
     alloc: Global,
     seen: &Seen<'_>,
@@ -241,14 +241,14 @@ fn step_from(
     }
 }
 
-/// Whether the structure whose name stands at a place is the top.
+/// Whether the structure whose STRNAME is at an offset is the top.
 fn is_top(seen: &Seen<'_>, at: usize) -> bool
     ensures { result ≡ name_eq (name_at seen.now.text.now at) seen.now.top.now }
 {
     name_at(seen.text, at) == seen.top
 }
 
-/// A box in the top's coordinates, up to so many levels.
+/// The box in the top's coordinates, at most `levels` levels up.
 fn lift(
     alloc: Global,
     seen: &Seen<'_>,
@@ -271,12 +271,13 @@ fn lift(
     }
 }
 
-/// The least box with all points of an element in the top's coordinates, in nm: where the element has points, and each structure on the way
-/// to the top is placed once in the text, by a reference that is read and has neither columns nor rows. An element that may refer to a structure,
-/// since which one isn't found, counts as one that does. It looks at each element once for each level.
+/// The least box with all points of an element in the top's coordinates, in nm. `None` if the element has no points. Each structure on the way to the top
+/// must be placed exactly once in the text, by a reference that can be read and that has neither columns nor rows; otherwise the result is `None`. A
+/// reference whose target isn't found counts as one to every structure. The result is also `None` with more than 64 levels, or if a box or a displacement
+/// on the way exceeds 2^47 nm. Cost: one visit of each element for each level.
 ///
 /// # Errors
-/// Want of memory.
+/// Out of memory.
 pub fn area_in_top(
     alloc: Global,
     seen: &Seen<'_>,
@@ -311,10 +312,10 @@ fn corner(area: Option<Box2>) -> Option<Point>
     }
 }
 
-/// The first point of an element in the top's coordinates, in nm, where that is known as of [`area_in_top`].
+/// The first point of an element in the top's coordinates, in nm, if it is known by the rules of [`area_in_top`].
 ///
 /// # Errors
-/// Want of memory.
+/// Out of memory.
 pub fn point_in_top(
     alloc: Global,
     seen: &Seen<'_>,

@@ -1,4 +1,4 @@
-//! The fault of an element that is read by itself.
+//! Finds the fault of an element that is read by itself.
 ghost use Rattle.std.specs.Prelude.{◌≡◌, ◌≤◌, drop, option_map, IfOk};
 ghost use Rattle.mpw_faults.specs.Faults.{fault_in, moved, own_fault};
 ghost use Rattle.mpw_records.specs.Records.{outcomes_of};
@@ -8,7 +8,7 @@ use mpw_records::{ReadFault, Records};
 use mpw_structures::Storage;
 use std::alloc::{AllocError, Global};
 
-/// A fault in the text from a place on, with its place in the whole, up to 2^64 - 1.
+/// A fault in the part of a text from an offset on, with its offset in the whole text, up to 2^64 - 1.
 fn moved(at: usize, fault: ReadFault) -> ReadFault
     ensures { result ≡ moved at fault }
 {
@@ -18,7 +18,7 @@ fn moved(at: usize, fault: ReadFault) -> ReadFault
     }
 }
 
-/// The fault of the element that a text begins with.
+/// The fault of the element with which a text begins.
 fn fault_in(alloc: Global, text: &[u8], unit: u16) -> Result<Option<ReadFault>, AllocError>
     requires { unit ≤ 1000 }
     ensures { IfOk result (λ fault. fault ≡ fault_in unit (outcomes_of text.now)) }
@@ -40,7 +40,7 @@ fn fault_in(alloc: Global, text: &[u8], unit: u16) -> Result<Option<ReadFault>, 
     }
 }
 
-/// The bytes of a text from one on.
+/// The bytes of a text from an offset on.
 pub(crate) fn from(text: &[u8], at: usize) -> &[u8]
     ensures { result.now ≡ drop at text.now }
 {
@@ -50,10 +50,10 @@ pub(crate) fn from(text: &[u8], at: usize) -> &[u8]
     }
 }
 
-/// The fault of the element that begins at a place of a text of that unit, if it has one when it is read by itself.
+/// The fault of the element that begins at an offset of a text with that unit, if it has one when it is read by itself.
 ///
 /// # Errors
-/// Want of memory.
+/// Out of memory.
 pub(crate) fn own_fault(
     alloc: Global,
     unit: u16,

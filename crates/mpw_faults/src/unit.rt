@@ -1,4 +1,4 @@
-//! The database unit of a text.
+//! Reads the database unit of a text.
 ghost use Rattle.std.specs.Prelude.{◌≡◌, ◌≤◌, drop, length, IfSome};
 ghost use Rattle.mpw_faults.specs.Faults.{unit_of};
 ghost use Rattle.mpw_records.specs.Real.{nanometres, real_value};
@@ -6,7 +6,7 @@ ghost use Rattle.mpw_records.specs.Real.{nanometres, real_value};
 use mpw_records::kind::UNITS;
 use mpw_records::{Real8, Records};
 
-/// The number of nm that the data of UNITS tells, if it is a whole one.
+/// The number of nm in the data of UNITS, if it is whole.
 fn read_unit(bytes: &[u8]) -> Option<u16>
     requires { 16 ≤ length bytes.now }
     ensures unit { result ≡ nanometres (real_value (drop 8 bytes.now)) }
@@ -15,7 +15,7 @@ fn read_unit(bytes: &[u8]) -> Option<u16>
     Real8::read(&bytes[8..]).nanometres()
 }
 
-/// The number of nm that a text's first UNITS tells, if it is a whole one, and none of the records before it has a fault. It looks at
+/// The number of nm in a text's first UNITS, if it is whole and no record before has a fault. Cost: one visit of
 /// each record up to there.
 #[tactic(auto, unfolding(crate::specs::Faults::unit_in, mpw_records::specs::Format::least_size))]
 pub fn unit_of(text: &[u8]) -> Option<u16>

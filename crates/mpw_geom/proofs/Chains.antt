@@ -1,4 +1,4 @@
--- One placing after another.
+-- Placings in sequence.
 use Rattle.std.proofs.Common.{◌≡◌, refl, sym, ◌∙◌, ap, ℕ, zero, suc, arith}
 use Rattle.std.proofs.lemmas.Int.{ints}
 use Rattle.mpw_geom.specs.declared.plane.Point.{Point}
@@ -17,7 +17,7 @@ same_square s t e f =
     let h : ◌≡◌ {A = Square} (record { column = s.column; row = s.row })
     (record { column = t.column; row = t.row }) = cc in h
 
--- an operation `by` a point that the mirror and the turn carry along is carried along by each orientation
+-- an operation `by` a point that commutes with the mirror and the turn commutes with each orientation
 turns_carry : {A : Type 0} (turn : A → A) (by : Point → A → A)
     → ((d : Point) (a : A) → turn (by d a) ≡ by (turned_point d) (turn a))
     → (n : ℕ) (d : Point) (a : A) → times turn n (by d a) ≡ by (times turned_point n d)

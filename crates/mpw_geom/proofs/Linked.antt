@@ -1,4 +1,4 @@
--- `leads` is true exactly where a chain of links leads from the one name to the other.
+-- `leads` is true exactly if a chain of links leads from the first name to the second.
 use Rattle.std.proofs.Common.{◌≡◌, ℕ, zero, suc, ◌≤◌, ◌<◌, Bool, true, false, cond, not, ◌||◌, ◌⊎◌, inl, inr, List, [], ◌∷◌, length, refl, sym, ap, subst, ◌∙◌, arith, true≢false}
 use Rattle.std.specs.List.{list_any}
 use Rattle.std.specs.Cmp.Lexicographic.{bytes_decides}
@@ -113,7 +113,7 @@ no_longer (e ∷ es) a =
     (cond (not b) (e ∷ links_without es a) (links_without es a)) ≤ suc (length es))
     [ true ↦ omega arith | false ↦ omega arith ]
 
--- an entry less
+-- one entry less
 shorter : (h : Links) (a j : List ℕ) → is_linked h a j ≡ true
     → length (links_without h a) < length h
 shorter [] a j link = absurd (true≢false (sym link))

@@ -8,7 +8,7 @@ use Rattle.mpw_geom.specs.declared.plane.Point.{Point}
 use Rattle.mpw_geom.specs.Plane.{has_point}
 use Rattle.mpw_geom.proofs.Tests.{le_from_test, test_from_le, PointIn-from_test, test_from_PointIn}
 
--- the greatest of the lower ends is in both spans, where it isn't past the least of the upper ends
+-- the greatest of the lower ends is in both spans, if it isn't past the least of the upper ends
 pub common_point : (b c : Box2) → int_le (int_max b.x0 c.x0) (int_min b.x1 c.x1) ≡ true
     → int_le (int_max b.y0 c.y0) (int_min b.y1 c.y1) ≡ true → (p : Point) × IsTrue (has_point b p)
     × IsTrue (has_point c p)
@@ -42,7 +42,7 @@ spans_from_point b c h =
       test_from_le (int_max b.y0 c.y0) (int_min b.y1 c.y1) (omega (arith, ints, clamps)),
     )
 
--- two spans meet where the greater of their lower ends isn't past the lesser of their upper ends, as the code reckons it
+-- two spans touch if the greater of their lower ends isn't past the lesser of their upper ends, as the code computes it
 pub spans_meet : (a b c d low high : ℤ) → SFits w64 a → SFits w64 b → SFits w64 c → SFits w64 d
     → SFits w64 low → SFits w64 high
     → low ≡ int_max (to_z w64 (of_z w64 a)) (to_z w64 (of_z w64 b))

@@ -1,4 +1,4 @@
--- The bytes of a name: the test of them, and that they are ASCII, and so text.
+-- The bytes of a name: their test, and that they are ASCII, and so text.
 use Rattle.std.proofs.Common.{◌≡◌, ◌≤◌, ℕ, true, false, ◌&&◌, leb, List, length, Decides, refl, arith}
 use Rattle.std.specs.List.{list_all}
 use Rattle.std.specs.Str.{IsUtf8}

@@ -43,7 +43,7 @@ any_from q k (x ∷ xs) =
       | false ↦ λ _. ap (λ b. name_eq q k || b) (any_from q x xs)
     ] refl
 
--- `dedup` keeps each name
+-- `dedup` leaves each name in the list
 any-dedup : (q : List ℕ) (xs : List (List ℕ))
     → list_any (name_eq q) (dedup name_eq xs) ≡ list_any (name_eq q) xs
 any-dedup q [] = refl

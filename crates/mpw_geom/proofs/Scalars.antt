@@ -1,4 +1,4 @@
--- Coordinates as the code keeps them: a word of 64 bits, read as a signed number.
+-- Coordinates in the code: a word of 64 bits, read as a signed number.
 use Rattle.std.proofs.Common.{◌≡◌, ℤ, pos, neg_ℤ, ◌-ℤ◌, ◌∙◌, sym, subst, arith, w64, to_z, of_z}
 use Rattle.std.proofs.lemmas.Int.{ints, to_z-of_z}
 use Rattle.mpw_geom.specs.Plane.{IsCoordinate}
@@ -11,7 +11,7 @@ pub negated : (z : ℤ) → IsCoordinate z
     → to_z w64 (of_z w64 (pos 0 -ℤ to_z w64 (of_z w64 z))) ≡ neg_ℤ z
 negated z h = omega (arith, ints, h.low, h.high)
 
--- where a turn negates more than once
+-- if a turn negates more than once
 pub kept_twice : (z : ℤ) → IsCoordinate z → to_z w64 (of_z w64 z) ≡ neg_ℤ (neg_ℤ z)
 kept_twice z h = kept z h ∙ sym (negated_twice z)
 

@@ -1,4 +1,4 @@
--- What the tests of the squares of boxes mean, and when two of them are the same.
+-- The meaning of the tests of boxes' squares, and when two of them are equal.
 use Rattle.std.proofs.Common.{◌≡◌, pos, List, [], ◌∷◌, get_or, map, refl, sym, subst, Decides}
 use Rattle.std.specs.Prelude.{Contains}
 use Rattle.std.proofs.lemmas.Bool.Decides.{Decides-by_or, Decides-like, same_from_decides}
@@ -14,7 +14,7 @@ Decides-has_square b s = (SquareIn-from_test b s, test_from_SquareIn b s)
 abbrev pub SquareInSome : List Box2 → Square → Type 0
 SquareInSome boxes s = (b : Box2) × Contains boxes b × SquareIn b s
 
--- the box that an index past the end is taken to give
+-- the box of an index past the end
 abbrev pub no_box : Box2
 no_box = record { x0 = pos 0; y0 = pos 0; x1 = pos 0; y1 = pos 0 }
 
@@ -37,7 +37,7 @@ any_has_square-same xs ys s t f g =
     same_from_decides (any_has_square xs s) (any_has_square ys t) (Decides-any_has_square xs s)
     (Decides-like (any_has_square ys t) g f (Decides-any_has_square ys t))
 
--- where each box and its image have a square and its image alike, so do the lists
+-- if this holds for each box and its image, it holds for the lists: one has a square exactly if the other has the square's image
 pub any_has_square-map : (f : Box2 → Box2) (s t : Square)
     → ((b : Box2) → has_square (f b) t ≡ has_square b s) → (boxes : List Box2)
     → any_has_square (map f boxes) t ≡ any_has_square boxes s

@@ -1,4 +1,4 @@
--- What the tests of points and squares in a box mean as inequalities.
+-- The tests of points and squares in a box, as inequalities.
 use Rattle.std.proofs.Common.{◌≡◌, ◌≤ℤ◌, ◌<ℤ◌, Bool, true, false, refl, ℤ, arith}
 use Rattle.std.specs.Prelude.{int_lt, int_le}
 use Rattle.std.proofs.lemmas.Int.{ints}
@@ -51,7 +51,7 @@ pub test_from_SquareIn : (b : Box2) (s : Square) → SquareIn b s → has_square
 unfolding has_square
 test_from_SquareIn b s h = grind (arith, ints, h)
 
--- two boxes have the same points, or squares, where the inequalities say so both ways
+-- two boxes have the same points, or squares, if the inequalities say so both ways
 pub same_points : (b c : Box2) (p q : Point) → (PointIn b p → PointIn c q)
     → (PointIn c q → PointIn b p) → has_point b p ≡ has_point c q
 same_points b c p q f g =

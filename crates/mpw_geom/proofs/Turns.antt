@@ -13,7 +13,7 @@ use Rattle.mpw_geom.proofs.Tests.{same_points, same_squares}
 pub negated_twice : (z : ℤ) → neg_ℤ (neg_ℤ z) ≡ z
 negated_twice z = omega (arith, ints)
 
--- the row that a mirror takes to row -j - 1, and back
+-- mirroring a row twice gives the row
 pub mirrored_row : (j : ℤ) → neg_ℤ (neg_ℤ j -ℤ pos 1) -ℤ pos 1 ≡ j
 mirrored_row j = omega (arith, ints)
 
@@ -51,7 +51,7 @@ turns_keep turn turn' P g zero a c b = refl
 turns_keep turn turn' P g (suc n) a c b =
     g (times turn n a) (times turn n c) (times turn' n b) ∙ turns_keep turn turn' P g n a c b
 
--- what the mirror and the turn keep, each orientation keeps
+-- what the mirror and the turn preserve, each orientation preserves
 oriented_keeps : {A B : Type 0} (mirror turn : A → A) (mirror' turn' : B → B) (P : A → A → B → Bool)
     → ((a c : A) (b : B) → P (mirror a) (mirror c) (mirror' b) ≡ P a c b)
     → ((a c : A) (b : B) → P (turn a) (turn c) (turn' b) ≡ P a c b) → (o : Orient) (a c : A) (b : B)
@@ -179,7 +179,7 @@ placed_squares t b s u v =
     (corner0 b) (corner1 b) s
     ∙ own_squares b s u v
 
--- the same, where the corners' coordinates are given by equations
+-- the same, if the corners' coordinates are given by equations
 pub placed_points_at : (t : Placing) (b : Box2) (p : Point) (x0 y0 x1 y1 : ℤ) → x0 ≡ b.x0
     → y0 ≡ b.y0 → x1 ≡ b.x1 → y1 ≡ b.y1 → b.x0 ≤ℤ b.x1 → b.y0 ≤ℤ b.y1
     → has_point (box_between (placed_point t (record { x = x0; y = y0 }))

@@ -46,7 +46,7 @@ undone_square M270 s = λ k. record {
   row = (mirrored_row _ ∙ mirrored_row s.row) k;
 }
 
--- what undoes the one that undoes an orientation is itself
+-- the inverse of the inverse is the orientation itself
 undoing_twice : (o : Orient) → undoing (undoing o) ≡ o
 undoing_twice R0 = refl
 undoing_twice R90 = refl

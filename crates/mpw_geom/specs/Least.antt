@@ -12,13 +12,13 @@ first_name (name ∷ names) = Some name
 abbrev pub least_name : List (List ℕ) → Option (List ℕ)
 least_name names = first_name (by_name names)
 
--- The lesser of two names, of those that are there
+-- The lesser of two names; if only one is there, that one
 abbrev pub lesser : Option (List ℕ) → Option (List ℕ) → Option (List ℕ)
 lesser None second = second
 lesser (Some one) None = Some one
 lesser (Some one) (Some other) = if is_lt (name_cmp other one) then Some other else Some one
 
--- The name is one of the list, and none of the list is less; none is the least only of no names
+-- The name is one of the list, and none of the list is less; only an empty list has no least name
 abbrev pub IsLeast : List (List ℕ) → Option (List ℕ) → Type 0
 IsLeast names None = (name : List ℕ) → contains_name names name ≡ false
 IsLeast names (Some least) =

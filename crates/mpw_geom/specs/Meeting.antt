@@ -8,6 +8,6 @@ use Rattle.mpw_geom.specs.Plane.{Square, closed_square, has_point}
 abbrev pub Meet : Box2 → Box2 → Type 0
 Meet a b = (p : Point) × (has_point a p ≡ true) × (has_point b p ≡ true)
 
--- a unit square that the origin has, taken closed, meets the closed box
+-- a unit square of the origin, taken closed, touches the closed box
 abbrev pub IsMet : (ℕ → Square → Type 0) → Box2 → ℕ → Type 0
 IsMet has box origin = (s : Square) × has origin s × Meet (closed_square s) box

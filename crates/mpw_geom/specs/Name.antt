@@ -1,4 +1,4 @@
--- What a name is: 1 to 255 bytes of visible ASCII, 21 to 7E hex.
+-- Names: 1 to 255 bytes of visible ASCII, 21 to 7E hex.
 use Rattle.std.specs.Prelude.{◌&&◌, ◌≤◌, ℕ, Bool, nat_le, List, length, All}
 use Rattle.std.specs.List.{list_all}
 

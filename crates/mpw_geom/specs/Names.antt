@@ -10,7 +10,7 @@ use Rattle.std.specs.FinMap.Entries.{put}
 abbrev pub name_eq : List ℕ → List ℕ → Bool
 name_eq = pointwise nat_eq
 
--- names in the order of their bytes
+-- names in alphabetical (byte) order
 abbrev pub name_cmp : List ℕ → List ℕ → Ordering
 name_cmp = slice_cmp nat_cmp
 
@@ -22,11 +22,11 @@ contains_name names name = list_any (name_eq name) names
 abbrev pub without_name : List (List ℕ) → List ℕ → List (List ℕ)
 without_name names name = filter (λ other. not (name_eq name other)) names
 
--- each name at its place in the order, and once
+-- each name as an entry of the ordered map, once
 abbrev pub placed_by_name : List (List ℕ) → List (List ℕ × Unit {0})
 placed_by_name [] = []
 placed_by_name (name ∷ names) = put name_cmp name tt (placed_by_name names)
 
--- the names of the list in the order of their bytes, each once
+-- the names of the list in alphabetical (byte) order, each once
 abbrev pub by_name : List (List ℕ) → List (List ℕ)
 by_name names = map (λ entry. entry.0) (placed_by_name names)

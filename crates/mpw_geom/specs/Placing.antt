@@ -1,4 +1,4 @@
--- Placing of a structure (GDSII Stream release 6, STRANS, ANGLE and XY of a structure reference): mirror about the x
+-- Placing a structure (GDSII Stream release 6, STRANS, ANGLE and XY of a structure reference): mirror about the x
 -- axis, then quarter turns counterclockwise, then a displacement.
 use Rattle.std.specs.Prelude.{◌≡◌, ℕ, zero, suc, Bool, true, false, pos, neg_ℤ, ◌+ℤ◌, ◌-ℤ◌, if◌then◌else◌}
 use Rattle.mpw_geom.specs.declared.plane.Orient.{Orient}
@@ -29,7 +29,7 @@ quarter_turns M90 = 1
 quarter_turns M180 = 2
 quarter_turns M270 = 3
 
--- `turn` done n times
+-- `turn` applied n times
 abbrev pub times : {A : Type 0} → (A → A) → ℕ → A → A
 times turn zero a = a
 times turn (suc n) a = turn (times turn n a)
@@ -38,7 +38,7 @@ times turn (suc n) a = turn (times turn n a)
 abbrev pub by_orient : {A : Type 0} → (A → A) → (A → A) → Orient → A → A
 by_orient mirror turn o a = times turn (quarter_turns o) (if is_mirrored o then mirror a else a)
 
--- the orientation that undoes another: a quarter turn is undone by the other one, and the others undo themselves
+-- the orientation that undoes another one: a quarter turn is undone by the opposite one, and the others undo themselves
 abbrev pub undoing : Orient → Orient
 undoing R0 = R0
 undoing R90 = R270
@@ -65,7 +65,7 @@ oriented_point o p = by_orient mirrored_point turned_point o p
 unfoldable pub placed_point : Placing → Point → Point
 placed_point t p = moved_point t.by (oriented_point t.orient p)
 
--- on unit squares: the mirror takes the rows [j, j + 1) to [-j - 1, -j), and so does the turn before it exchanges
+-- on unit squares: the mirror takes the rows [j, j + 1) to [-j - 1, -j), and so does the turn before it exchanges rows and columns
 abbrev pub mirrored_square : Square → Square
 mirrored_square s = record { column = s.column; row = neg_ℤ s.row -ℤ pos 1 }
 

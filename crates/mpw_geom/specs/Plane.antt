@@ -5,17 +5,17 @@ use Rattle.std.specs.Int.{int_min, int_max}
 use Rattle.mpw_geom.specs.declared.plane.Box2.{Box2}
 use Rattle.mpw_geom.specs.declared.plane.Point.{Point}
 
--- a coordinate that a caller may hand in: -2^48 to 2^48
+-- a coordinate that a caller may pass: -2^48 to 2^48
 pub record IsCoordinate (z : ℤ) : Type 0 where
   pub low : neg_ℤ (pos (2 ^ 48)) ≤ℤ z
   pub high : z ≤ℤ pos (2 ^ 48)
 
--- a point that a caller may hand in
+-- a point that a caller may pass
 pub record IsInPlane (p : Point) : Type 0 where
   pub x : IsCoordinate p.x
   pub y : IsCoordinate p.y
 
--- a box that a caller may hand in
+-- a box that a caller may pass
 pub record IsBoxInPlane (b : Box2) : Type 0 where
   pub x0 : IsCoordinate b.x0
   pub y0 : IsCoordinate b.y0
@@ -27,7 +27,7 @@ pub record IsOrdered (b : Box2) : Type 0 where
   pub x : b.x0 ≤ℤ b.x1
   pub y : b.y0 ≤ℤ b.y1
 
--- the box has a unit square at all
+-- the box has some unit square
 pub record HasArea (b : Box2) : Type 0 where
   pub width : b.x0 <ℤ b.x1
   pub height : b.y0 <ℤ b.y1
@@ -59,7 +59,7 @@ closed_square s = record {
   y1 = s.row +ℤ pos 1;
 }
 
--- the least box that holds both
+-- the least box that contains both
 abbrev pub joined : Box2 → Box2 → Box2
 joined a b = record {
   x0 = int_min a.x0 b.x0;
@@ -68,12 +68,12 @@ joined a b = record {
   y1 = int_max a.y1 b.y1;
 }
 
--- the box, wider by so many nm on each side
+-- the box, extended by a number of nm on each side
 abbrev pub widened : Box2 → ℕ → Box2
 widened b n =
     record { x0 = b.x0 -ℤ pos n; y0 = b.y0 -ℤ pos n; x1 = b.x1 +ℤ pos n; y1 = b.y1 +ℤ pos n }
 
--- what the two boxes share; where they share no point, its corners are out of order
+-- the intersection of both boxes; if they share no point, its corners are out of order
 abbrev pub intersection : Box2 → Box2 → Box2
 intersection a b = record {
   x0 = int_max a.x0 b.x0;
@@ -82,7 +82,7 @@ intersection a b = record {
   y1 = int_min a.y1 b.y1;
 }
 
--- the box that has the point alone
+-- the box that consists of the point
 abbrev pub box_at : Point → Box2
 box_at p = record { x0 = p.x; y0 = p.y; x1 = p.x; y1 = p.y }
 

@@ -1,7 +1,7 @@
 //! Names of structures, cells, roles, users and rules.
 //!
-//! A [`Name`] shares its text with its copies, so a copy takes no further memory. Contracts see a
-//! name as the list of its bytes.
+//! A [`Name`] shares its text with its copies, so a copy takes no more memory. Contracts see a name
+//! as the list of its bytes.
 ghost use Rattle.std.specs.Prelude.{◌≡◌, ◌↔◌, ◌≤◌, IsTrue, IsErrOf, IfOk, Some, nat_eq};
 ghost use Rattle.std.specs.Ordering.{nat_cmp, as_partial_cmp};
 ghost use Rattle.std.specs.Cmp.{partial_equiv_from_equiv, po};
@@ -22,13 +22,13 @@ use thiserror::Error;
 /// The greatest length of a name, in bytes.
 pub const MAX_NAME: usize = 255;
 
-/// Why bytes give no name.
+/// Why bytes are no name.
 #[derive(Clone, Copy, Debug, PartialEq, Eq, Error)]
 pub enum NameFault {
-    /// There is no byte or more than 255, or one outside 21 to 7E hex.
+    /// There are no bytes, or more than 255, or a byte outside 21 to 7E hex.
     #[error("a name is 1 to 255 bytes of 21 to 7E hex")]
     BadName,
-    /// There was no room for the name's bytes.
+    /// Out of memory (for the name's bytes).
     #[error("out of memory")]
     Memory,
 }
@@ -57,14 +57,14 @@ impl Model for Name {
     ghost invariant = { λ n. IsName (arc_str_bytes n.text) };
 }
 
-/// Whether a byte may stand in a name.
+/// Whether a byte is allowed in a name.
 pub const fn is_visible(byte: u8) -> bool
     ensures { IsTrue result ↔ IsVisible byte }
 {
     byte >= 0x21 && byte <= 0x7E
 }
 
-/// Whether the bytes are those of a name. One pass.
+/// Whether the bytes are a name. One pass.
 pub fn is_name(bytes: &[u8]) -> bool
     ensures { IsTrue result ↔ IsName bytes.now }
 {
@@ -75,8 +75,8 @@ impl Name {
     /// Reads a name. One pass and a fixed number of allocations.
     ///
     /// # Errors
-    /// `BadName` exactly where the bytes are no name's; `Memory` where they are and there is no
-    /// room for them.
+    /// `BadName` exactly if the bytes are no name; `Memory` if they are a name and there is no
+    /// memory for them.
     pub fn read(alloc: Global, bytes: &[u8]) -> Result<Name, NameFault>
         ensures ok { IfOk result (λ name. name ≡ bytes.now) }
         ensures is_name { IfOk result (λ _. IsName bytes.now) }
@@ -110,10 +110,10 @@ impl Name {
         self.text.as_str().as_bytes()
     }
 
-    /// The same name. Constant time and no further memory.
+    /// The same name. Constant time, without more memory.
     ///
     /// # Errors
-    /// Where no more copies can be counted.
+    /// If no more copies can be counted.
     pub fn copy(&self) -> Result<Name, AllocError>
         ensures { IfOk result (λ name. name ≡ self.now) }
     {

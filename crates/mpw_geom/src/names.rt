@@ -1,4 +1,4 @@
-//! Lists of names, as roles of a session or cells of a marker.
+//! Lists of names, such as the roles of a session or the cells of a marker.
 ghost use Rattle.std.specs.Prelude.{◌≡◌, [], ◌∷◌, ◌++◌, not, IfOk, OnOk, OnErr};
 ghost use Rattle.mpw_geom.specs.Names.{name_eq, contains_name, without_name, by_name};
 
@@ -6,7 +6,7 @@ use crate::Name;
 use std::alloc::{AllocError, Global};
 use std::marker::Model;
 
-/// A list of names, which contracts see as that list.
+/// A list of names. Contracts see it as a list.
 pub struct Names {
     items: Vec<Name>,
 }
@@ -27,7 +27,7 @@ impl Model for Names {
 }
 
 impl Names {
-    /// The list without names. It takes no memory.
+    /// The empty list. Takes no memory.
     pub fn new(alloc: Global) -> Names
         ensures { result ≡ [] }
     {
@@ -36,14 +36,14 @@ impl Names {
         }
     }
 
-    /// The list of these names. It takes no memory.
+    /// The list of these names. Takes no memory.
     pub fn from_vec(items: Vec<Name>) -> Names
         ensures { result ≡ items.items }
     {
         Names { items }
     }
 
-    /// The names as a `Vec`. It takes no memory.
+    /// The names as a `Vec`. Takes no memory.
     pub fn into_vec(self) -> Vec<Name>
         ensures { result.items ≡ self }
     {
@@ -68,7 +68,7 @@ impl Names {
     /// Adds a name at the end.
     ///
     /// # Errors
-    /// Where there is no room; the list is then as it was.
+    /// Out of memory. The list is then as it was.
     pub fn push(&mut self, name: Name) -> Result<(), AllocError>
         ensures ok { OnOk result (self.new ≡ self.old ++ name ∷ []) }
         ensures err { OnErr result (self.new ≡ self.old) }
@@ -77,7 +77,7 @@ impl Names {
         Ok(())
     }
 
-    /// Takes the name out. The others keep their order. One pass.
+    /// Removes the name. The others keep their order. One pass.
     pub fn remove(&mut self, name: &Name)
         ensures { self.new ≡ without_name self.old name.now }
     {
@@ -91,7 +91,7 @@ impl Names {
     /// Sorts the names by their bytes and keeps each once: n log n comparisons.
     ///
     /// # Errors
-    /// Where there is no room to sort; the list is then as it was.
+    /// Out of memory. The list is then as it was.
     pub fn sort(&mut self) -> Result<(), AllocError>
         ensures ok { OnOk result (self.new ≡ by_name self.old) }
         ensures err { OnErr result (self.new ≡ self.old) }
@@ -104,7 +104,7 @@ impl Names {
     /// The same list. The names share their text.
     ///
     /// # Errors
-    /// Where there is no room.
+    /// Out of memory.
     pub fn copy(&self) -> Result<Names, AllocError>
         ensures { IfOk result (λ names. names ≡ self.now) }
     {

@@ -10,17 +10,17 @@ ghost use Rattle.mpw_geom.specs.declared.plane.Point.{Point};
 
 use crate::plane::{Box2, Orient, Point};
 
-/// How a structure stands in its parent: mirrored and turned by `orient`, then moved by `by`, in nm.
+/// How a structure is placed in its parent: mirrored and turned by `orient`, then displaced by `by`, in nm.
 #[derive(Clone, Copy)]
 pub struct Placing {
     /// How it is mirrored and turned, about the origin of its own coordinates.
     pub orient: Orient,
-    /// Where that origin comes.
+    /// Where that origin is placed.
     pub by: Point,
 }
 
 impl Orient {
-    /// Where the orientation takes the point, about the origin.
+    /// The image of a point, about the origin.
     pub fn apply(self, p: Point) -> Point
         requires { IsInPlane p }
         ensures point { result ≡ oriented_point self p }
@@ -49,7 +49,7 @@ impl Orient {
         self.undoing()
     }
 
-    // Apart from `inverse`, so that its four clauses are proved once and not for each orientation.
+    // Separate from `inverse`, so that its four clauses are proved once and not for each orientation.
     fn undoing(self) -> Orient
         ensures { result ≡ undoing self }
     {
@@ -65,7 +65,7 @@ impl Orient {
         }
     }
 
-    /// The orientation that is this one and then `next`.
+    /// The orientation that is this one followed by `next`.
     #[tactic(auto, unfolding(crate::specs::Placing::oriented_point, crate::specs::Placing::oriented_square))]
     pub fn then(self, next: Orient) -> Orient
         ensures points { (p : Point) → oriented_point result p ≡ oriented_point next (oriented_point self p) }
@@ -126,7 +126,7 @@ impl Orient {
 }
 
 impl Placing {
-    /// Where the placing takes the point.
+    /// The image of a point.
     #[tactic(auto, unfolding(crate::specs::Placing::placed_point))]
     pub fn apply(self, p: Point) -> Point
         requires point { IsInPlane p }
@@ -140,7 +140,7 @@ impl Placing {
         }
     }
 
-    /// Where the placing takes the box: the box of the placed corners.
+    /// The image of a box: the box of the images of its corners.
     pub fn apply_box(self, b: Box2) -> Box2
         requires ordered { IsOrdered b }
         requires corners { IsBoxInPlane b }
@@ -153,7 +153,7 @@ impl Placing {
         Box2::between(p, q)
     }
 
-    /// The placing that is this one and then `next`.
+    /// The placing that is this one followed by `next`.
     pub fn then(self, next: Placing) -> Placing
         requires inner { IsInPlane self.by }
         requires outer { IsInPlane next.by }
@@ -168,8 +168,8 @@ impl Placing {
     }
 }
 
-/// A law of the definitions: a placing takes a closed unit square's points to the points of the
-/// placed closed unit square, and no others.
+/// A law about the definitions: a placing takes the points of a closed unit square exactly to the points of the
+/// placed closed unit square.
 pub fn squares_go_with_points()
     ensures { PlacedSquaresHavePlacedPoints }
 {}

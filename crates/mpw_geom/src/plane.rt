@@ -21,9 +21,9 @@ pub struct Box2 {
     pub x0: i64,
     /// The lower side.
     pub y0: i64,
-    /// The right side; of the unit squares of the box the last column is the one before it.
+    /// The right side. The last column of the box's unit squares is the one before it.
     pub x1: i64,
-    /// The upper side; of the unit squares of the box the last row is the one before it.
+    /// The upper side. The last row of the box's unit squares is the one before it.
     pub y1: i64,
 }
 
@@ -32,15 +32,15 @@ pub struct Box2 {
 pub struct Layer {
     /// The number of LAYER.
     pub layer: u16,
-    /// The number of DATATYPE, of a BOX that of BOXTYPE.
+    /// The number of DATATYPE, or of BOXTYPE for a BOX.
     pub datatype: u16,
 }
 
-/// One of the eight orientations: `R` turns counterclockwise by the degrees named, `M` mirrors
+/// One of the eight orientations. `R` turns counterclockwise by the degrees in its name; `M` mirrors
 /// about the x axis first and then turns.
 #[derive(Clone, Copy, PartialEq, Eq)]
 pub enum Orient {
-    /// Leaves (x, y).
+    /// Leaves (x, y) unchanged.
     R0,
     /// Takes (x, y) to (-y, x).
     R90,
@@ -59,7 +59,7 @@ pub enum Orient {
 }
 
 impl Box2 {
-    /// The box that has the point alone.
+    /// The box that consists of the point.
     pub fn at(p: Point) -> Box2
         ensures { result ≡ box_at p }
     {
@@ -72,7 +72,7 @@ impl Box2 {
         }
     }
 
-    /// The box that has the two points as opposite corners, in whichever order.
+    /// The box that has the two points as opposite corners, in either order.
     #[tactic(auto, unfolding(crate::specs::Plane::box_between))]
     pub fn between(p: Point, q: Point) -> Box2
         ensures { result ≡ box_between p q }
@@ -80,7 +80,7 @@ impl Box2 {
         Box2::at(p).join(Box2::at(q))
     }
 
-    /// The least box that holds both (KLayout's `Box#join`).
+    /// The least box that contains both (KLayout's `Box#join`).
     pub fn join(self, other: Box2) -> Box2
         ensures { result ≡ joined self other }
     {
@@ -92,7 +92,7 @@ impl Box2 {
         }
     }
 
-    /// What the two boxes share; where they share no point, its corners are out of order.
+    /// The intersection of both boxes. If they share no point, its corners are out of order.
     pub fn intersection(self, other: Box2) -> Box2
         ensures { result ≡ intersection self other }
     {
@@ -104,7 +104,7 @@ impl Box2 {
         }
     }
 
-    /// Whether the two closed boxes share a point; a common corner or edge is enough. Takes no
+    /// Whether the two closed boxes share a point. A common corner or edge is enough. Takes no
     /// memory.
     pub fn meets(self, other: Box2) -> bool
         ensures { IsTrue result ↔ ((p : Point) × IsTrue (has_point self p) × IsTrue (has_point other p)) }

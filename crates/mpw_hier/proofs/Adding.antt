@@ -1,4 +1,4 @@
--- One node more, behind those of all structures that it places.
+-- Adding one more node, after those of all structures that it places.
 use Rattle.std.proofs.Common.{◌≡◌, ℕ, zero, suc, ◌<◌, inl, inr, List, [], ◌∷◌, ◌++◌, length, get_or, set, take, replicate, All, Option, Some, None, refl, sym, ap, subst, ◌∙◌, arith, length-set, get_or-set_other}
 use Rattle.std.specs.Prelude.{slice_get}
 use Rattle.std.specs.List.{AllZip}
@@ -72,7 +72,7 @@ last_get xs x =
     slice_get-get_or (xs ++ x ∷ []) (length xs) x here
     ∙ ap (λ y. Some y) (get_or-append_seam xs x [] x)
 
--- what stands at a place of a library, as the code has read it
+-- the structure at an index of a library, as the code has read it
 pub record StandsAt (library : List Structure) (place : ℕ) (structure : Structure) : Type 0 where
   pub is : slice_get library place ≡ Some structure
   pub named : place_of library structure.name ≡ Some place
@@ -89,7 +89,7 @@ stands {library = library} {place = place} {t = t} p same at =
       named = subst (λ (x : Structure). place_of library x.name ≡ Some place) one p.named;
     }
 
--- the sizes that were told of the elements
+-- the sizes that were returned for the elements
 pub told_sizes : (ss : List Submission) (s : Submission) {es read : List Element}
     {below sizes : List Size} → read ≡ es → sizes ≡ below → AreSizesHere ss s read below
     → AreSizesHere ss s es sizes

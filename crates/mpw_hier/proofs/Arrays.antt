@@ -40,7 +40,7 @@ pub no_step : (s : ℤ) → pos 0 *ℤ s ≡ pos 0
 no_step (pos c) = omega (arith, ints)
 no_step (negsuc c) = omega (arith, ints)
 
--- steps lead one way
+-- steps lead in one direction
 one_way : (n : ℕ) (s : ℤ) → ((pos 0 ≤ℤ s) × (pos 0 ≤ℤ (pos n *ℤ s)))
     ⊎ ((s ≤ℤ pos 0) × ((pos n *ℤ s) ≤ℤ pos 0))
 one_way n (pos c) = inl (omega (arith, ints), omega (arith, ints))
@@ -62,7 +62,7 @@ spanned x s i n m same =
       }
     ]
 
--- ---- moved boxes
+-- ---- displaced boxes
 
 abbrev pub led : ℕ → Point → Point
 led n step = record { x = pos n *ℤ step.x; y = pos n *ℤ step.y }
@@ -194,7 +194,7 @@ one_row r n row b e =
     ∙ line_of r.column_step (moved_box (led row r.row_step) (first_of r b)) n
     ∙ ap Some (moved_columns r n (led row r.row_step) (first_of r b))
 
--- the box that code makes of the first instance and of the last column and row
+-- the box that the code makes of the first instance and of the last column and row
 abbrev pub corners_box : Reference → (n m : ℕ) → Box2 → Box2
 corners_box r n m b = record {
   x0 = (b.x0 +ℤ int_min (pos n *ℤ r.column_step.x) (pos 0)) +ℤ int_min (pos m *ℤ r.row_step.x)
@@ -229,7 +229,7 @@ array_is r n m b e f =
     ∙ line_of r.row_step (columns_box r n (first_of r b)) m
     ∙ ap Some (at_corners r n m (first_of r b))
 
--- the same box, as code makes it step by step
+-- the same box, as the code makes it step by step
 corner_sum : (w f c r p q : ℤ) (g : ℤ → ℤ → ℤ) (h : ℤ) → w ≡ (f +ℤ c) +ℤ r → f ≡ h → c ≡ g p (pos 0)
     → r ≡ g q (pos 0) → (s t : ℤ) → p ≡ s → q ≡ t → (h +ℤ g s (pos 0)) +ℤ g t (pos 0) ≡ w
 corner_sum w f c r p q g h e a b d s t u v = sym (e ∙ rw (a, b, d, u, v) refl)

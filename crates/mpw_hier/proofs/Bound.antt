@@ -1,4 +1,4 @@
--- The bindings of the names from a place on.
+-- The bindings of the names from an index on.
 use Rattle.std.proofs.Common.{◌≡◌, ℕ, ◌+◌, ◌<◌, Bool, true, false, cond, inl, inr, subst, arith, List, [], ◌∷◌, ◌++◌, length, get_or, drop, Option, Some, None, refl, sym, ap, ◌∙◌, append_assoc}
 use Rattle.std.proofs.lemmas.List.{at_drop_more}
 use Rattle.mpw_hier.specs.declared.bindings.Binding.{Binding}
@@ -8,7 +8,7 @@ use Rattle.mpw_hier.specs.Shelf.{later, present_from, present, bound_before, bou
 use Rattle.mpw_hier.specs.Values.{bound_number}
 use Rattle.mpw_hier.proofs.Linking.{same_name, name_itself, or_cases}
 
--- Bindings behind others.
+-- Bindings after others.
 abbrev pub bound_behind : List Binding → Option (List Binding) → Option (List Binding)
 bound_behind front None = None
 bound_behind front (Some bindings) = Some (front ++ bindings)
@@ -28,7 +28,7 @@ pub bound_one : (front : List Binding) (b : Binding) (rest : Option (List Bindin
 bound_one front b None = refl
 bound_one front b (Some bs) = rw append_assoc refl
 
--- ---- what a bound name means
+-- ---- what a bound name refers to
 
 present_within : (k : ℕ) (ss : List Submission) (name : List ℕ) (n : ℕ)
     → present_from k ss name ≡ Some n → n < k + length ss

@@ -31,7 +31,7 @@ dot =
 abbrev place_e : Element
 place_e = elements.Reference array
 
--- T shows a dot of its own and an array of E, which shows a dot and a name outside
+-- T has a dot of its own and an array of E, which has a dot and a name outside
 abbrev two : List Structure
 two = record { name = 84 ∷ []; elements = place_e ∷ dot ∷ [] }
     ∷ record { name = 69 ∷ []; elements = dot ∷ [] } ∷ []

@@ -144,7 +144,7 @@ extent_array r xs = go (extent_of xs) refl
     go None e = none_placed xs e (instances r)
     go (Some b) e = some_placed xs b e (instances r)
 
--- a shape of the structure's own stays where it is
+-- a shape of the structure's own stays in place
 own_some : (o : Option Box2) → AreOrdered o → option_map (placed_box unmoved) o ≡ o
 own_some None h = refl
 own_some (Some b) h = ap Some (unmoved_box b h)

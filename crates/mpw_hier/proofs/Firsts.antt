@@ -1,4 +1,4 @@
--- What submissions show one after another: what comes later changes nothing.
+-- The contents of submissions in their order: later ones change nothing.
 use Rattle.std.proofs.Common.{◌≡◌, ℕ, suc, ◌+◌, ◌<◌, ◌≤◌, List, [], ◌∷◌, ◌++◌, length, get_or, take, drop, Some, refl, sym, ap, subst, ◌∙◌, arith, append-nil}
 use Rattle.std.specs.Prelude.{slice_get}
 use Rattle.std.proofs.lemmas.List.{length-append, take-append-drop, take-append-le, get_or-take, length-take}
@@ -23,7 +23,7 @@ module _ {V : Type 0} (shown : List V → Submission → V) where
       let m = length-append before (shown before s ∷ []) in
       omega (arith, n, m)
 
-  -- what stands before stays
+  -- what comes before stays
   pub firsts_front : (before : List V) (ss : List Submission)
       → take (length before) (from_first shown before ss) ≡ before
   unfolding from_first
@@ -47,7 +47,7 @@ module _ {V : Type 0} (shown : List V → Submission → V) where
   unfolding from_first
   firsts_more ss s = firsts_append [] ss (s ∷ [])
 
-  -- what the first submissions show
+  -- the contents of the first submissions
   pub firsts_take : (n : ℕ) (ss : List Submission) → n ≤ length ss
       → take n (from_first shown [] ss) ≡ from_first shown [] (take n ss)
   firsts_take n ss le =
@@ -64,7 +64,7 @@ module _ {V : Type 0} (shown : List V → Submission → V) where
       ap (take n) split ∙ subst (λ k. take k (from_first shown front (drop n ss)) ≡ front) sized
       (firsts_front front (drop n ss))
 
-  -- what the submission of a number shows
+  -- the content of the submission with a number
   pub firsts_at : (ss : List Submission) (n : ℕ) (s : Submission) (d : V) → slice_get ss n ≡ Some s
       → get_or (from_first shown [] ss) n d ≡ shown (from_first shown [] (take n ss)) s
   firsts_at ss n s d is =
@@ -84,7 +84,7 @@ module _ {V : Type 0} (shown : List V → Submission → V) where
       ∙ firsts_more (take n ss) s) ∙ subst (λ k. get_or (front ++ shown front s ∷ []) k d
       ≡ shown front s) long (get_or-append_seam front (shown front s) [] d)
 
-  -- what an earlier submission shows is the same before a later one
+  -- the content of an earlier submission is the same before a later one
   pub firsts_earlier : (ss : List Submission) (n m : ℕ) (d : V) → m < n → n ≤ length ss
       → get_or (from_first shown [] (take n ss)) m d ≡ get_or (from_first shown [] ss) m d
   firsts_earlier ss n m d lt le = ap (λ xs. get_or xs m d) (sym (firsts_take n ss le))

@@ -1,4 +1,4 @@
--- Least boxes hold what they are the least box of.
+-- Least boxes contain what they are the least box of.
 use Rattle.std.proofs.Common.{[], ◌∷◌, Option, Some, None, arith}
 use Rattle.std.proofs.lemmas.Int.{ints, clamps}
 use Rattle.std.proofs.lemmas.List.Elements.{All-nil, All-cons, All-head, All-tail, All-weaker}

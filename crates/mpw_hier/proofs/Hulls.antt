@@ -1,4 +1,4 @@
--- Least boxes that hold others.
+-- Least boxes that contain others.
 use Rattle.std.proofs.Common.{◌≡◌, ℤ, Option, Some, None, refl, ap, sym, ◌∙◌, arith}
 use Rattle.std.specs.Int.{int_min, int_max}
 use Rattle.std.proofs.lemmas.Int.{ints, clamps}

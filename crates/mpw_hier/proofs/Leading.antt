@@ -1,4 +1,4 @@
--- Ways in a graph, and membership by place.
+-- Ways in a graph, and membership by index.
 use Rattle.std.proofs.Common.{◌≡◌, ℕ, zero, suc, ◌+◌, ◌-◌, ◌<◌, ◌⊎◌, inl, inr, List, length, get_or, set, take, sym, ap, subst, ◌∙◌, arith, Contains, get_or-set_other, get_or-take, length-take-le}
 use Rattle.std.proofs.lemmas.Bool.Decides.{eqb_tells}
 use Rattle.std.proofs.lemmas.Grind.{get_or-set_at}
@@ -14,7 +14,7 @@ written xs i v j h = elim (eqb_tells j i) [
   | inr p ↦ inr (p.1, get_or-set_other xs i j v 0 p.1)
 ]
 
--- the number at a place is among them, and each of them stands at a place
+-- the number at an index is among them, and each of them is at an index
 pub among : (xs : List ℕ) (k x : ℕ) → k < length xs → get_or xs k 0 ≡ x → Contains xs x
 among xs k x h e = (k, h, get_or_default xs k x 0 h ∙ e)
 

@@ -1,4 +1,4 @@
--- What names mean to a submission whose nodes are built.
+-- What names refer to in a submission whose nodes are being made.
 use Rattle.std.proofs.Common.{◌≡◌, ℕ, ◌<◌, inl, inr, List, [], length, get_or, Option, Some, None, refl, sym, ap, subst, ◌∙◌, arith}
 use Rattle.std.specs.Prelude.{slice_get, IfNone}
 use Rattle.std.specs.Option.{IsSome}
@@ -19,13 +19,13 @@ use Rattle.mpw_hier.proofs.Unfolding.{unfolds_outside, items_by_targets, heights
 use Rattle.mpw_hier.proofs.Linking.{place_within}
 use Rattle.mpw_hier.proofs.Tops.{same_place}
 
--- what stands at a place of the numbers
+-- the entry at an index of the numbers
 pub number_known : (numbers : List (Option ℕ)) (place k : ℕ) (o : Option ℕ) → place < length numbers
     → o ≡ get_or numbers place o → o ≡ Some k → number_at numbers place ≡ Some k
 number_known numbers place k o within is at =
     get_or_default numbers place None o within ∙ sym is ∙ at
 
--- a submission of a number on the shelf has a size
+-- a submission with a number on the shelf has a size
 pub some_size : (ss : List Submission) (n : ℕ) (o : Option Size) → n < length ss
     → IfNone o (slice_get ss n ≡ None) → IsSome o
 some_size ss n (Some v) lt none = refl

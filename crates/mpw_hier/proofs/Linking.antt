@@ -66,7 +66,7 @@ pub place_within : (ss : List Structure) (name : List ℕ) (i : ℕ) → place_o
     → i < length ss
 place_within ss name i e = let r = found_at ss name i e in slice_get_within ss i r.0 r.1
 
--- ---- the places and names that references tell
+-- ---- the places and names of references
 
 pub among_places : (ss : List Structure) (names : List (List ℕ)) (name : List ℕ) (i : ℕ)
     → contains_name names name ≡ true → place_of ss name ≡ Some i → Contains (places_of ss names) i
@@ -239,7 +239,7 @@ cycle_named ss top place e h =
 
 -- ---- what lies below the top
 
--- a name outside the library leads to itself alone
+-- a name outside the library leads only to itself
 pub outside_end : (ss : List Structure) {from to : List ℕ} → IsReachable ss from to
     → place_of ss from ≡ None → from ≡ to
 outside_end ss itself e = refl
@@ -247,7 +247,7 @@ outside_end ss (chain {from = from} {middle = middle} r way) e =
     let none : refers ss from middle ≡ false = rw e refl in
     absurd (let q = sym none ∙ r in cc)
 
--- what holds of a place and of each place to which one leads for which it holds, holds of what is reached
+-- if a property passes from a place to each place to which it leads, it holds for all that is reached
 pub kept_below : (ss : List Structure) (P : ℕ → Type 0)
     → ((i j : ℕ) → P i → Contains (targets (graph_of ss) i) j → P j) → {from to : List ℕ}
     → IsReachable ss from to → (i j : ℕ) → place_of ss from ≡ Some i → place_of ss to ≡ Some j → P i

@@ -1,4 +1,4 @@
--- What names show to a submission on a shelf.
+-- The contents of names, for a submission on a shelf.
 use Rattle.std.proofs.Common.{◌≡◌, ℕ, suc, ◌<◌, ◌≤◌, true, List, [], ◌++◌, length, take, Some, sym, ap, subst, ◌∙◌, arith}
 use Rattle.std.specs.Prelude.{slice_get}
 use Rattle.std.proofs.lemmas.Option.{slice_get_within}
@@ -22,7 +22,7 @@ use Rattle.mpw_hier.proofs.Tops.{named_at, low_below, same_place, shelf_size}
 one_structure : {a b : Structure} → Some a ≡ Some b → a ≡ b
 one_structure e = cc
 
--- ---- what submissions show one after another, of any kind
+-- ---- the contents of submissions in their order, of any kind
 
 module _ {V : Type 0} (shown : ℕ → Structure → (List ℕ → V) → V) (nothing : V) (by_targets : (n : ℕ)
     → IsByTargets (shown n)) where

@@ -1,4 +1,4 @@
--- Boxes that reach no further than 2^30 nm.
+-- Boxes that lie within 2^30 nm.
 use Rattle.std.proofs.Common.{◌≡◌, ◌^◌, Bool, true, false, ◌&&◌, ℤ, pos, neg_ℤ, ◌≤ℤ◌, Option, Some, None, refl, sym, ◌∙◌, arith}
 use Rattle.std.specs.Prelude.{int_le}
 use Rattle.std.proofs.lemmas.Bool.{false_from_ne_true, false≢true}

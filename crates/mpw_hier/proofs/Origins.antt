@@ -1,4 +1,4 @@
--- Where the shapes of flat lists come from: the submission itself, or an earlier one.
+-- The origins of the shapes of flat lists: the submission itself, or an earlier one.
 use Rattle.std.proofs.Common.{◌≡◌, ℕ, zero, suc, ◌≤◌, inl, inr, List, [], ◌∷◌, ◌++◌, length, get_or, map, Option, Some, None, sym, subst, arith}
 use Rattle.std.specs.Prelude.{All}
 use Rattle.std.specs.List.{flat_map}
@@ -69,7 +69,7 @@ levels_upto number outside each (suc levels) library name =
 
 -- ---- one submission after another
 
--- What each submission of a list shows comes from that one or from earlier ones.
+-- The shapes of each submission of a list come from that one or from earlier ones.
 abbrev AreEarlier : List (List Item) → Type 0
 AreEarlier before = (k : ℕ) → AreUpto k (get_or before k [])
 

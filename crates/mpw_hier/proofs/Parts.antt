@@ -1,4 +1,4 @@
--- What stands in a structure, element by element; and bindings in a table, one by one.
+-- The parts of a structure, element by element; and bindings in a table, one by one.
 use Rattle.std.proofs.Common.{◌≡◌, ℕ, zero, suc, ◌+◌, ◌^◌, min, ◌<◌, ◌≤◌, Bool, true, false, cond, List, [], ◌∷◌, ◌++◌, length, get_or, take, drop, Option, Some, None, refl, sym, ap, ◌∙◌, arith, append_assoc, append-nil}
 use Rattle.std.specs.Option.{option_or}
 use Rattle.std.specs.BTreeMap as tree
@@ -197,7 +197,7 @@ module _ (es : List Element) (i : ℕ) (e : Element) (h : i < length es)
         rw append_assoc (inv (record { element = i; target = target } ∷ rest)
         (rw here (child some means more)))
 
--- a list of which no shape, or one at least, is told
+-- a list of which no shape, or at least one, is counted
 pub none_told : {X : Type 0} (xs : List X) (told : ℕ) → told ≡ min (2 ^ 40 + 1) (length xs)
     → told ≤ 0 → xs ≡ []
 none_told [] told e le = refl

@@ -1,4 +1,4 @@
--- Placings one behind another, on points and on boxes.
+-- Placings one after another, on points and on boxes.
 use Rattle.std.proofs.Common.{◌≡◌, ℕ, zero, suc, pos, Bool, true, false, if◌then◌else◌, refl, ap, sym, ◌∙◌, arith}
 use Rattle.std.proofs.lemmas.Int.{ints, clamps}
 use Rattle.mpw_geom.proofs.Boxes.{same_box}
@@ -45,7 +45,7 @@ turns_go : {A B : Type 0} (turn : A → A) (turn' : B → B) (f : A → B)
 turns_go turn turn' f g zero a = refl
 turns_go turn turn' f g (suc n) a = g (times turn n a) ∙ ap turn' (turns_go turn turn' f g n a)
 
--- what goes with the mirror and with the turn goes with each orientation
+-- what commutes with the mirror and with the turn commutes with each orientation
 orients_go : {A B : Type 0} (mirror turn : A → A) (mirror' turn' : B → B) (f : A → B)
     → ((a : A) → f (mirror a) ≡ mirror' (f a)) → ((a : A) → f (turn a) ≡ turn' (f a))
     → (o : Orient) (a : A) → f (by_orient mirror turn o a) ≡ by_orient mirror' turn' o (f a)
@@ -72,7 +72,7 @@ again_point t u p =
 
 -- ---- boxes
 
--- the box between the points to which a box's corners are taken
+-- the box between the images of a box's corners
 abbrev taken : (Point → Point) → Box2 → Box2
 taken f b = box_between (f (record { x = b.x0; y = b.y0 })) (f (record { x = b.x1; y = b.y1 }))
 
@@ -82,7 +82,7 @@ between_ordered p q = record { x = omega (arith, ints, clamps); y = omega (arith
 
 ruleset boxes = (arith, ints, clamps)
 
--- to take boxes so goes with the least boxes of points and of boxes
+-- mapping boxes in this way commutes with the least boxes of points and of boxes
 record Carries (f : Point → Point) : Type 0 where
   between : (p q : Point) → taken f (box_between p q) ≡ box_between (f p) (f q)
   joins : (a b : Box2) → IsOrdered a → IsOrdered b

@@ -1,4 +1,4 @@
--- What the nodes of a submission tell of its limits.
+-- What the nodes of a submission say about its limits.
 use Rattle.std.proofs.Common.{◌≡◌, ℕ, ◌-◌, ◌<◌, ◌≤◌, ◌^◌, true, false, List, length, get_or, Some, Result, Ok, Err, refl, sym, ap, subst, ◌∙◌, arith}
 use Rattle.std.specs.Prelude.{slice_get, nat_lt, IfSome}
 use Rattle.std.specs.Result.{IfErr, IsErrAnd}
@@ -65,9 +65,9 @@ module _ (ss : List Submission) (s : Submission) (nodes : List Node)
     height = ltb-false 64 (height_of (heights ss) s) low;
   }
 
--- ---- limits by what is told
+-- ---- limits by the size
 
--- What the size of the last node tells of the limits.
+-- What the size of the last node says about the limits.
 pub record IsMeasured (most : ℕ) (ss : List Submission) (s : Submission) (size : Size) :
     Type 0 where
   pub near : IsFar ss s → ⊥
@@ -107,7 +107,7 @@ module _ {most : ℕ} {ss : List Submission} {s : Submission} {size : Size}
       → KeepsLimits most ss s
   kept few flat room = record { near = m.near; small = small few; low = low flat; room = room }
 
--- what keeps a lesser limit on shapes keeps a greater one
+-- what meets a lesser limit on shapes meets a greater one
 pub kept_within : (less most : ℕ) (ss : List Submission) (s : Submission) → less ≤ most
     → KeepsLimits less ss s → KeepsLimits most ss s
 kept_within less most ss s le k =
@@ -118,7 +118,7 @@ kept_within less most ss s le k =
       room = k.room;
     }
 
--- ---- the version says nothing of the limits
+-- ---- the version doesn't matter for the limits
 
 far_of : (ss : List Submission) (s : Submission) (version : ℕ) → IsFar ss s
     → IsFar ss (record s { version = version })
@@ -154,7 +154,7 @@ refused_as most ss s version faults.NoCell h = absurd h
 
 -- ---- faults
 
--- what the making of nodes refuses
+-- what making the nodes refuses
 pub refused_nodes : (most : ℕ) (ss : List Submission) (s : Submission) (fault : HierFault)
     → IsOfNodes fault → (fault ≡ faults.Extent → IsFar ss s) → IsRefused most ss s fault
 refused_nodes most ss s faults.Memory of far = tt

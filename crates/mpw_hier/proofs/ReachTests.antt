@@ -1,4 +1,4 @@
--- The tests of what a top reaches are true exactly where the relations hold.
+-- The tests of what a top reaches are true exactly if the relations hold.
 use Rattle.std.proofs.Common.{◌≡◌, ℕ, zero, suc, ◌+◌, Bool, true, false, cond, not, ◌&&◌, inl, inr, List, [], ◌∷◌, Option, Some, None, refl, sym, ap, subst, ◌∙◌, arith, true≢false}
 use Rattle.std.specs.Prelude.{slice_get, nat_eq, ◌↔◌, filter}
 use Rattle.std.specs.Cmp.Lexicographic.{pointwise}
@@ -129,7 +129,7 @@ pub reaching : (ss : List Structure) (from to : List ℕ) → IsReachable ss fro
     → reaches ss from to ≡ true
 reaching ss from to way = leads-complete (links_of ss) from to (way_down ss way)
 
--- a name that refers is a structure's
+-- a name that refers to others is a structure's
 referring : (ss : List Structure) (from to : List ℕ) → refers ss from to ≡ true
     → (i : ℕ) × (s : Structure) × (place_of ss from ≡ Some i) × (slice_get ss i ≡ Some s)
     × (s.name ≡ from) × (contains_name (referenced_names s.elements) to ≡ true)

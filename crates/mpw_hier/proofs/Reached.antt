@@ -1,4 +1,4 @@
--- The places that a submission's top reaches, from below, and the nodes that are made in that order.
+-- The places that a submission's top reaches, in order, and the nodes that are made in that order.
 use Rattle.std.proofs.Common.{◌≡◌, ℕ, ◌+◌, ◌-◌, ◌<◌, ◌≤◌, inl, inr, true, List, [], ◌∷◌, length, get_or, set, take, Contains, Option, Some, None, Result, Err, Vec, Global, refl, sym, ap, subst, ◌∙◌, arith, length-take, get_or-take, get_or-set_other}
 use Rattle.std.specs.Prelude.{slice_get}
 use Rattle.std.specs.Result.{IsErrAnd}
@@ -109,7 +109,7 @@ module _ {ss : List Submission} {s : Submission} (b : IsBound ss s) {top : ℕ}
           let n = bound_name ss b.names s.bound name b.bound ((b.externals.outside name).1 shown) in
           outer n.0 (record { outside = none; bound = n.1; earlier = n.2 })
 
-  -- the places upto the top are all that it reaches
+  -- the places up to the top are all that it reaches
   pub order_whole : (i : ℕ) → i < length order → get_or order i 0 ≡ top
       → (numbers : List (Option ℕ)) → AreNumbered numbers (take (i + 1) order)
       → (name : List ℕ) (place : ℕ) → IsReachable s.library s.top name
@@ -174,7 +174,7 @@ pub not_at_all : (order : List ℕ) (top i : ℕ) → Contains order top → len
 not_at_all order top i c le before =
     let at = place_among order top c in before at.0 (omega (arith, at.1, le)) at.2
 
--- the nodes of so many places are made
+-- the nodes of the first i places are made
 pub record AreUpTo (ss : List Submission) (s : Submission) (order : List ℕ) (i : ℕ)
     (table : BTreeMap (List ℕ) ℕ) (numbers : List (Option ℕ)) (nodes : List Node) : Type 0 where
   pub linked : AreLinked ss s table numbers nodes
@@ -232,7 +232,7 @@ module _ {ss : List Submission} {s : Submission} (b : IsBound ss s) {top : ℕ}
             (k.0, r.0, r.1, r.2);
       }
 
--- the fault that is handed on
+-- the fault that is passed on
 pub extent_given : (result : Result (Vec Node Global) HierFault) (fault : HierFault)
     → result ≡ Err faults.Extent → IsErrAnd result (λ e. e ≡ fault) → fault ≡ faults.Extent
 extent_given result fault is given =

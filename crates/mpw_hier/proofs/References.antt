@@ -1,4 +1,4 @@
--- What the elements from a place on refer to.
+-- What the elements from an index on refer to.
 use Rattle.std.proofs.Common.{◌≡◌, ℕ, ◌+◌, ◌<◌, Bool, true, false, not, List, [], ◌∷◌, ◌++◌, length, get_or, drop, Option, Some, None, is_some, refl, sym, ap, ◌∙◌, append_assoc}
 use Rattle.std.proofs.lemmas.List.{at_drop_more}
 use Rattle.mpw_structures.specs.declared.element.Element.{Element}

@@ -1,4 +1,4 @@
--- Places that follow on one another.
+-- Consecutive indices.
 use Rattle.std.proofs.Common.{◌≡◌, ℕ, zero, suc, ◌+◌, ◌<◌, List, [], ◌∷◌, ◌++◌, length, take, get_or, refl, sym, ap, subst, ◌∙◌, arith}
 use Rattle.std.proofs.lemmas.List.{take_more}
 use Rattle.mpw_hier.specs.declared.places.Held.{Held}
@@ -10,7 +10,7 @@ pub numbers_length : (first count : ℕ) → length (numbers_from first count) �
 numbers_length first zero = refl
 numbers_length first (suc n) = rw (numbers_length (first + 1) n) (omega arith)
 
--- the number with an index
+-- the number at an index
 pub number_of : (first count i : ℕ) → i < count
     → get_or (numbers_from first count) i 0 ≡ first + i
 number_of first zero i h = absurd (omega (arith, h))
@@ -41,7 +41,7 @@ numbers_next first i ps d h before same =
     ∙ ap (λ xs. xs ++ (first + i) ∷ []) before
     ∙ ap (λ p. take i ps ++ p ∷ []) same ∙ sym (take_more ps i d h)
 
--- ---- places that are held as a run
+-- ---- indices that are stored as a run
 
 pub run_length : (h : Held) (run : Run) (ps : List ℕ) → h ≡ held.Run run → places_in h ≡ ps
     → run.count ≡ length ps

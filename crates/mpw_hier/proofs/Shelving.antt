@@ -1,4 +1,4 @@
--- One more submission on a shelf.
+-- Adding one more submission to a shelf.
 use Rattle.std.proofs.Common.{◌≡◌, ℕ, zero, suc, ◌+◌, ◌<◌, ◌≤◌, Bool, true, false, cond, ◌&&◌, ◌⊎◌, inl, inr, List, [], ◌∷◌, ◌++◌, length, get_or, take, Option, Some, None, refl, sym, ap, subst, ◌∙◌, arith}
 use Rattle.std.specs.Prelude.{slice_get, nat_lt}
 use Rattle.std.specs.BTreeMap as tree
@@ -21,7 +21,7 @@ use Rattle.mpw_hier.specs.Internal.Indexed.{IsShelved}
 
 -- ---- the last of a list
 
--- what stands in a list with one more
+-- the entries of a list with one more
 pub more_get : {X : Type 0} (xs : List X) (x : X) (n : ℕ) (y : X)
     → slice_get (xs ++ x ∷ []) n ≡ Some y → ((n < length xs) × (slice_get xs n ≡ Some y))
     ⊎ ((n ≡ length xs) × (y ≡ x))
@@ -44,7 +44,7 @@ more_get xs x n y is =
           )
     ]
 
--- an element stays where it is
+-- an element stays at its index
 pub get_more : {X : Type 0} (xs : List X) (x : X) (n : ℕ) (y : X) → slice_get xs n ≡ Some y
     → slice_get (xs ++ x ∷ []) n ≡ Some y
 get_more xs x n y is =
@@ -172,7 +172,7 @@ shelved_same m n nodes ss same w = record {
   submitted = w.submitted;
 }
 
--- what stands at a number of a shelf
+-- the entry at a number of a shelf
 pub shelved_at : (m : BTreeMap (List ℕ) ℕ) (nodes : List (List Node)) (ss : List Submission)
     → IsShelved m nodes ss → (i : ℕ) → i < length ss → (s : Submission) → s ≡ get_or ss i s
     → (of : List Node) → of ≡ get_or nodes i of

@@ -66,7 +66,7 @@ part_ordered (elements.Path p) ts = element_ordered (elements.Path p)
 part_ordered (elements.Reference r) [] = tt
 part_ordered (elements.Reference r) (t ∷ ts) = array_ordered r t.extent
 
--- what reaches too far still does with more
+-- what is out of bounds stays so with more
 pub far_total : (es : List Element) (ts : List Total) (i : ℕ) (left : List Size) (size : Size)
     (e : Element) → i < length es → e ≡ get_or es i e → (s : IsSumTo es ts i left size)
     → IsExtentFar (part_total e s.rest).extent

@@ -15,7 +15,7 @@ use Rattle.mpw_hier.proofs.Hulls.{hull_assoc, hull_none}
 abbrev pub blank : Total
 blank = record { count = 0; levels = 0; extent = None }
 
--- what elements show together
+-- the total of all elements together
 unfoldable pub all_total : List Element → List Total → Total
 all_total [] ts = blank
 all_total (e ∷ es) ts = together (part_total e ts) (all_total es (behind e ts))

@@ -1,4 +1,4 @@
--- Shelves: their limits, and what a later submission leaves as it was.
+-- Shelves: their limits, and what a later submission leaves unchanged.
 use Rattle.std.proofs.Common.{◌≡◌, ℕ, ◌+◌, ◌<◌, ◌≤◌, ◌^◌, Bool, true, false, cond, inl, inr, List, [], ◌∷◌, ◌++◌, length, get_or, take, Option, Some, None, refl, sym, ap, subst, ◌∙◌, arith}
 use Rattle.std.specs.Prelude.{slice_get, nat_lt}
 use Rattle.std.proofs.lemmas.Bool.{cases_lt}
@@ -44,7 +44,7 @@ within_some : (ss : List Submission) (n : ℕ) → n < length ss
 within_some [] n h = absurd (omega (arith, h))
 within_some (s ∷ ss) n h = (get_or (s ∷ ss) n s, slice_get-get_or (s ∷ ss) n s h)
 
--- what is not far is near
+-- what isn't far is near
 near_top : (ss : List Submission) (s : Submission) → IsSubmitted ss s
     → IsExtentNear (extent_of (flat_of (flats ss) s))
 near_top ss s w = go (extent_of (flat_of (flats ss) s)) refl
@@ -102,7 +102,7 @@ shelves_limited ss w n = elim (cases_lt n (length ss)) [
 
 -- ---- later submissions
 
--- what submissions in front show
+-- the content of the first submissions
 front_stays : {V : Type 0} (shown : List V → Submission → V) (ss later : List Submission) (n : ℕ)
     (d : V) → n < length ss → get_or (from_first shown [] (ss ++ later)) n d
     ≡ get_or (from_first shown [] ss) n d

@@ -1,4 +1,4 @@
--- What a step of a search reads: the last place of its way, and its next target.
+-- What a step of a search reads: the last place of its path, and its next target.
 use Rattle.std.proofs.Common.{◌≡◌, ℕ, ◌+◌, ◌-◌, ◌<◌, ◌≤◌, inl, inr, false, eqb, List, length, get_or, sym, ap, subst, ◌∙◌, arith, vec_len}
 use Rattle.std.proofs.lemmas.Bool.Decides.{eqb_tells}
 use Rattle.std.proofs.lemmas.List.{get_or_default}
@@ -29,7 +29,7 @@ next_within g top left path order p m w some last steps =
     (w.entered (length path - 1) (omega arith)) in
     omega (arith, few, steps)
 
--- the last place of the way, as the code has read it
+-- the last place of the path, as the code has read it
 pub record AtPlace (g : List (List ℕ)) (left path : List ℕ) (p steps : ℕ) : Type 0 where
   pub some : 0 < length path
   pub last : get_or path (length path - 1) 0 ≡ p

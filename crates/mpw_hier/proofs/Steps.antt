@@ -1,4 +1,4 @@
--- Each step of a search keeps what it has found.
+-- Each step of a search preserves what it has found.
 use Rattle.std.proofs.Common.{◌≡◌, ℕ, zero, suc, ◌+◌, ◌-◌, ◌*◌, ◌<◌, ◌≤◌, inl, inr, List, [], ◌∷◌, ◌++◌, length, get_or, set, take, map, sum, refl, sym, ap, subst, ◌∙◌, arith, Contains, length-set, length-append, length-take-le, get_or-take, take_all}
 use Rattle.std.specs.List.{sum_by}
 use Rattle.std.proofs.lemmas.Bool.Decides.{eqb_tells}
@@ -14,14 +14,14 @@ last_pushed : (xs : List ℕ) (x : ℕ) → get_or (xs ++ x ∷ []) (length xs) 
 last_pushed xs x = let e : length xs ≡ length xs + 0 = omega arith in
     ap (λ i. get_or (xs ++ x ∷ []) i 0) e ∙ get_or-append-add xs (x ∷ []) 0 0
 
--- the last place of the way
+-- the last place of the path
 pub last_within : (g : List (List ℕ)) (top : ℕ) (left path order : List ℕ) (p : ℕ)
     → IsDescent g top left path order → 0 < length path → get_or path (length path - 1) 0 ≡ p
     → p < length g
 last_within g top left path order p w some last =
     subst (λ i. i < length g) last (w.within (length path - 1) (omega arith))
 
--- an old number that the new one isn't above
+-- an old number that is at least the new one
 lower : (left : List ℕ) (p v i b : ℕ) → p < length left → v ≤ get_or left p 0 → get_or left i 0 ≤ b
     → get_or (set left p v) i 0 ≤ b
 lower left p v i b h le old = elim (written left p v i h) [
@@ -59,7 +59,7 @@ undone_few : (left : List ℕ) → undone left ≤ length left
 unfolding undone
 undone_few left = few_left left
 
--- behind its targets, a place is done
+-- after its targets, a place is done
 pub ended : (g : List (List ℕ)) (top : ℕ) (left path order : List ℕ) (p : ℕ) → IsGraph g
     → IsDescent g top left path order → 0 < length path → get_or path (length path - 1) 0 ≡ p
     → get_or left p 0 ≤ 1
@@ -279,7 +279,7 @@ entered_next g top left path order p m t graph w some last within is many =
       below = w.below;
     }
 
--- a target on the way leads back
+-- a target on the path leads back
 pub cycle_found : (g : List (List ℕ)) (top : ℕ) (left path order : List ℕ) (p m t : ℕ) → IsGraph g
     → IsDescent g top left path order → 0 < length path → get_or path (length path - 1) 0 ≡ p
     → m < length (targets g p) → get_or (targets g p) m 0 ≡ t → 1 ≤ get_or left t 0

@@ -1,4 +1,4 @@
--- Sizes that tell totals.
+-- Sizes that represent totals.
 use Rattle.std.proofs.Common.{◌≡◌, ℕ, zero, suc, ◌+◌, ◌*◌, ◌^◌, ◌<◌, ◌≤◌, min, max, List, [], ◌∷◌, length, All, inl, inr, refl, ap, sym, subst, ◌∙◌, arith}
 use Rattle.std.proofs.Math.Nat.{mul-le-mul_left}
 use Rattle.std.specs.Prelude.{nat_lt}
@@ -55,14 +55,14 @@ told_array r t s o h p count least height extent near = record {
   near = near;
 }
 
--- ---- what a caller reads off
+-- ---- what a caller reads from a size
 
--- what is told up to one more than a limit is beyond that, or a lesser one, where the number is
+-- a number that is capped at one more than a limit is beyond that limit, or beyond a lesser one, exactly if the number itself is
 pub told_limit : (limit most told n : ℕ) → most ≤ limit → told ≡ min (limit + 1) n
     → nat_lt most n ≡ nat_lt most told
 told_limit limit most told n le e = grind (arith, nat_tests)
 
--- a size for each name, none of which reaches too far
+-- a size for each name, none of which is out of bounds
 pub told_length : (items : List ℕ → List Item) (heights : List ℕ → ℕ) (names : List (List ℕ))
     (sizes : List Size) → AreToldBy items heights names sizes → length sizes ≡ length names
 told_length items heights [] [] h = refl

@@ -1,4 +1,4 @@
--- The nodes of a submission, and what its top shows.
+-- The nodes of a submission, and the content of its top.
 use Rattle.std.proofs.Common.{◌≡◌, ℕ, zero, suc, ◌-◌, ◌<◌, ◌≤◌, ◌^◌, inl, inr, true, List, [], length, take, Some, None, sym, ap, subst, ◌∙◌, arith}
 use Rattle.std.specs.Prelude.{slice_get}
 use Rattle.std.proofs.lemmas.Option.{slice_get_within, slice_get-get_or, get_or_from_slice_get, slice_get_cases}
@@ -19,7 +19,7 @@ use Rattle.mpw_hier.proofs.Linking.{found_at}
 use Rattle.mpw_hier.proofs.Unfolding.{IsLow, outside, own, low_upto}
 use Rattle.mpw_hier.proofs.Firsts.{firsts_at, firsts_length}
 
--- what a list has in front
+-- the entries at the front of a list
 pub front_get : {X : Type 0} (n : ℕ) (xs : List X) (k : ℕ) (x : X)
     → slice_get (take n xs) k ≡ Some x → (k < n) × (slice_get xs k ≡ Some x)
 front_get n xs k x is =
@@ -38,7 +38,7 @@ named_at ss name i s e is = ap (structure_at ss) e ∙ is
 one_structure : {a b : Structure} → Some a ≡ Some b → a ≡ b
 one_structure e = cc
 
--- two names of one place are one
+-- two names with one place are equal
 pub same_place : (ss : List Structure) (a b : List ℕ) (i : ℕ) → place_of ss a ≡ Some i
     → place_of ss b ≡ Some i → a ≡ b
 same_place ss a b i e h =
@@ -49,7 +49,7 @@ same_place ss a b i e h =
 module _ (before : List (List Item)) (levels : List ℕ) (s : Submission) (nodes : List Node)
     (each : (k : ℕ) (node : Node) → slice_get nodes k ≡ Some node
     → IsNode before levels s (take k nodes) node) where
-  -- below a node there are as many levels as nodes before it
+  -- below a node there are at most as many levels as nodes before it
   pub low_below : (most k : ℕ) → k < most
       → (node : Node) (is : slice_get nodes k ≡ Some node) (target : List ℕ)
       → contains_name (referenced_names (each k node is).structure.elements) target ≡ true

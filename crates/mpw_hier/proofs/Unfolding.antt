@@ -1,4 +1,4 @@
--- What the structures of a library show, level by level: a structure without a cycle below it shows what it does from its targets.
+-- The contents of a library's structures, level by level. Without a cycle below it, a structure has the content that its targets make.
 use Rattle.std.proofs.Common.{◌≡◌, ℕ, zero, suc, ◌≤◌, true, List, [], ◌∷◌, ◌++◌, length, map, Some, None, refl, sym, ap, ◌∙◌, arith}
 use Rattle.std.specs.List.{flat_map}
 use Rattle.mpw_geom.specs.Names.{name_eq, contains_name}
@@ -12,7 +12,7 @@ use Rattle.mpw_hier.specs.Levels.{at_structure, by_levels, levels_of}
 use Rattle.mpw_hier.specs.Values.{shown_height, greatest}
 use Rattle.mpw_hier.proofs.Linking.{or_left, or_right, name_itself}
 
--- so many levels at most are below a name
+-- a limit on the number of levels below a name
 pub data IsLow (library : List Structure) : ℕ → List ℕ → Type 0 where
   outside : {depth : ℕ} {name : List ℕ} → structure_of library name ≡ None
       → IsLow library depth name
@@ -27,7 +27,7 @@ low_upto (own s is below) zero le = absurd (omega (arith, le))
 low_upto (own s is below) (suc n) le =
     own s is (λ target c. low_upto (below target c) n (omega (arith, le)))
 
--- what a structure shows depends on what the targets of its references show
+-- the content of a structure depends on the contents of its references' targets
 abbrev pub IsByTargets : {V : Type 0} → (Structure → (List ℕ → V) → V) → Type 0
 IsByTargets {V = V} shown = (s : Structure) (f g : List ℕ → V)
     → ((target : List ℕ) → contains_name (referenced_names s.elements) target ≡ true

@@ -119,7 +119,7 @@ next_version ss cell n s numbered e is =
     subst (λ c. s.version ≡ versions (take n ss) c + 1) cells (numbered n s is).version in
     own ∙ sym (subst (λ k. versions ss cell ≡ versions (take k ss) cell + 1) at h.count)
 
--- the same of what stands at its number
+-- the same for what is at its number
 pub version_read : (ss : List Submission) (cell : List ℕ) (n : ℕ) (s : Submission) → IsShelf ss
     → present ss cell ≡ Some n → s ≡ get_or ss n s → s.version ≡ versions ss cell
 version_read ss cell n s numbered e read =

@@ -1,4 +1,4 @@
--- Extents as least boxes: each is a box, and holds what it is the extent of.
+-- Extents as least boxes: each is a box, and contains what it is the extent of.
 use Rattle.std.specs.Prelude.{◌≡◌, ◌≤ℤ◌, List, ◌++◌, map, option_map, Option, Some, None, All, IfSome}
 use Rattle.mpw_geom.specs.Plane.{IsOrdered}
 use Rattle.mpw_geom.specs.declared.placing.Placing.{Placing}
@@ -19,7 +19,7 @@ IsHeld None outer = Unit {0}
 IsHeld (Some inner) None = ⊥
 IsHeld (Some inner) (Some outer) = IsInside inner outer
 
--- An extent has its first corner at the lower left, holds the box of each item, and lies in each box that does.
+-- An extent has its first corner at the lower left, contains the box of each item, and lies in each box that does.
 abbrev pub ExtentsAreOrdered : Type 0
 ExtentsAreOrdered = (items : List Item) → IfSome (extent_of items) IsOrdered
 
@@ -30,7 +30,7 @@ abbrev pub ExtentsAreLeast : Type 0
 ExtentsAreLeast = (items : List Item) (outer : Option Box2)
     → All (λ i. IsHeld (item_box i) outer) items → IsHeld (extent_of items) outer
 
--- The extent of two lists is the least box that holds the extents of both, and that of a list that is placed is the extent, placed.
+-- The extent of two lists is the least box around the extents of both, and the extent of a placed list is the extent, placed.
 abbrev pub ExtentsAreJoined : Type 0
 ExtentsAreJoined = (xs ys : List Item) → extent_of (xs ++ ys) ≡ hull (extent_of xs) (extent_of ys)
 

@@ -1,4 +1,4 @@
--- The flat list of a structure: each shape that it shows, with the submission from which the shape comes and how it is placed.
+-- The flat list of a structure: each of its flat shapes, with the submission from which the shape comes and its placing.
 use Rattle.std.specs.Prelude.{ℕ, pos, ◌+ℤ◌, ◌*ℤ◌, List, [], ◌++◌, map}
 use Rattle.std.specs.List.{flat_map, range_with_len}
 use Rattle.mpw_geom.specs.declared.plane.Orient.{Orient}
@@ -18,7 +18,7 @@ pub record Item : Type 0 where
   pub placing : Placing
   pub element : Element
 
--- ---- placings one behind another
+-- ---- placings in sequence
 
 -- An orientation followed by a mirror, and by a quarter turn.
 abbrev pub mirrored : Orient → Orient
@@ -41,7 +41,7 @@ turned M90 = M180
 turned M180 = M270
 turned M270 = M0
 
--- A placing, and then another.
+-- One placing, and then another.
 unfoldable pub placed_again : Placing → Placing → Placing
 placed_again outer inner = record {
   orient = by_orient mirrored turned outer.orient inner.orient;
@@ -54,14 +54,14 @@ placed_again outer inner = record {
 abbrev pub stepped : Point → ℕ → Point → Point
 stepped p n step = record { x = p.x +ℤ (pos n *ℤ step.x); y = p.y +ℤ (pos n *ℤ step.y) }
 
--- How the instance of a column and a row is placed.
+-- The placing of the instance in a column and a row.
 abbrev pub instance : Reference → (row column : ℕ) → Placing
 instance r row column = record {
   orient = r.orient;
   by = stepped (stepped r.origin column r.column_step) row r.row_step;
 }
 
--- The instances row by row, the column running fastest.
+-- The instances row by row, with the column running fastest.
 abbrev pub row_of : Reference → ℕ → List Placing
 row_of r row = map (instance r row) (range_with_len 0 r.columns)
 
@@ -87,13 +87,13 @@ placed_item t i =
 abbrev pub placed_items : Reference → List Item → List Item
 placed_items r items = flat_map (λ t. map (placed_item t) items) (instances r)
 
--- The items of a structure in the library of the submission of that number: its own shapes, and then those of its targets, in
+-- The items of a structure in the library of the submission with that number: its own shapes, and then those of its targets, in
 -- file order.
 abbrev pub shown_items : ℕ → Structure → (List ℕ → List Item) → List Item
 shown_items number s below = own_items number s.elements
     ++ flat_map (λ r. placed_items r (below r.name)) (references s.elements)
 
--- The flat list of the structure of a name. A name outside the library has the items that `outside` tells.
+-- The flat list of the structure with a name. A name outside the library has the items that `outside` gives.
 abbrev pub items_of : (List ℕ → List Item) → ℕ → List Structure → List ℕ → List Item
 items_of outside number library name =
     by_levels (shown_items number) [] outside (levels_of library) library name

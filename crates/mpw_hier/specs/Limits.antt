@@ -1,4 +1,4 @@
--- What a new submission has to keep to, in the order of the tests: extents, shapes, height, room.
+-- The limits that a new submission must meet, in the order of the tests: extents, shapes, height, room.
 use Rattle.std.specs.Prelude.{◌≡◌, ℕ, ◌+◌, ◌^◌, ◌&&◌, ◌||◌, Bool, false, nat_lt, List, length, map, take, slice_get, is_some, Some, true}
 use Rattle.std.specs.Set.{distinct_count}
 use Rattle.mpw_geom.specs.Names.{name_eq}
@@ -14,7 +14,7 @@ use Rattle.mpw_hier.specs.Boxes.{extent_of, is_box_near}
 use Rattle.mpw_hier.specs.Shelf.{present, versions, bound_to}
 use Rattle.mpw_hier.specs.Values.{structure_items, flat_of, flats, height_of, heights}
 
--- The extent of a structure of the library that the top reaches, the top itself among them, lies beyond 2^30 nm, in its own
+-- The extent of the top, or of a structure of the library that the top reaches, exceeds 2^30 nm in its own
 -- coordinates.
 pub record IsFar (ss : List Submission) (s : Submission) : Type 0 where
   pub structure : List ℕ
@@ -25,7 +25,7 @@ pub record IsFar (ss : List Submission) (s : Submission) : Type 0 where
   pub extent : extent_of (structure_items (flats ss) s structure) ≡ Some box
   pub far : is_box_near box ≡ false
 
--- More shapes in the flat list than may be at most.
+-- The flat list has more shapes than allowed.
 abbrev pub is_too_large : (most : ℕ) → List Submission → Submission → Bool
 is_too_large most ss s = nat_lt most (length (flat_of (flats ss) s))
 
@@ -33,7 +33,7 @@ is_too_large most ss s = nat_lt most (length (flat_of (flats ss) s))
 abbrev pub is_too_deep : List Submission → Submission → Bool
 is_too_deep ss s = nat_lt 64 (height_of (heights ss) s)
 
--- Fewer than 4096 submissions, and fewer than 1024 cells where the cell has no submission yet.
+-- Fewer than 4096 submissions; and fewer than 1024 cells if the cell has no submission yet.
 abbrev pub has_room_for : List Submission → List ℕ → Bool
 has_room_for ss cell = nat_lt (length ss) 4096
     && (is_some (present ss cell) || nat_lt (distinct_count name_eq (map (λ s. s.cell) ss)) 1024)
@@ -42,34 +42,34 @@ has_room_for ss cell = nat_lt (length ss) 4096
 abbrev pub numbered : List Submission → Submission → Submission
 numbered ss s = record s { version = versions ss s.cell + 1 }
 
--- The bindings are those of the names outside the library that the top shows.
+-- The bindings are those of the names outside the library that the top reaches.
 pub record IsBound (ss : List Submission) (s : Submission) : Type 0 where
   pub names : List (List ℕ)
   pub externals : AreExternals s.library s.top names
   pub bound : bound_to ss names ≡ Some s.bound
 
--- All limits are kept, where the flat list may have so many shapes at most.
+-- All limits are met, with at most `most` shapes in the flat list.
 pub record KeepsLimits (most : ℕ) (ss : List Submission) (s : Submission) : Type 0 where
   pub near : IsFar ss s → ⊥
   pub small : is_too_large most ss s ≡ false
   pub low : is_too_deep ss s ≡ false
   pub room : has_room_for ss s.cell ≡ true
 
--- A submission behind others, as it was put on the shelf: read, bound to those before it, within the limits of any shelf, of which
--- that on shapes is 2^40, and with its version.
+-- A submission after others, as it was put on the shelf: read, bound to those before it, with its version, and within the limits of any
+-- shelf, whose limit on shapes is 2^40.
 pub record IsSubmitted (ss : List Submission) (s : Submission) : Type 0 where
   pub read : IsLibrary s.library
   pub bound : IsBound ss s
   pub kept : KeepsLimits (2 ^ 40) ss s
   pub version : s.version ≡ versions ss s.cell + 1
 
--- Each submission of a shelf is so behind those before it.
+-- This holds for each submission of a shelf, after those before it.
 abbrev pub IsShelf : List Submission → Type 0
 IsShelf ss =
     (number : ℕ) (s : Submission) → slice_get ss number ≡ Some s → IsSubmitted (take number ss) s
 
--- Why a submission that is bound is refused, where the flat list may have so many shapes at most: the first limit that it
--- doesn't keep, or want of memory.
+-- Why a submission that is bound is refused if the flat list may have at most `most` shapes: the first limit that it
+-- exceeds, or out of memory.
 abbrev pub IsRefused : (most : ℕ) → List Submission → Submission → HierFault → Type 0
 IsRefused most ss s faults.Memory = Unit {0}
 IsRefused most ss s faults.Extent = IsFar ss s

@@ -1,4 +1,4 @@
--- What names show to a submission on a shelf: of its own library what its structures show, outside it what earlier submissions do.
+-- The contents of names, for a submission on a shelf: those of its own structures, and those of earlier submissions for names outside its library.
 use Rattle.std.specs.Prelude.{◌≡◌, ℕ, ◌-◌, ◌<◌, ◌≤◌, ◌^◌, List, [], ◌++◌, length, take, slice_get, slice_index_or, Some, None}
 use Rattle.std.specs.List.{flat_map}
 use Rattle.mpw_structures.specs.declared.element.Reference.{Reference}
@@ -13,7 +13,7 @@ use Rattle.mpw_hier.specs.Nodes.{structure_levels, AreNodesOf, AreNodes}
 use Rattle.mpw_hier.specs.Sizes.{IsSizeOf}
 use Rattle.mpw_hier.specs.Values.{from_first, bound_number, at_number, structure_items, flat_of, flats, flat, shown_height, height_of, heights, height}
 
--- The structure of a name of a submission's own library, with its node.
+-- The structure with a name of a submission's own library, and its node.
 pub record IsOwnName (ss : List Submission) (number : ℕ) (s : Submission) (structure : Structure)
     (node : Node) (name : List ℕ) : Type 0 where
   pub is : slice_get ss number ≡ Some s
@@ -35,7 +35,7 @@ pub record IsOuterName (ss : List Submission) (number : ℕ) (s : Submission) (t
 
 -- ---- flat lists and heights
 
--- A name of the library shows what its structure does from the names to which it refers, and its node has the size of that.
+-- A name of the library has the content of its structure, made from the names to which that refers, and its node has that size.
 pub record IsShownByNode (ss : List Submission) (number : ℕ) (s : Submission)
     (structure : Structure) (node : Node) (name : List ℕ) : Type 0 where
   pub items : structure_items (flats (take number ss)) s name ≡ shown_items number structure
@@ -51,7 +51,7 @@ OwnNamesAreShown =
     (name : List ℕ)
     → IsOwnName ss number s structure node name → IsShownByNode ss number s structure node name
 
--- A name outside the library shows what the top of its submission did when that came.
+-- A name outside the library has the content of the top of its submission when that came.
 pub record IsShownByTop (ss : List Submission) (number : ℕ) (s : Submission) (to : ℕ)
     (t : Submission) (name : List ℕ) : Type 0 where
   pub items : structure_items (flats (take number ss)) s name ≡ flat_of (flats (take to ss)) t
@@ -63,7 +63,7 @@ OuterNamesAreShown =
     (ss : List Submission) (number : ℕ) (s : Submission) (to : ℕ) (t : Submission) (name : List ℕ)
     → IsOuterName ss number s to t name → IsShownByTop ss number s to t name
 
--- The last node of a submission has the size of what the submission shows, and keeps to the limits.
+-- The last node of a submission has the size of the submission's content, and meets the limits.
 pub record IsShownByLast (ss : List Submission) (number : ℕ) (top : Node) : Type 0 where
   pub size : IsSizeOf (flat ss number) (height ss number) top.size
   pub few : length (flat ss number) ≤ 2 ^ 40
@@ -76,14 +76,14 @@ LastNodesAreTops =
 
 -- ---- lists of any kind
 
--- What a structure of the submission of a number lists: its own, and then what its references make of their targets' lists, in
+-- What a structure of the submission with a number lists: its own entries, and then what its references make of their targets' lists, in
 -- file order.
 abbrev pub listed : {W : Type 0} → (ℕ → Structure → List W) → (Reference → List W → List W) → ℕ
     → Structure → (List ℕ → List W) → List W
 listed own placed number s below =
     own number s ++ flat_map (λ (r : Reference). placed r (below r.name)) (references s.elements)
 
--- What a name lists for a submission behind others with these lists, and what the top does.
+-- What a name lists for a submission after others with these lists; and what the top lists.
 abbrev pub name_list : {W : Type 0} → (ℕ → Structure → List W) → (Reference → List W → List W)
     → List (List W) → Submission → List ℕ → List W
 name_list own placed before s name =
@@ -95,12 +95,12 @@ abbrev pub top_list : {W : Type 0} → (ℕ → Structure → List W) → (Refer
     → List (List W) → Submission → List W
 top_list own placed before s = name_list own placed before s s.top
 
--- What the submissions list, each behind those before it.
+-- The lists of the submissions, each after those before it.
 abbrev pub lists : {W : Type 0} → (ℕ → Structure → List W) → (Reference → List W → List W)
     → List Submission → List (List W)
 lists own placed ss = from_first (top_list own placed) [] ss
 
--- What a name, and the top, list for the submission of a number on a shelf.
+-- What a name, and the top, list for the submission with a number on a shelf.
 abbrev pub name_list_at : {W : Type 0} → (ℕ → Structure → List W) → (Reference → List W → List W)
     → List Submission → ℕ → Submission → List ℕ → List W
 name_list_at own placed ss number s name =
@@ -110,7 +110,7 @@ abbrev pub top_list_at : {W : Type 0} → (ℕ → Structure → List W) → (Re
     → List Submission → ℕ → Submission → List W
 top_list_at own placed ss number s = name_list_at own placed ss number s s.top
 
--- A name of the library lists what its structure does from the names to which it refers.
+-- A name of the library lists what its structure makes from the names to which that refers.
 abbrev pub OwnNamesAreListed : {W : Type 0} → (ℕ → Structure → List W)
     → (Reference → List W → List W) → Type 0
 OwnNamesAreListed own placed =
@@ -120,7 +120,7 @@ OwnNamesAreListed own placed =
     → name_list_at own placed ss number s name ≡ listed own placed number structure
     (name_list_at own placed ss number s)
 
--- A name outside the library lists what the top of its submission did when that came.
+-- A name outside the library lists what the top of its submission listed when that came.
 abbrev pub OuterNamesAreListed : {W : Type 0} → (ℕ → Structure → List W)
     → (Reference → List W → List W) → Type 0
 OuterNamesAreListed own placed =
@@ -128,7 +128,7 @@ OuterNamesAreListed own placed =
     → IsOuterName ss number s to t name
     → name_list_at own placed ss number s name ≡ top_list_at own placed ss to t
 
--- The submission of a number lists what its top does behind those before it.
+-- The submission with a number lists what its top lists after those before it.
 abbrev pub TopsAreListed : {W : Type 0} → (ℕ → Structure → List W) → (Reference → List W → List W)
     → Type 0
 TopsAreListed own placed =

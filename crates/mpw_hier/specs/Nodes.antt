@@ -1,4 +1,4 @@
--- The hierarchy of a submission as nodes: the structures that its top reaches, each behind those that it places.
+-- The hierarchy of a submission as nodes: the structures that its top reaches, each after those that it places.
 use Rattle.std.specs.Prelude.{◌≡◌, ℕ, ◌+◌, ◌-◌, ◌<◌, ◌≤◌, ◌^◌, true, List, [], ◌∷◌, length, take, slice_get, Some, None, if◌then◌else◌}
 use Rattle.mpw_geom.specs.Names.{contains_name}
 use Rattle.mpw_structures.specs.declared.element.Element.{Element}
@@ -17,35 +17,35 @@ use Rattle.mpw_hier.specs.Items.{Item}
 use Rattle.mpw_hier.specs.Sizes.{IsSizeOf}
 use Rattle.mpw_hier.specs.Values.{bound_number, at_number, structure_items, flat_of, flats, structure_height, height_of, heights}
 
--- Where the shapes stand among elements, counted from a number on.
+-- The indices of the shapes among elements, counted from a number on.
 unfoldable pub shape_places : ℕ → List Element → List ℕ
 shape_places i [] = []
 shape_places i (e ∷ es) =
     if is_shape e then i ∷ shape_places (i + 1) es else shape_places (i + 1) es
 
--- The height of a structure of a submission behind others of these heights.
+-- The height of a structure of a submission after others of these heights.
 abbrev pub structure_levels : List ℕ → Submission → List ℕ → ℕ
 structure_levels before s name =
     structure_height (λ outside. at_number 0 before (bound_number s.bound outside)) s.library name
 
--- The node of a structure of the library, among those that stand before.
+-- The node of a structure of the library, among those before.
 pub record IsOwn (s : Submission) (earlier : List Node) (name : List ℕ) (k : ℕ) : Type 0 where
   pub node : Node
   pub is : slice_get earlier k ≡ Some node
   pub named : place_of s.library name ≡ Some node.structure
 
--- The earlier submission to which a name outside the library is bound. There are so many of them.
+-- The earlier submission to which a name outside the library is bound. The second argument is the number of earlier submissions.
 pub record IsOuter (s : Submission) (count : ℕ) (name : List ℕ) (number : ℕ) : Type 0 where
   pub outside : place_of s.library name ≡ None
   pub bound : bound_number s.bound name ≡ Some number
   pub earlier : number < count
 
--- What a name means to a submission behind so many others.
+-- What a name refers to in a submission. The second argument is the number of earlier submissions.
 abbrev pub IsTarget : Submission → ℕ → List Node → List ℕ → Target → Type 0
 IsTarget s count earlier name (targets.Own k) = IsOwn s earlier name k
 IsTarget s count earlier name (targets.Outer number) = IsOuter s count name number
 
--- The children of elements that are counted from a number on: the references that show something, each with its target.
+-- The children of elements, whose indices are counted from a number on: the references to targets with flat shapes, each with its target.
 pub data AreChildren (s : Submission) (before : List (List Item)) (earlier : List Node) : ℕ
     → List Element → List Child → Type 0 where
   none : {i : ℕ} → AreChildren s before earlier i [] []
@@ -61,7 +61,7 @@ pub data AreChildren (s : Submission) (before : List (List Item)) (earlier : Lis
       → AreChildren s before earlier i (elements.Reference r ∷ es)
       (record { element = i; target = target } ∷ cs)
 
--- The node of a structure, behind the nodes that stand before. Each of its references means one of these or an earlier submission.
+-- The node of a structure, after the nodes before it. Each of its references refers to one of these or to an earlier submission.
 pub record IsNode (before : List (List Item)) (levels : List ℕ) (s : Submission)
     (earlier : List Node) (node : Node) : Type 0 where
   pub structure : Structure
@@ -74,7 +74,7 @@ pub record IsNode (before : List (List Item)) (levels : List ℕ) (s : Submissio
   pub size : IsSizeOf (structure_items before s structure.name)
       (structure_levels levels s structure.name) node.size
 
--- A place of the library whose structure the top reaches.
+-- An index of the library whose structure the top reaches.
 pub record IsPlaceReached (s : Submission) (place : ℕ) : Type 0 where
   pub name : List ℕ
   pub named : place_of s.library name ≡ Some place
@@ -91,8 +91,8 @@ AreWhole s nodes =
     → place_of s.library name ≡ Some place → (k : ℕ) × (node : Node)
     × (slice_get nodes k ≡ Some node) × (node.structure ≡ place)
 
--- The nodes of a submission behind others with these flat lists and heights: those of the structures that its top reaches. The
--- top is the last, and keeps to the limits.
+-- The nodes of a submission after others with these flat lists and heights: those of the structures that its top reaches. The
+-- top is last, and meets the limits.
 pub record AreNodesOf (before : List (List Item)) (levels : List ℕ) (s : Submission)
     (nodes : List Node) : Type 0 where
   pub library : IsLibrary s.library
@@ -108,7 +108,7 @@ pub record AreNodesOf (before : List (List Item)) (levels : List ℕ) (s : Submi
   pub count : length (flat_of before s) ≤ 2 ^ 40
   pub height : height_of levels s ≤ 64
 
--- The nodes of the submission of a number on a shelf.
+-- The nodes of the submission with a number on a shelf.
 pub record AreNodes (ss : List Submission) (number : ℕ) (nodes : List Node) : Type 0 where
   pub submission : Submission
   pub is : slice_get ss number ≡ Some submission

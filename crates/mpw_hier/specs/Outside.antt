@@ -1,4 +1,4 @@
--- What references name in a library, and what they name outside it.
+-- What references name inside a library and outside it.
 use Rattle.std.specs.Prelude.{◌≡◌, ℕ, List, [], ◌∷◌, map, Option, Some, None, true, ◌↔◌}
 use Rattle.mpw_geom.specs.Names.{by_name, contains_name}
 use Rattle.mpw_structures.specs.declared.structures.Structure.{Structure}
@@ -11,7 +11,7 @@ abbrev pub known_before : Option ℕ → List ℕ → List ℕ
 known_before None places = places
 known_before (Some place) places = place ∷ places
 
--- The places of the structures that names have in the library.
+-- The indices of the library's structures with these names.
 unfoldable pub places_of : List Structure → List (List ℕ) → List ℕ
 places_of library [] = []
 places_of library (name ∷ names) = known_before (place_of library name) (places_of library names)
@@ -20,25 +20,25 @@ abbrev pub unknown_before : Option ℕ → List ℕ → List (List ℕ) → List
 unknown_before None name names = name ∷ names
 unknown_before (Some place) name names = names
 
--- The names of which the library has no structure.
+-- The names that are no structure of the library.
 unfoldable pub names_outside : List Structure → List (List ℕ) → List (List ℕ)
 names_outside library [] = []
 names_outside library (name ∷ names) =
     unknown_before (place_of library name) name (names_outside library names)
 
--- For each structure, the places of the structures to which it refers.
+-- For each structure, the indices of the structures to which it refers.
 abbrev pub places_from : List Structure → Structure → List ℕ
 places_from library s = places_of library (referenced_names s.elements)
 
 unfoldable pub graph_of : List Structure → List (List ℕ)
 graph_of library = map (places_from library) library
 
--- In the order of their bytes, each once.
+-- In alphabetical (byte) order, each once.
 pub record IsByName (names : List (List ℕ)) : Type 0 where
   pub given : List (List ℕ)
   pub same : names ≡ by_name given
 
--- The top is a structure of the library without a cycle below it, and these are the names outside the library that it shows.
+-- The top is a structure of the library without a cycle below it, and these are the names outside the library that it reaches.
 pub record AreExternals (library : List Structure) (top : List ℕ) (names : List (List ℕ)) :
     Type 0 where
   pub place : ℕ
@@ -47,7 +47,7 @@ pub record AreExternals (library : List Structure) (top : List ℕ) (names : Lis
   pub by_name : IsByName names
   pub outside : (name : List ℕ) → (contains_name names name ≡ true) ↔ IsOutside library top name
 
--- What keeps from telling the names outside a library: want of memory, no top or a cycle.
+-- Why the names outside a library can't be listed: out of memory, no top, or a cycle.
 abbrev pub IsOfExternals : List Structure → List ℕ → HierFault → Type 0
 IsOfExternals library top faults.Memory = Unit {0}
 IsOfExternals library top faults.NoTop = place_of library top ≡ None

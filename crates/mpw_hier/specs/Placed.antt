@@ -1,4 +1,4 @@
--- Boxes that are placed: one placing behind another, and none.
+-- Placed boxes: by two placings in sequence, and by none.
 use Rattle.std.specs.Prelude.{◌≡◌, ℕ, pos}
 use Rattle.mpw_geom.specs.declared.plane.Box2.{Box2}
 use Rattle.mpw_geom.specs.declared.plane.Orient.TheVariants.{R0}
@@ -7,7 +7,7 @@ use Rattle.mpw_structures.specs.declared.element.Element.{Element}
 use Rattle.mpw_hier.specs.Items.{placed_again}
 use Rattle.mpw_hier.specs.Boxes.{placed_box, element_box, item_box}
 
--- A placing and then another take a box where the two of them in one take it.
+-- To place a box by one placing and then by another is to place it by both composed.
 abbrev pub BoxesArePlacedAgain : Type 0
 BoxesArePlacedAgain =
     (t u : Placing) (b : Box2)

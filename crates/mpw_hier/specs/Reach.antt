@@ -1,4 +1,4 @@
--- What a top reaches, as tests and lists that compute.
+-- What a top reaches, as computed tests and lists.
 use Rattle.std.specs.Prelude.{◌≡◌, ◌↔◌, ℕ, Bool, true, false, not, ◌&&◌, List, map, filter, Option, None, Some}
 use Rattle.std.specs.List.{list_any, flat_map}
 use Rattle.mpw_geom.specs.Names.{contains_name, by_name}
@@ -17,7 +17,7 @@ use Rattle.mpw_hier.specs.Limits.{IsFar}
 abbrev pub links_of : List Structure → Links
 links_of library = map (λ s. (s.name, referenced_names s.elements)) library
 
--- References lead from the one name to the other, or they are one.
+-- References lead from the first name to the second, or they are equal.
 abbrev pub reaches : List Structure → List ℕ → List ℕ → Bool
 reaches library from to = leads (links_of library) from to
 
@@ -31,7 +31,7 @@ unfoldable pub is_cyclic : List Structure → List ℕ → Bool
 is_cyclic library top =
     list_any (λ s. reaches library top s.name && leads_back library s.name) library
 
--- The names outside the library that the top reaches, in the order of their bytes, each once.
+-- The names outside the library that the top reaches, in alphabetical (byte) order, each once.
 unfoldable pub external_names : List Structure → List ℕ → List (List ℕ)
 external_names library top =
     by_name (filter (reaches library top)
@@ -41,13 +41,13 @@ abbrev pub is_beyond : Option Box2 → Bool
 is_beyond None = false
 is_beyond (Some box) = not (is_box_near box)
 
--- The extent of a structure that the top reaches lies beyond 2^30 nm, in its own coordinates.
+-- The extent of a structure that the top reaches exceeds 2^30 nm in its own coordinates.
 unfoldable pub is_far : List Submission → Submission → Bool
 is_far ss s =
     list_any (λ t. reaches s.library s.top t.name
     && is_beyond (extent_of (structure_items (flats ss) s t.name))) s.library
 
--- Each is what the relation of its name says.
+-- Each test is true exactly if the relation of its name holds.
 abbrev pub CyclesAreFound : Type 0
 CyclesAreFound = (library : List Structure) (top : List ℕ) → (is_cyclic library top ≡ true)
     ↔ IsCyclic library top

@@ -1,4 +1,4 @@
--- What holds of every shelf: which numbers are on it, what a later submission leaves as it was, and where shapes come from.
+-- Facts about every shelf: its numbers, what a later submission leaves unchanged, and the origins of shapes.
 use Rattle.std.specs.Prelude.{◌≡◌, ℕ, ◌<◌, ◌≤◌, ◌^◌, List, [], ◌∷◌, ◌++◌, length, slice_get, Some, All, if◌then◌else◌}
 use Rattle.mpw_geom.specs.Names.{name_eq}
 use Rattle.mpw_hier.specs.declared.submission.Submission.{Submission}
@@ -10,7 +10,7 @@ use Rattle.mpw_hier.specs.Values.{flat, count, extent, height}
 
 -- ---- numbers
 
--- A submission of that cell is on the shelf, under that number.
+-- A submission of that cell is on the shelf, with that number.
 pub record IsOfCell (ss : List Submission) (cell : List ℕ) (number : ℕ) : Type 0 where
   pub within : number < length ss
   pub submission : Submission
@@ -22,14 +22,14 @@ abbrev pub PresentAreOfTheirCell : Type 0
 PresentAreOfTheirCell = (ss : List Submission) (cell : List ℕ) (number : ℕ)
     → present ss cell ≡ Some number → IsOfCell ss cell number
 
--- A submission becomes the present one of its cell, and leaves those of other cells.
+-- A new submission becomes the present one of its cell, and changes nothing for other cells.
 abbrev pub LastIsPresent : Type 0
 LastIsPresent =
     (ss : List Submission) (s : Submission) (cell : List ℕ)
     → present (ss ++ s ∷ []) cell ≡ (if name_eq s.cell cell then Some (length ss)
     else present ss cell)
 
--- A shape comes from the submission of that number or from an earlier one.
+-- A shape comes from the submission with that number or from an earlier one.
 pub record IsOrigin (ss : List Submission) (number : ℕ) (i : Item) : Type 0 where
   pub earlier : i.origin ≤ number
   pub within : i.origin < length ss
@@ -39,7 +39,7 @@ ShapesAreOfEarlier = (ss : List Submission) (number : ℕ) → All (IsOrigin ss 
 
 -- ---- limits
 
--- What the submission of a number shows keeps to the limits.
+-- The content of the submission with a number meets the limits.
 pub record IsLimited (ss : List Submission) (number : ℕ) : Type 0 where
   pub few : count ss number ≤ 2 ^ 40
   pub low : height ss number ≤ 64
@@ -50,7 +50,7 @@ ShelvesAreLimited = (ss : List Submission) → IsShelf ss → (number : ℕ) →
 
 -- ---- later submissions
 
--- The submission of a number is the same on both shelves, and shows the same.
+-- The submission with a number is the same on both shelves, and has the same content.
 pub record IsAsBefore (old new : List Submission) (number : ℕ) : Type 0 where
   pub submission : slice_get new number ≡ slice_get old number
   pub shapes : flat new number ≡ flat old number
@@ -58,7 +58,7 @@ pub record IsAsBefore (old new : List Submission) (number : ℕ) : Type 0 where
   pub levels : height new number ≡ height old number
   pub reach : extent new number ≡ extent old number
 
--- Later submissions leave those before them as they were.
+-- Later submissions leave those before them unchanged.
 abbrev pub EarlierStay : Type 0
 EarlierStay = (ss later : List Submission) (number : ℕ) → number < length ss
     → IsAsBefore ss (ss ++ later) number

@@ -15,7 +15,7 @@ structure_at library (Some place) = slice_get library place
 abbrev pub structure_of : List Structure → List ℕ → Option Structure
 structure_of library name = structure_at library (place_of library name)
 
--- The elements that place structures, in file order, and those that are drawn.
+-- The elements that place structures, in file order; and those that are shapes.
 abbrev pub references : List Element → List Reference
 references [] = []
 references (elements.Boundary b ∷ es) = references es
@@ -30,7 +30,7 @@ is_shape (elements.Reference r) = false
 abbrev pub shapes : List Element → List Element
 shapes es = filter is_shape es
 
--- The names of references, and those that a structure refers to; what the library has no structure of refers to none.
+-- The names of references; and those to which a structure refers. A name that is no structure of the library refers to none.
 abbrev pub referenced_names : List Element → List (List ℕ)
 referenced_names es = map (λ r. r.name) (references es)
 
@@ -41,13 +41,13 @@ target_names (Some s) = referenced_names s.elements
 abbrev pub refers : List Structure → List ℕ → List ℕ → Bool
 refers library from to = contains_name (target_names (structure_of library from)) to
 
--- A chain of references leads from one name to another, or they are one.
+-- A chain of references leads from one name to another, or they are equal.
 pub data IsReachable (library : List Structure) : List ℕ → List ℕ → Type 0 where
   itself : {name : List ℕ} → IsReachable library name name
   chain : {from middle to : List ℕ} → refers library from middle ≡ true
       → IsReachable library middle to → IsReachable library from to
 
--- A structure that the top reaches, the top itself among them, refers to a name from which references lead back to it.
+-- The top, or a structure that it reaches, refers to a name from which references lead back to it.
 pub record IsCyclic (library : List Structure) (top : List ℕ) : Type 0 where
   pub structure : List ℕ
   pub next : List ℕ
@@ -55,7 +55,7 @@ pub record IsCyclic (library : List Structure) (top : List ℕ) : Type 0 where
   pub reference : refers library structure next ≡ true
   pub back : IsReachable library next structure
 
--- A name that the top reaches and that the library has no structure of.
+-- A name that the top reaches and that is no structure of the library.
 pub record IsOutside (library : List Structure) (top name : List ℕ) : Type 0 where
   pub below : IsReachable library top name
   pub missing : structure_of library name ≡ None

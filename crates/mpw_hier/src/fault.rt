@@ -1,4 +1,4 @@
-//! Why a library can't be put on the shelf.
+//! The errors of putting a library on the shelf.
 
 ghost use Rattle.std.specs.Prelude.{◌≡◌, Some};
 ghost use Rattle.mpw_hier.specs.Words.{hier_word};
@@ -11,22 +11,21 @@ use std::fmt;
 /// Why a library can't be put on the shelf.
 #[derive(Clone, Copy)]
 pub enum HierFault {
-    /// There was no room; it says nothing of the library.
+    /// Out of memory. It says nothing about the library.
     Memory,
-    /// The library has no structure of the top's name.
+    /// The library has no structure with the top's name.
     NoTop,
-    /// A structure that the top reaches, the top itself among them, leads back to itself.
+    /// A structure that the top reaches, or the top itself, leads back to itself.
     Cycle,
-    /// A name outside the library is no cell with a submission.
+    /// A name outside the library is not the name of a cell with a submission.
     NoCell,
-    /// The extent of a structure of the library that the top reaches, the top itself among them, in its own coordinates, goes
-    /// beyond -2^30 to 2^30 nm.
+    /// The extent of the top, or of a structure of the library that the top reaches, exceeds -2^30 to 2^30 nm in its own coordinates.
     Extent,
-    /// More flat shapes than the shelf was asked to take.
+    /// The submission has more flat shapes than the caller allows.
     Shapes,
     /// More than 64 levels.
     Deep,
-    /// There are 4096 submissions, or 1024 cells and this is another.
+    /// There are 4096 submissions already; or there are 1024 cells and the submission is of another cell.
     Full,
 }
 

@@ -1,4 +1,4 @@
-//! A graph of places by number.
+//! A directed graph. Its nodes are called places and are numbered from 0.
 
 ghost use Rattle.std.specs.Prelude.{◌≡◌, ◌<◌, ◌^◌, ◌++◌, ◌∷◌, [], length, slice_index, OnOk};
 ghost use Rattle.mpw_hier.specs.Graph.{targets};
@@ -27,7 +27,7 @@ impl Model for Graph {
 }
 
 impl Graph {
-    /// The graph without places. Takes no memory.
+    /// The empty graph. Takes no memory.
     pub fn new(alloc: Global) -> Graph
         ensures { result ≡ [] }
     {
@@ -46,7 +46,7 @@ impl Graph {
     /// Adds a place that leads to these.
     ///
     /// # Errors
-    /// Where there is no room for it.
+    /// Out of memory.
     pub fn push(&mut self, places: Vec<usize>) -> Result<(), AllocError>
         ensures { OnOk result (self.new ≡ self.old ++ places.items ∷ []) }
     {
@@ -63,7 +63,7 @@ impl Graph {
         self.targets[place].len()
     }
 
-    /// One of a place's targets.
+    /// The target of a place at an index.
     pub fn target(&self, place: usize, index: usize) -> usize
         requires place { place < length self.now }
         requires index { index < length (targets self.now place) }

@@ -1,7 +1,7 @@
-//! The nodes of a submission, made from below.
+//! Makes the nodes of a submission, from the lowest structures up to the top.
 //!
-//! Each structure is looked at once, after all those that it places, so that its size is that of its
-//! own shapes and of the sizes that stand there already.
+//! Each structure is visited once, after all structures that it places. So its size follows from its own shapes and from the sizes
+//! that are already known.
 
 ghost use Rattle.std.specs.Prelude.{◌≡◌, ◌<◌, [], length, slice_set, IfOk, IfErr, OnOk, Err, Some};
 ghost use Rattle.mpw_structures.specs.Library.{IsLibrary};
@@ -42,18 +42,18 @@ fn table_of(alloc: Global, bindings: &[Binding]) -> Result<BTreeMap<Name, u32>, 
     Ok(table)
 }
 
-/// What a name means, and how much that shows.
+/// What a name refers to, and the size of that.
 #[derive(Clone, Copy)]
 struct Link {
     target: Target,
     size: Size,
 }
 
-/// What stands in a structure.
+/// The parts of a structure.
 struct Parts {
-    /// Where its own shapes stand among its elements.
+    /// The indices of its own shapes among its elements.
     shapes: Vec<usize>,
-    /// Its references that show something.
+    /// Its references to targets with at least one flat shape.
     children: Vec<Child>,
     /// The sizes of the targets of all its references.
     below: Vec<Size>,
@@ -73,7 +73,7 @@ impl Drop for Parts {
 }
 
 impl Parts {
-    /// The node of the structure at a place, which has these parts and a size.
+    /// The node of the structure at index `place`, with these parts and this size.
     fn into_node(self, place: usize, size: Size) -> Node
         ensures { result ≡ record { structure = place; shapes = self.shapes.items; children = self.children; size = size } }
     {
@@ -92,7 +92,7 @@ impl Parts {
     }
 }
 
-/// The nodes of a submission so far.
+/// The nodes of a submission that are made so far.
 struct Hierarchy<'a> {
     shelf: &'a Table,
     submission: &'a Submission,
@@ -141,7 +141,7 @@ impl<'a> Hierarchy<'a> {
         })
     }
 
-    /// What a name means.
+    /// What a name refers to.
     fn link(&self, name: &Name) -> Link
         requires linked { AreLinked self.now.shelf.now self.now.submission.now self.now.bound self.now.numbers.items self.now.nodes.items }
         requires known { IsKnown self.now.shelf.now self.now.submission.now self.now.numbers.items name.now }
@@ -168,7 +168,7 @@ impl<'a> Hierarchy<'a> {
         }
     }
 
-    /// What elements are and refer to.
+    /// The shapes, children and target sizes of elements.
     fn parts(&self, alloc: Global, elements: &[Element]) -> Result<Parts, AllocError>
         requires linked { AreLinked self.now.shelf.now self.now.submission.now self.now.bound self.now.numbers.items self.now.nodes.items }
         requires known { AreKnown self.now.shelf.now self.now.submission.now self.now.numbers.items elements.now }
@@ -198,7 +198,7 @@ impl<'a> Hierarchy<'a> {
         })
     }
 
-    /// Adds the node of a structure, behind those of all structures that it places.
+    /// Adds the node of a structure. The nodes of all structures that it places must exist.
     fn add(&mut self, alloc: Global, place: usize) -> Result<(), HierFault>
         requires linked { AreLinked self.old.shelf.now self.old.submission.now self.old.bound self.old.numbers.items self.old.nodes.items }
         requires place { IsPlace self.old.submission.now.library place }
@@ -240,7 +240,7 @@ impl<'a> Hierarchy<'a> {
     }
 }
 
-/// Adds the nodes of these places in order, up to that of the top.
+/// Adds the nodes of these places in order, up to the top's.
 fn nodes_upto(
     alloc: Global,
     hierarchy: Hierarchy,
@@ -266,12 +266,12 @@ fn nodes_upto(
     Err(HierFault::NoTop)
 }
 
-/// The nodes of a submission's structures, from below.
+/// The nodes of a submission's structures, from the lowest up to the top.
 ///
-/// Linear in the library, with a search for each name.
+/// Cost: linear in the library, with a search for each name.
 ///
 /// # Errors
-/// `Extent` where a structure reaches beyond 2^30 nm in its own coordinates, or want of memory.
+/// `Extent` if a structure exceeds 2^30 nm in its own coordinates; or out of memory.
 pub fn nodes_of(
     alloc: Global,
     shelf: &Table,

@@ -1,4 +1,4 @@
-//! Laws of the definitions alone. Each function has an empty body: its contract is the law.
+//! Laws about the definitions. Each function has an empty body; its contract is the law.
 
 ghost use Rattle.mpw_hier.specs.Reach.{CyclesAreFound, NamesOutsideAreFound, ExternalsAreOne, FarExtentsAreFound};
 ghost use Rattle.std.specs.Prelude.{◌≡◌, ℕ, List, length};
@@ -11,8 +11,8 @@ ghost use Rattle.mpw_hier.specs.Holding.{ExtentsAreOrdered, ExtentsHoldItems, Ex
 ghost use Rattle.mpw_hier.specs.Placed.{BoxesArePlacedAgain, UnmovedShapesHaveTheirBoxes};
 ghost use Rattle.mpw_hier.specs.Shelved.{PresentAreOfTheirCell, LastIsPresent, ShapesAreOfEarlier, ShelvesAreLimited, EarlierStay};
 
-/// The tests that compute tell what the relations say: of cycles below a top, of the names outside a library, of which
-/// there is one list, and of extents that are too far.
+/// The computed tests agree with the relations: of cycles below a top, of the names outside a library (there is exactly one list of
+/// them), and of extents that are too large.
 pub fn reaching_is_decided()
     ensures cycles { CyclesAreFound }
     ensures outside { NamesOutsideAreFound }
@@ -20,8 +20,8 @@ pub fn reaching_is_decided()
     ensures far { FarExtentsAreFound }
 {}
 
-/// Of a shelf by its submissions: the present submission of a cell is one of that cell, and becomes so when it comes; what a
-/// submission shows comes from it or from earlier ones; and what is shown keeps to the limits.
+/// Facts about a shelf and its submissions. The present submission of a cell is one of that cell, and a new submission becomes the
+/// present one. The flat shapes of a submission come from it or from earlier ones. They meet the limits.
 pub fn shelves_have_their_numbers()
     ensures cells { PresentAreOfTheirCell }
     ensures last { LastIsPresent }
@@ -29,13 +29,13 @@ pub fn shelves_have_their_numbers()
     ensures limits { ShelvesAreLimited }
 {}
 
-/// A submission stays what it was, and shows what it showed, when others come.
+/// A submission and its flat shapes stay the same when others follow.
 pub fn earlier_submissions_stay()
     ensures { EarlierStay }
 {}
 
-/// An extent has its first corner at the lower left, and is the least box that holds the box of each item. That of two lists
-/// is the least box of both, and that of a list that is placed is the extent, placed.
+/// An extent has its first corner at the lower left, and is the least box that contains the box of each item. The extent of two lists
+/// is the least box around both extents. The extent of a placed list is the extent, placed.
 pub fn extents_are_least_boxes()
     ensures ordered { ExtentsAreOrdered }
     ensures holds { ExtentsHoldItems }
@@ -44,16 +44,15 @@ pub fn extents_are_least_boxes()
     ensures placed { ExtentsArePlaced }
 {}
 
-/// A box that is placed twice is placed by the placing that is the one and then the other, as a
-/// shape is. A shape that is neither turned nor moved has the box of its element.
+/// To place a box by one placing and then by another is to place it by the composed placing, as for a shape. A shape that is neither
+/// turned nor moved has the box of its element.
 pub fn boxes_are_placed()
     ensures again { BoxesArePlacedAgain }
     ensures unmoved { UnmovedShapesHaveTheirBoxes }
 {}
 
-/// A name of a submission's library shows what its structure does from the names to which it refers, and its node has the size
-/// of that; a name outside shows what the top of its submission does. The last node is that of the top. There is a flat list for
-/// each submission.
+/// A name of a submission's library has the content of its structure, made from the names to which that refers, and its node has that size.
+/// A name outside has the content of the top of its submission. The last node is the top's. There is a flat list for each submission.
 pub fn names_show_their_targets()
     ensures own { OwnNamesAreShown }
     ensures outer { OuterNamesAreShown }
@@ -61,7 +60,7 @@ pub fn names_show_their_targets()
     ensures many { (ss : List Submission) → length (flats ss) ≡ length ss }
 {}
 
-/// The same of lists of any kind, to which each structure adds its own, and each reference what it makes of its target's list.
+/// The same for lists of any kind: each structure adds its own entries, and each reference what it makes of its target's list.
 pub fn names_list_their_targets<W>()
     ensures own { (own : ℕ → Structure → List W) (placed : Reference → List W → List W) → OwnNamesAreListed own placed }
     ensures outer { (own : ℕ → Structure → List W) (placed : Reference → List W → List W) → OuterNamesAreListed own placed }

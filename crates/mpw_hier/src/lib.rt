@@ -1,13 +1,11 @@
-//! The shelf of submissions. A submission's library may name cells that others submitted before, and
-//! shows their present submissions.
+//! The shelf: all submissions, in their order. A submission's library may refer to cells that others submitted before, and uses their
+//! present submissions.
 //!
-//! [`Outline`] is what of a library depends on the library and its top alone, found once: the names
-//! outside, to which [`Shelf::bind`] tells the submissions, and the structures from below, of which
-//! [`Shelf::put`] makes the nodes.
+//! [`Outline`] is what depends on a library and its top alone. It is computed once: the names outside, which [`Shelf::bind`] binds to
+//! submissions, and the structures from the lowest up, of which [`Shelf::put`] makes the nodes.
 //!
-//! The structures of a library are places of a graph (`graph`), which are put in order from below
-//! (`order`) without recursion, since a chain may be as long as a text; names outside are gathered in
-//! that order (`outside`).
+//! The structures of a library are places of a graph (`graph`). They are sorted from the lowest up (`order`) without recursion, since a
+//! chain can be as long as a text. The names outside are collected in that order (`outside`).
 #![tactic(auto)]
 
 mod bindings;

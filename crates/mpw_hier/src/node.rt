@@ -1,4 +1,4 @@
-//! The hierarchy of a submission: the structures that its top reaches, from below.
+//! The hierarchy of a submission: the structures that its top reaches, each after those that it places.
 
 use crate::places::Places;
 use crate::size::Size;
@@ -7,30 +7,30 @@ use mpw_lists::SharedList;
 /// What a reference places.
 #[derive(Clone, Copy, PartialEq, Eq)]
 pub enum Target {
-    /// A node of the same submission, by number. It stands before the one that places it.
+    /// A node of the same submission, by number. It comes before the node that places it.
     Own(usize),
     /// The top of an earlier submission, by number.
     Outer(u32),
 }
 
-/// A reference that shows something.
+/// A reference to a target with at least one flat shape.
 #[derive(Clone, Copy)]
 pub struct Child {
-    /// Where the reference stands among the structure's elements.
+    /// The index of the reference among the structure's elements.
     pub element: usize,
-    /// What the reference places, which shows a shape at least.
+    /// What the reference places. It has at least one flat shape.
     pub target: Target,
 }
 
 /// A structure that the top of a submission reaches.
 pub struct Node {
-    /// Where the structure stands in the library.
+    /// The index of the structure in the library.
     pub structure: usize,
-    /// Where its own shapes stand among its elements, in file order.
+    /// The indices of its own shapes among its elements, in file order.
     pub shapes: Places,
-    /// Its references that show something, in file order.
+    /// Its references to targets with flat shapes, in file order.
     pub children: Vec<Child>,
-    /// How much the structure shows with all that it places.
+    /// The size of the structure with everything that it places.
     pub size: Size,
 }
 
@@ -47,6 +47,6 @@ impl Drop for Node {
     }
 }
 
-/// The nodes of a submission, each behind those that it places, the top last. Contracts see them as a
-/// list. Copies share them.
+/// The nodes of a submission, each after those that it places. The top is last. Contracts see them as a list.
+/// Copies share memory.
 pub type Nodes = SharedList<Node>;

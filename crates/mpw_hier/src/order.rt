@@ -1,8 +1,7 @@
-//! A search from a top down a graph.
+//! A depth-first search of a graph from its top.
 //!
-//! The search goes down one way and keeps it in a vector, so that no chain is too long for the stack.
-//! Each step falls in `left` or in the way down, so there are at most as many steps as places and
-//! targets together, and twice the places.
+//! The search stores its path in a vector, so no chain is too long for the stack. Each step reduces `left` or the path. So the number of
+//! steps is at most the number of places and targets together, plus twice the number of places.
 
 ghost use Rattle.std.specs.Prelude.{◌≡◌, ◌<◌, ◌+◌, [], length, map, Ok, IfOk, IfSome, IfNone, OnOk};
 ghost use Rattle.mpw_hier.specs.Graph.{IsFromBelow};
@@ -12,14 +11,14 @@ ghost use Rattle.mpw_hier.specs.declared.order.Step.TheVariants as kinds;
 use crate::graph::Graph;
 use std::alloc::{AllocError, Global};
 
-/// How far a search has come.
+/// The state of a search.
 pub struct Descent {
-    /// Where the search began.
+    /// The place where the search began.
     pub top: usize,
-    /// The steps that are left at each place: one for each target, one to end, and one more before it
+    /// The number of steps that are left at each place: one for each target, one to leave it, and one more before it
     /// is entered.
     pub left: Vec<usize>,
-    /// The way down to the place where the search is.
+    /// The path from the top to the current place.
     pub path: Vec<usize>,
     /// The places that are done, in order.
     pub order: Vec<usize>,
@@ -39,18 +38,18 @@ impl Drop for Descent {
     }
 }
 
-/// What a step found.
+/// The result of a step.
 #[derive(Clone, Copy, PartialEq, Eq)]
 pub enum Step {
-    /// The search went on: it entered a target, passed one that is done, or went back from a place.
+    /// The search continued: it entered a target, skipped one that is done, or left a place.
     On,
-    /// The way is empty: all that the top reaches is in order.
+    /// The path is empty: all places that the top reaches are in order.
     Done,
-    /// The place that a reference leads to is on the way already.
+    /// A target is already on the path.
     Cycle,
 }
 
-/// The steps of each place.
+/// The number of steps of each place.
 fn all_steps(alloc: Global, graph: &Graph) -> Result<Vec<usize>, AllocError>
     ensures { IfOk result (λ left. left.items ≡ map (λ places. length places + 2) graph.now) }
 {
@@ -64,7 +63,7 @@ fn all_steps(alloc: Global, graph: &Graph) -> Result<Vec<usize>, AllocError>
 impl Descent {
     ghost use Rattle.mpw_hier.specs.Internal.Descent.{IsUnderWay, work};
 
-    /// The search at its beginning.
+    /// The search at its start.
     fn new(alloc: Global, graph: &Graph, top: usize) -> Result<Descent, AllocError>
         requires { top < length graph.now }
         ensures under_way { IfOk result (IsUnderWay graph.now) }
@@ -83,7 +82,7 @@ impl Descent {
         })
     }
 
-    /// One step: to the next target of the last place of the way, or back from it behind all of them.
+    /// One step: to the next target of the last place on the path, or out of that place after its last target.
     fn step(&mut self, graph: &Graph) -> Result<Step, AllocError>
         requires graph { IsGraph graph.now }
         requires under_way { IsUnderWay graph.now self.old }
@@ -134,12 +133,12 @@ impl Descent {
     }
 }
 
-/// The places to which the top leads, each behind all of its targets; none where there is a cycle.
+/// The places that the top reaches, each after all of its targets. `None` if there is a cycle.
 ///
-/// Linear in the places and their targets.
+/// Cost: linear in the places and their targets.
 ///
 /// # Errors
-/// Where there is no room for them.
+/// Out of memory.
 pub fn order_from_below(
     alloc: Global,
     graph: &Graph,

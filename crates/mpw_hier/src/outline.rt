@@ -1,4 +1,4 @@
-//! A library as its top shows it: what depends on the library and the top alone, found once.
+//! What depends on a library and its top alone. It is computed once.
 
 ghost use Rattle.std.specs.Prelude.{◌≡◌, ◌↔◌, None, Err, IfOk, IfErr};
 ghost use Rattle.mpw_structures.specs.Places.{place_of};
@@ -12,13 +12,13 @@ use mpw_geom::{Name, Names};
 use mpw_structures::Library;
 use std::alloc::Global;
 
-/// The structures that a library's top reaches, and the names outside the library among what it reaches.
+/// The structures that a library's top reaches, and the names outside the library that it reaches.
 pub struct Outline {
-    /// The names outside the library, in order of name, each once.
+    /// The names outside the library, in alphabetical (byte) order, each once.
     pub names: Names,
-    /// Where the top stands in the library.
+    /// The index of the top in the library.
     pub(crate) place: usize,
-    /// Where the structures stand that the top reaches, each behind those that it places, the top among them.
+    /// The indices of the structures that the top reaches, each after those that it places. The top is one of them.
     pub(crate) order: Vec<usize>,
 }
 
@@ -37,11 +37,11 @@ impl Drop for Outline {
 impl Outline {
     /// What the top of a library reaches.
     ///
-    /// Linear in the library's references, with a search for each of them, and a sort of the names outside.
+    /// Cost: linear in the library's references, with a search for each of them, and a sort of the names outside.
     ///
     /// # Errors
-    /// `NoTop` where the library has no structure of that name; `Cycle` where a structure that the top reaches, the top
-    /// itself among them, leads back to itself; or want of memory.
+    /// `NoTop` if the library has no structure with that name; `Cycle` if the top, or a structure that it reaches, leads back to itself;
+    /// or out of memory.
     pub fn new(alloc: Global, library: &Library, top: &Name) -> Result<Outline, HierFault>
         ensures ok { IfOk result (IsOutline library.now top.now) }
         ensures no_top { (result ≡ Err HierFault.NoTop) ↔ (place_of library.now top.now ≡ None) }

@@ -1,4 +1,4 @@
-//! Names outside a library.
+//! The names outside a library.
 
 ghost use Rattle.std.specs.Prelude.{◌≡◌, ◌<◌, ◌++◌, length, IfOk, OnOk, All};
 ghost use Rattle.mpw_hier.specs.Structures.{referenced_names};
@@ -10,7 +10,7 @@ use mpw_geom::Names;
 use mpw_structures::{Element, Library};
 use std::alloc::{AllocError, Global};
 
-/// The places of the structures to which elements refer in their library.
+/// The indices of the library's structures to which elements refer.
 fn places_of(
     alloc: Global,
     library: &Library,
@@ -29,10 +29,10 @@ fn places_of(
     Ok(places)
 }
 
-/// The structures of a library as places, each with those to which it refers.
+/// The structures of a library as places of a graph. Each leads to those to which it refers.
 ///
 /// # Errors
-/// Where there is no room for it.
+/// Out of memory.
 pub fn graph_of(alloc: Global, library: &Library) -> Result<Graph, AllocError>
     ensures { IfOk result (λ graph. graph ≡ graph_of library.now) }
 {
@@ -58,10 +58,10 @@ fn add_outside(names: &mut Names, library: &Library, elements: &[Element]) -> Re
     Ok(())
 }
 
-/// The names outside the library to which the structures at these places refer.
+/// The names outside the library to which the structures at these indices refer.
 ///
 /// # Errors
-/// Where there is no room for them.
+/// Out of memory.
 pub fn outside_from(alloc: Global, library: &Library, places: &[usize]) -> Result<Names, AllocError>
     requires { All (λ place. place < length library.now) places.now }
     ensures { IfOk result (λ names. names ≡ outside_from_all library.now places.now) }

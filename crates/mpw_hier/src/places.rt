@@ -1,11 +1,11 @@
-//! Places in a list, from below.
+//! Ascending indices into a list, stored in little memory if they are consecutive.
 
 ghost use Rattle.std.specs.Prelude.{◌≡◌, ◌<◌, length, slice_index, IfSome};
 ghost use Rattle.mpw_hier.specs.Internal.Places.{IsRunOf};
 
 use std::marker::Model;
 
-/// Places that follow on one another.
+/// Consecutive indices.
 #[derive(Clone, Copy)]
 struct Run {
     /// The first of them.
@@ -14,17 +14,17 @@ struct Run {
     count: usize,
 }
 
-/// Places in a list.
+/// How the indices are stored.
 #[derive(Drop)]
 enum Held {
-    /// Each behind the one before.
+    /// Each is one more than the one before.
     Run(Run),
     /// One by one.
     Listed(Vec<usize>),
 }
 
-/// Places in a list, which contracts see as a list of numbers. Where each is one more than the one before, as where the shapes of a
-/// structure stand together, they take no memory beyond 32 bytes.
+/// Indices into a list. Contracts see them as a list of numbers. If they are consecutive, as when the shapes of a structure are adjacent,
+/// they take no memory beyond 32 bytes.
 pub struct Places {
     held: Held,
 }
@@ -47,7 +47,7 @@ impl Model for Places {
     ghost invariant = { λ p. IsHeld p.held };
 }
 
-/// The run that places are, if each is one more than the one before. One pass.
+/// The run that equals these indices, if they are consecutive. One pass.
 fn run_of(places: &[usize]) -> Option<Run>
     ensures { IfSome result (λ run. IsRunOf places.now run) }
 {
@@ -65,7 +65,7 @@ fn run_of(places: &[usize]) -> Option<Run>
 }
 
 impl Places {
-    /// These places. One pass.
+    /// These indices. One pass.
     pub fn of(places: Vec<usize>) -> Places
         ensures { result ≡ places.items }
     {
@@ -89,7 +89,7 @@ impl Places {
         }
     }
 
-    /// The place with an index, in constant time.
+    /// The entry at an index, in constant time.
     pub fn at(&self, index: usize) -> usize
         requires { index < length self.now }
         ensures { result ≡ slice_index self.now index }

@@ -25,10 +25,10 @@ use std::alloc::{AllocError, Global};
 use std::marker::Model;
 use std::sync::Arc;
 
-/// Submissions by number, counted from 0, which contracts see as their list. The present one of a
-/// cell is found in logarithmic time. Copies share them.
+/// Submissions by number, counted from 0. Contracts see them as a list. The present submission of a cell is found in logarithmic time.
+/// Copies share memory.
 pub struct Shelf {
-    /// None without submissions.
+    /// `None` if there are no submissions.
     table: Option<Arc<Table>>,
 }
 
@@ -50,15 +50,15 @@ impl Model for Shelf {
 }
 
 impl Shelf {
-    /// The shelf without submissions. Takes no memory.
+    /// The empty shelf. Takes no memory.
     pub fn new(_alloc: Global) -> Shelf
         ensures { result ≡ [] }
     {
         Shelf { table: None }
     }
 
-    /// Every submission was read, is bound to the present ones of its time, keeps the limits and has
-    /// its version. A law: the function does nothing.
+    /// A law; the function does nothing. Every submission is a library as it was read, is bound to the submissions that were present when it came, meets
+    /// the limits, and has its version.
     pub fn is_shelf(&self)
         ensures { IsShelf self.now }
     {
@@ -67,10 +67,10 @@ impl Shelf {
         }
     }
 
-    /// The same shelf, in constant time and without further memory.
+    /// The same shelf, in constant time and without more memory.
     ///
     /// # Errors
-    /// Where no more copies can be counted.
+    /// If no more copies can be counted.
     pub fn copy(&self, _alloc: Global) -> Result<Shelf, AllocError>
         ensures { IfOk result (λ shelf. shelf ≡ self.now) }
     {
@@ -92,8 +92,8 @@ impl Shelf {
         }
     }
 
-    /// Whether the shelves have the same submissions, in order, by value. Linear in what the submissions hold, each with its
-    /// library, up to the first difference; it takes no memory.
+    /// Whether both shelves have the same submissions in the same order, by value. Cost: linear in the contents of the submissions and their
+    /// libraries, up to the first difference. Takes no memory.
     pub fn is_same(&self, other: &Shelf) -> bool
         ensures { IsTrue result ↔ (self.now ≡ other.now) }
     {
@@ -111,18 +111,18 @@ impl Shelf {
         }
     }
 
-    /// The submission of a number. Takes no memory.
+    /// The submission with a number. Takes no memory.
     pub fn get(&self, number: u32) -> Option<&Submission>
         ensures { option_copied result ≡ slice_get self.now number }
     {
         self.submissions().get(number as usize)
     }
 
-    /// The cells that have a submission, in the order of the bytes of their names. A sort of the
+    /// The cells that have a submission, in alphabetical (byte) order of their names. Cost: a sort of the
     /// submissions' cells.
     ///
     /// # Errors
-    /// Want of memory.
+    /// Out of memory.
     pub fn cells(&self, alloc: Global) -> Result<Names, AllocError>
         ensures { IfOk result (λ cells. cells ≡ by_name (map (λ s. s.cell) self.now)) }
     {
@@ -131,8 +131,8 @@ impl Shelf {
         Ok(cells)
     }
 
-    /// The nodes of the submission of a number: those of the structures that its top reaches, each behind
-    /// those that it places, the top last. Takes no memory.
+    /// The nodes of the submission with a number: those of the structures that its top reaches, each after
+    /// those that it places. The top is last. Takes no memory.
     pub fn nodes(&self, number: u32) -> Option<&[Node]>
         ensures some { IfSome result (λ nodes. AreNodes self.now number nodes.now) }
         ensures none { IfNone result (slice_get self.now number ≡ None) }
@@ -143,7 +143,7 @@ impl Shelf {
         }
     }
 
-    /// How much the submission of a number shows. Takes no memory.
+    /// The size of the submission with a number. Takes no memory.
     fn size(&self, number: u32) -> Option<Size>
         ensures some { IfSome result (IsSizeOf (flat self.now number) (height self.now number)) }
         ensures few { IfSome result (λ size. count self.now number ≤ 2 ^ 40) }
@@ -156,7 +156,7 @@ impl Shelf {
         }
     }
 
-    /// The number of flat shapes of a submission, 0 to 2^40; 0 where there is none of that number.
+    /// The number of flat shapes of a submission, 0 to 2^40; 0 if there is no submission with that number.
     pub fn count(&self, number: u32) -> u64
         ensures count { result ≡ count self.now number }
         ensures few { result ≤ 2 ^ 40 }
@@ -167,7 +167,7 @@ impl Shelf {
         }
     }
 
-    /// The levels of a submission, 1 to 64; 0 where there is none of that number.
+    /// The levels of a submission, 1 to 64; 0 if there is no submission with that number.
     pub fn height(&self, number: u32) -> u32
         ensures { result ≡ height self.now number }
     {
@@ -177,8 +177,8 @@ impl Shelf {
         }
     }
 
-    /// The least box that holds the boxes of all flat shapes of a submission, in nm, within -2^30 to
-    /// 2^30. None without shapes.
+    /// The least box that contains the boxes of all flat shapes of a submission, in nm, within -2^30 to
+    /// 2^30. `None` if there are no shapes.
     pub fn extent(&self, number: u32) -> Option<Box2>
         ensures extent { result ≡ extent self.now number }
         ensures near { IfSome result (λ box. is_box_near box ≡ true) }
@@ -188,10 +188,10 @@ impl Shelf {
 
     /// Binds each name to the present submission of the cell of that name.
     ///
-    /// One search a name, and memory for the bindings.
+    /// Cost: one search for each name, and memory for the bindings.
     ///
     /// # Errors
-    /// `NoCell` where a cell has no submission, or want of memory.
+    /// `NoCell` if a cell has no submission; or out of memory.
     pub fn bind(&self, alloc: Global, names: &[Name]) -> Result<Bindings, HierFault>
         ensures ok { IfOk result (λ bindings. bound_to self.now names.now ≡ Some bindings) }
         ensures faults { IfErr result (IsOfBinding self.now names.now) }
@@ -217,18 +217,18 @@ impl Shelf {
         }
     }
 
-    /// Puts a submission on the shelf, with the next version of its cell. The result is its number. The outline is that of
-    /// its library and top, and its bindings are those of the outline's names. It may show `most` flat shapes, which are
-    /// [`crate::MAX_SHAPES`] at most. Copies of the shelf stay as they were.
+    /// Puts a submission on the shelf, with the next version of its cell. Returns its number. `outline` must be that of the submission's library and top, and
+    /// its bindings must be those of the outline's names. The submission may have at most `most` flat shapes; `most` is at most [`crate::MAX_SHAPES`]. Copies
+    /// of the shelf stay as they were.
     ///
-    /// Linear in the number of submissions, which share what they hold, and in the library, with a search for each name,
-    /// however deep its structures are.
+    /// Cost: linear in the number of submissions, which share their contents, and in the library, with a search for each name. The depth of the
+    /// structures doesn't matter.
     ///
     /// # Errors
-    /// In this order: `Extent` where a structure that the top reaches has an extent beyond -2^30 to
-    /// 2^30 nm in its own coordinates, `Shapes` above `most` flat shapes, `Deep` above 64 levels, `Full`
-    /// where there are 4096 submissions, or 1024 cells and this would be another; or want of memory.
-    /// The shelf is then as before.
+    /// In this order: `Extent` if the extent of a structure that the top reaches exceeds -2^30 to 2^30 nm in its own
+    /// coordinates; `Shapes` if there are more than `most` flat shapes; `Deep` above 64 levels; `Full` if there are 4096
+    /// submissions, or if there are 1024 cells and this would be another. Or out of memory. After an error the shelf is
+    /// as before.
     pub fn put(
         &mut self,
         alloc: Global,
@@ -267,10 +267,10 @@ fn cells_of(alloc: Global, submissions: &[Submission]) -> Result<Names, AllocErr
     Ok(cells)
 }
 
-/// The nodes of a submission that keeps the limits of a table, with so many flat shapes at most.
+/// The nodes of a submission that meets the limits of a table, with at most `most` flat shapes.
 ///
 /// # Errors
-/// As those of [`Shelf::put`].
+/// The same as those of [`Shelf::put`].
 fn nodes_within(
     alloc: Global,
     table: &Table,

@@ -1,7 +1,7 @@
-//! What a structure shows, from what the targets of its references show.
+//! Computes the size of a structure from the sizes of its targets: flat shapes, levels and extent.
 //!
-//! Each element has a size, and sizes are added up. A count or a height beyond its limit stays the one
-//! behind the limit, whatever is added.
+//! Each element has a size, and sizes are added up. A count or a height beyond its limit becomes the number after the limit, and
+//! stays that number whatever is added.
 
 ghost use Rattle.std.specs.Prelude.{◌≡◌, ◌+◌, ◌*◌, ◌^◌, ◌≤◌, ℕ, min, List, [], ◌∷◌, All, IfSome, IfNone, length};
 ghost use Rattle.std.specs.List.{AllZip};
@@ -20,23 +20,23 @@ use crate::size_shape::element_box;
 use mpw_geom::Box2;
 use mpw_structures::{Element, Reference, Structure};
 
-/// The greatest limit of flat shapes that a shelf may be given for a submission, 2^40. A size tells a count exactly up to it.
+/// The greatest limit of flat shapes that a caller may set for a submission, 2^40. A size has the exact count up to this number.
 pub const MAX_SHAPES: u64 = 1 << 40;
 
-/// The count that stands for all beyond the limit of 2^40.
+/// The count that represents all counts beyond 2^40.
 const MANY: u64 = MAX_SHAPES + 1;
 
-/// The height that stands for all beyond the limit of 64.
+/// The height that represents all heights beyond 64.
 const DEEP: u32 = 65;
 
-/// What a structure shows, up to the limits.
+/// The size of a structure, up to the limits.
 #[derive(Clone, Copy)]
 pub struct Size {
-    /// Flat shapes, at most 2^40 + 1, which stands for all beyond the limit.
+    /// Flat shapes. At most 2^40 + 1, which represents all counts beyond the limit.
     pub count: u64,
-    /// Levels, at most 65, which stands for all beyond the limit.
+    /// Levels. At most 65, which represents all heights beyond the limit.
     pub height: u32,
-    /// The least box of all shapes' boxes, in nm; none without any.
+    /// The least box of all shapes' boxes, in nm; `None` if there are no shapes.
     pub extent: Option<Box2>,
 }
 
@@ -64,7 +64,7 @@ impl Size {
     }
 }
 
-/// The size of a shape; none where it reaches beyond 2^30 nm.
+/// The size of a shape; `None` if it exceeds 2^30 nm.
 fn shape_size(element: &Element) -> Option<Size>
     requires { IsElement element.now }
     ensures size { IfSome result (IsToldBy (shape_total element.now)) }
@@ -83,7 +83,7 @@ fn shape_size(element: &Element) -> Option<Size>
     })
 }
 
-/// As many shapes for each instance, up to the limit.
+/// The number of flat shapes of all instances of a target with `count` flat shapes, up to the limit.
 fn array_count(reference: &Reference, count: u64) -> u64
     ensures { result ≡ min (2 ^ 40 + 1) (reference.now.columns * reference.now.rows * count) }
 {
@@ -91,7 +91,7 @@ fn array_count(reference: &Reference, count: u64) -> u64
     instances.saturating_mul(count).min(MANY)
 }
 
-/// The size of all instances of a target; none where they reach beyond 2^30 nm.
+/// The size of all instances of a target; `None` if they exceed 2^30 nm.
 fn array_size(reference: &Reference, target: Size) -> Option<Size>
     requires reference { IsReference reference.now }
     requires near { IsExtentNear target.extent }
@@ -109,8 +109,8 @@ fn array_size(reference: &Reference, target: Size) -> Option<Size>
     })
 }
 
-/// The size of an element, where the first of `left` is that of its target, if it is a reference; none
-/// where it reaches beyond 2^30 nm.
+/// The size of an element. If it is a reference, the first entry of `left` is the size of its target. `None`
+/// if it exceeds 2^30 nm.
 fn part_size(element: &Element, left: &[Size]) -> Option<Size>
     requires element { IsElement element.now }
     requires targets { length (references (element.now ∷ [])) ≤ length left.now }
@@ -124,7 +124,7 @@ fn part_size(element: &Element, left: &[Size]) -> Option<Size>
     }
 }
 
-/// The sizes behind that of the element's target, if it is a reference.
+/// The remaining sizes: without the first one if the element is a reference.
 fn behind<'a>(element: &Element, left: &'a [Size]) -> &'a [Size]
     requires { length (references (element.now ∷ [])) ≤ length left.now }
     ensures { result.now ≡ behind element.now left.now }
@@ -135,10 +135,10 @@ fn behind<'a>(element: &Element, left: &'a [Size]) -> &'a [Size]
     }
 }
 
-/// What a structure shows, where `below` has the size of each reference's target, in file order; none
-/// where its extent reaches beyond 2^30 nm.
+/// The size of a structure. `below` has the size of each reference's target, in file order. `None`
+/// if its extent exceeds 2^30 nm.
 ///
-/// Takes time by the number of points and references, and no memory.
+/// Cost: linear in the points and references. Takes no memory.
 pub fn size_of(structure: &Structure, below: &[Size]) -> Option<Size>
     requires elements { All IsElement structure.now.elements }
     requires targets { length below.now ≡ length (references structure.now.elements) }

@@ -1,8 +1,7 @@
-//! The least boxes of all instances of an array. Nothing here takes memory.
+//! Computes the least box of all instances of an array. Nothing here takes memory.
 //!
-//! The instances at the four corners of an array reach as far as all of them, so the first instance and
-//! the ways to the last column and the last row are enough. Sums are made in 128 bits, since the last
-//! instance of a wide array may lie beyond 64.
+//! The instances at the four corners of an array have the same least box as all of them. So the first instance and the displacements to the last
+//! column and the last row are enough. Sums are computed in 128 bits, since the last instance of a wide array may lie beyond 64 bits.
 
 ghost use Rattle.std.specs.Prelude.{◌≡◌, ◌-◌, ◌+ℤ◌, ◌*ℤ◌, pos, true, Some, IfSome, IfNone};
 ghost use Rattle.std.specs.Int.{int_min, int_max};
@@ -25,7 +24,7 @@ struct WideBox {
     y1: i128,
 }
 
-/// A displacement in nm, which may be longer than 64 bits tell.
+/// A displacement in nm, which may need more than 64 bits.
 #[derive(Clone, Copy)]
 struct WidePoint {
     x: i128,
@@ -54,7 +53,7 @@ impl WideBox {
     }
 }
 
-/// How far the last of so many instances in a line lies from the first.
+/// The distance from the first to the last of `count` instances in a line.
 fn last_along(count: u16, step: i64) -> i128
     requires count { IsCount count }
     requires step { IsWithinReach step }
@@ -64,7 +63,7 @@ fn last_along(count: u16, step: i64) -> i128
     i128::from(count - 1) * i128::from(step)
 }
 
-/// How far the last of so many instances lies from the first.
+/// The displacement from the first to the last of `count` instances.
 fn last_origin(count: u16, step: Point) -> WidePoint
     requires count { IsCount count }
     requires step { IsPointWithinReach step }
@@ -79,7 +78,7 @@ fn last_origin(count: u16, step: Point) -> WidePoint
     }
 }
 
-/// The least coordinate of the origins of instances in a line, where the first is at 0.
+/// The least coordinate of the origins of instances in a line whose first is at 0.
 fn least(last: i128) -> i128
     requires { IsWide last }
     ensures made { result ≡ int_min last (pos 0) }
@@ -88,7 +87,7 @@ fn least(last: i128) -> i128
     last.min(0)
 }
 
-/// The greatest coordinate of the origins of instances in a line, where the first is at 0.
+/// The greatest coordinate of the origins of instances in a line whose first is at 0.
 fn greatest(last: i128) -> i128
     requires { IsWide last }
     ensures made { result ≡ int_max last (pos 0) }
@@ -97,7 +96,7 @@ fn greatest(last: i128) -> i128
     last.max(0)
 }
 
-/// The box of the origins of instances in a line, where the first is at 0.
+/// The box of the origins of instances in a line whose first is at 0.
 fn origins(last: WidePoint) -> WideBox
     requires x { IsWide last.x }
     requires y { IsWide last.y }
@@ -124,7 +123,7 @@ fn high_corner(b: Box2) -> Point
     Point { x: b.x1, y: b.y1 }
 }
 
-/// The box as the first instance has it.
+/// The box of the first instance.
 fn first_box(reference: &Reference, b: Box2) -> Box2
     requires reference { IsReference reference.now }
     requires near { is_box_near b ≡ true }
@@ -139,7 +138,7 @@ fn first_box(reference: &Reference, b: Box2) -> Box2
     Box2::between(p, q)
 }
 
-/// A coordinate of a corner of an array, from that of its first instance and the ways to a column and a row.
+/// The coordinate of an array's corner, from the first instance's and the displacements to a column and a row.
 fn corner(first: i64, column: i128, row: i128) -> i128
     requires column { IsWide column }
     requires row { IsWide row }
@@ -148,7 +147,7 @@ fn corner(first: i64, column: i128, row: i128) -> i128
     i128::from(first) + column + row
 }
 
-/// The box at the corners of an array, from that of its first instance.
+/// The box of all corners of an array, from that of its first instance.
 fn corners(first: Box2, columns: WideBox, rows: WideBox) -> WideBox
     requires columns { IsWideBox columns }
     requires rows { IsWideBox rows }
@@ -165,7 +164,7 @@ fn corners(first: Box2, columns: WideBox, rows: WideBox) -> WideBox
     }
 }
 
-/// The least box of all instances of a box; none where it reaches beyond 2^30 nm.
+/// The least box of all instances of a box; `None` if it exceeds 2^30 nm.
 pub fn array_box(reference: &Reference, b: Box2) -> Option<Box2>
     requires reference { IsReference reference.now }
     requires near { is_box_near b ≡ true }

@@ -1,4 +1,4 @@
-//! Least boxes that hold others. Nothing here takes memory.
+//! The least boxes that contain others. Nothing here takes memory.
 
 ghost use Rattle.std.specs.Prelude.{◌≡◌};
 ghost use Rattle.mpw_hier.specs.Boxes.{hull, has_area, is_near, is_box_near};
@@ -6,10 +6,10 @@ ghost use Rattle.mpw_geom.specs.Plane.{joined};
 
 use mpw_geom::Box2;
 
-/// How far from 0 a coordinate of an extent may lie, in nm.
+/// The greatest absolute coordinate of an extent, in nm.
 const MAX_COORDINATE: i128 = 1 << 30;
 
-/// The least box that holds two, where there are such.
+/// The least box that contains both. `None` if both are `None`.
 pub fn hull(a: Option<Box2>, b: Option<Box2>) -> Option<Box2>
     ensures { result ≡ hull a b }
 {

@@ -1,4 +1,4 @@
-//! The least boxes that hold the shapes of elements. Nothing here takes memory.
+//! The least boxes that contain the shapes of elements. Nothing here takes memory.
 
 ghost use Rattle.std.specs.Prelude.{◌≡◌, ◌≤◌, All, drop, length, if◌then◌else◌, Some, None};
 ghost use Rattle.mpw_structures.specs.Element.{IsElement, IsPath, IsPointWithinReach, IsWithinReach};
@@ -11,7 +11,7 @@ use mpw_geom::Box2;
 use mpw_shapes::{Wire, first_wire};
 use mpw_structures::{Element, Path, Points, PointsView};
 
-/// The least box that holds the points.
+/// The least box that contains the points.
 fn points_box(points: &Points) -> Option<Box2>
     ensures { result ≡ hull_of_points points.now }
 {
@@ -22,14 +22,14 @@ fn points_box(points: &Points) -> Option<Box2>
     extent
 }
 
-/// The box, if it has area.
+/// The box, if it has an area.
 fn if_area(b: Box2) -> Option<Box2>
     ensures { result ≡ (if has_area b then Some b else None) }
 {
     if has_area(b) { Some(b) } else { None }
 }
 
-/// The rectangle of the first of these segments, if it has area. The last one goes to the end of the path.
+/// The rectangle of the first of these segments, if it has an area. The last segment has the extension of the path's end.
 fn segment_box(path: &Path, wire: Wire, rest: &PointsView<'_>) -> Option<Box2>
     requires path { IsPath path.now }
     requires half { IsWithinReach wire.half }
@@ -47,7 +47,7 @@ fn segment_box(path: &Path, wire: Wire, rest: &PointsView<'_>) -> Option<Box2>
     if_area(segment.box_along(rest.at(0), rest.at(1)))
 }
 
-/// The box of the points of a path, and of its rectangles with area.
+/// The box of the points of a path, and of those of its rectangles that have an area.
 fn path_box(path: &Path) -> Option<Box2>
     requires { IsPath path.now }
     ensures { result ≡ element_box (elements.Path path.now) }
@@ -63,8 +63,8 @@ fn path_box(path: &Path) -> Option<Box2>
     extent
 }
 
-/// The least box that holds an element's points, and the rectangles with area of a path. A reference
-/// has none. Takes time by the number of points.
+/// The least box that contains an element's points and, for a path, those of its rectangles that have an area. `None` for a reference.
+/// Cost: linear in the points.
 #[tactic(auto, unfolding(crate::specs::Boxes::element_box))]
 pub fn element_box(element: &Element) -> Option<Box2>
     requires { IsElement element.now }

@@ -1,4 +1,4 @@
-//! A submission: a version of a cell.
+//! A submission: one version of a cell.
 
 ghost use Rattle.std.specs.Prelude.{◌≡◌, ◌↔◌, IfOk, IsTrue};
 
@@ -8,19 +8,19 @@ use mpw_lists::Same;
 use mpw_structures::Library;
 use std::alloc::AllocError;
 
-/// A version of a cell, with the library that shows it.
+/// One version of a cell, with its library.
 pub struct Submission {
     /// The cell's name, by which other libraries refer to it.
     pub cell: Name,
-    /// Counted from 1 for each cell.
+    /// The version, counted from 1 for each cell.
     pub version: u32,
     /// The user who submitted it.
     pub submitter: Name,
-    /// The structures as they were read, those that the top doesn't reach too.
+    /// All structures as they were read, even those that the top doesn't reach.
     pub library: Library,
-    /// The structure of the library that the cell shows.
+    /// The name of the structure that is the cell's top.
     pub top: Name,
-    /// Each name outside the library that the top shows, in order of name.
+    /// The bindings of all names outside the library that the top reaches, in order of name.
     pub bound: Bindings,
 }
 
@@ -43,10 +43,10 @@ impl Drop for Submission {
 }
 
 impl Submission {
-    /// The same submission, in constant time and without further memory: its parts are shared.
+    /// The same submission, in constant time and without more memory: its parts are shared.
     ///
     /// # Errors
-    /// Where no more copies can be counted.
+    /// If no more copies can be counted.
     pub fn copy(&self) -> Result<Submission, AllocError>
         ensures { IfOk result (λ submission. submission ≡ self.now) }
     {
@@ -60,8 +60,8 @@ impl Submission {
         })
     }
 
-    /// Whether the submissions are the same in each part, by value. Linear in their libraries, up to the first difference; it
-    /// takes no memory.
+    /// Whether both submissions are equal in each part, by value. Cost: linear in their libraries, up to the first difference.
+    /// Takes no memory.
     pub fn is_same(&self, other: &Submission) -> bool
         ensures { IsTrue result ↔ (self.now ≡ other.now) }
     {

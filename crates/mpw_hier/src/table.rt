@@ -1,4 +1,4 @@
-//! The submissions of a shelf with what stands beside them. A [`crate::shelf::Shelf`] shares one.
+//! The submissions of a shelf, with their nodes and an index of the present ones. A [`crate::shelf::Shelf`] shares one table.
 
 ghost use Rattle.std.specs.Prelude.{◌≡◌, ◌+◌, ◌<◌, ◌≤◌, ◌^◌, ◌++◌, ◌∷◌, [], length, vec_len, vec_capacity, Err, OnOk, OnErr, IfOk, IfErr, IfSome, IfNone, Some, None, slice_get};
 ghost use Rattle.mpw_hier.specs.Shelf.{present, versions};
@@ -27,8 +27,8 @@ const MAX_SUBMISSIONS: usize = 4096;
 /// The most cells that have a submission.
 const MAX_CELLS: usize = 1024;
 
-/// Submissions by number, counted from 0, which contracts see as their list, with the table of the present ones and the nodes
-/// of each.
+/// Submissions by number, counted from 0. Contracts see them as a list. It also has an index of the present submissions, and the nodes
+/// of each submission.
 pub struct Table {
     submissions: Vec<Submission>,
     nodes: Vec<Nodes>,
@@ -62,7 +62,7 @@ impl Model for Table {
 }
 
 impl Table {
-    /// The shelf without submissions. Takes no memory.
+    /// The empty table. Takes no memory.
     #[tactic(auto, unfolding(crate::specs::Shelf::present))]
     pub fn new(alloc: Global) -> Table
         ensures { result ≡ [] }
@@ -74,18 +74,18 @@ impl Table {
         }
     }
 
-    /// Every submission was read, is bound to the present ones of its time, keeps the limits and has
-    /// its version. A law: the function does nothing.
+    /// A law; the function does nothing. Every submission is a library as it was read, is bound to the submissions that were present when it came, meets
+    /// the limits, and has its version.
     pub fn is_shelf(&self)
         ensures { IsShelf self.now }
     {
         let _submissions = &self.submissions;
     }
 
-    /// The same shelf. Linear in the number of submissions, which share what they hold.
+    /// The same table. Cost: linear in the number of submissions, which share their contents.
     ///
     /// # Errors
-    /// Want of memory.
+    /// Out of memory.
     pub fn copy(&self, alloc: Global) -> Result<Table, AllocError>
         ensures { IfOk result (λ table. table ≡ self.now) }
     {
@@ -112,8 +112,8 @@ impl Table {
         self.present.get(cell).copied()
     }
 
-    /// The nodes of the submission of a number: those of the structures that its top reaches, each behind
-    /// those that it places, the top last. Takes no memory.
+    /// The nodes of the submission with a number: those of the structures that its top reaches, each after
+    /// those that it places. The top is last. Takes no memory.
     pub fn nodes(&self, number: u32) -> Option<&[Node]>
         ensures some { IfSome result (λ nodes. AreNodes self.now number nodes.now) }
         ensures none { IfNone result (slice_get self.now number ≡ None) }
@@ -122,7 +122,7 @@ impl Table {
         Some(nodes.as_slice())
     }
 
-    /// How much the submission of a number shows. Takes no memory.
+    /// The size of the submission with a number. Takes no memory.
     pub fn size(&self, number: u32) -> Option<Size>
         ensures some { IfSome result (IsSizeOf (flat self.now number) (height self.now number)) }
         ensures few { IfSome result (λ size. count self.now number ≤ 2 ^ 40) }
@@ -133,7 +133,7 @@ impl Table {
         Some(nodes[nodes.len() - 1].size)
     }
 
-    /// The version that the next submission of a cell gets, counted from 1.
+    /// The version of the next submission of a cell, counted from 1.
     pub fn next_version(&self, cell: &Name) -> u32
         ensures { result ≡ versions self.now cell.now + 1 }
     {
@@ -143,7 +143,7 @@ impl Table {
         }
     }
 
-    /// Whether a submission of that cell may come: at most 4096 submissions and 1024 cells.
+    /// Whether there is room for a submission of that cell: at most 4096 submissions and 1024 cells.
     fn has_room(&self, cell: &Name) -> bool
         ensures { result ≡ has_room_for self.now cell.now }
     {
@@ -151,12 +151,12 @@ impl Table {
             && (self.present(cell).is_some() || self.present.len() < MAX_CELLS)
     }
 
-    /// Tests the limits of a submission of these nodes: its shapes, which may be at most so many, its levels, and the room
+    /// Tests the limits of a submission with these nodes: at most `most` flat shapes, its levels, and the room
     /// for it.
     ///
     /// # Errors
-    /// In this order: `Shapes` where there are more, `Deep` above 64 levels, `Full` where there are 4096
-    /// submissions, or 1024 cells and this would be another.
+    /// In this order: `Shapes` if there are more than `most`; `Deep` above 64 levels; `Full` if there are 4096
+    /// submissions, or if there are 1024 cells and this would be another.
     pub fn test_limits(
         &self,
         submission: &Submission,
@@ -184,7 +184,7 @@ impl Table {
     /// Adds a submission with its nodes and its version.
     ///
     /// # Errors
-    /// Where there is no room for it; the table is then as it was.
+    /// Out of memory. The table is then as it was.
     pub fn append(&mut self, submission: Submission, nodes: Nodes) -> Result<u32, AllocError>
         requires nodes { AreNodesOf (flats self.old) (heights self.old) submission nodes }
         requires submitted { IsSubmitted self.old submission }
@@ -206,7 +206,7 @@ impl Table {
     }
 }
 
-/// Makes room for one more submission with its nodes, and its number the present one of its cell. On an
+/// Reserves room for one more submission with its nodes, and makes its number the present one of its cell. After an
 /// error the lists and the entries are as before.
 fn enter(
     submissions: &mut Vec<Submission>,

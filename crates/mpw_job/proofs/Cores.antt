@@ -1,4 +1,4 @@
--- What a tile's core finds, told by the whole layout.
+-- What a tile's core finds, in terms of the whole layout.
 use Rattle.std.proofs.Common.{◌≡◌, ℕ, ◌≤◌, ◌<◌, true, List, [], get_or, Some, sym, subst, arith}
 use Rattle.std.specs.Prelude.{pos, ◌+ℤ◌, ◌-ℤ◌, ◌<ℤ◌, Contains, ◌↔◌}
 use Rattle.std.proofs.lemmas.Bool.{and_parts}
@@ -110,7 +110,7 @@ pub record Laws : Type 0 where
   pub found : tiling.EachWindowDecides
   pub met : tiling.WindowsTellMet
 
--- the windows and the layout show the same in a tile's window
+-- the windows and the layout have the same squares in a tile's window
 record IsAlike (s : Snapshot) (extent : Box2) (windows : List (List Rectangle)) (tile : ℕ) :
     Type 0 where
   same : (layer : Layer) → AreSameIn (tile_window (plan_of extent s.deck) tile)
@@ -144,7 +144,7 @@ found_alike laws s extent windows tile rule p e stand u c =
     (same_second rule.check window (shown_on (shown s)) (listed_on (get_or windows tile []))
     layers.same) p
 
--- which origins the run's box meets
+-- which origins the run's box touches
 met_alike : Laws → (s : Snapshot) (extent : Box2) (windows : List (List Rectangle)) (tile : ℕ)
     (rule : Rule) (m : Marker) (origin : ℕ) → plan_for s ≡ Some (plan_of extent s.deck)
     → StandFor s windows → tile < tiles (plan_of extent s.deck) → Contains s.deck.rules rule
@@ -159,7 +159,7 @@ met_alike laws s extent windows tile rule m origin e stand u c run =
       λ h. let i = tell.1 h in (i.0, by_as (shown s) origin i.0 i.1, i.2),
     )
 
--- the answer of a tile has just the markers of its core
+-- the answer of a tile has exactly the markers of its core
 pub answer_is : Laws → (s : Snapshot) (extent : Box2) (windows : List (List Rectangle))
     (run tile : ℕ) (list : List Marker) → plan_for s ≡ Some (plan_of extent s.deck)
     → StandFor s windows → tile < tiles (plan_of extent s.deck)

@@ -1,4 +1,4 @@
--- Each pair step has a square beside its first edge.
+-- Each pair step has a square next to its first edge.
 use Rattle.std.proofs.Common.{◌≡◌, ℕ, true, List, [], Option, Some, None, inl, inr, arith, rules}
 use Rattle.std.specs.Prelude.{ℤ, pos, ◌-ℤ◌, ◌≤ℤ◌, ◌<ℤ◌}
 use Rattle.std.proofs.lemmas.Bool.{false≢true}
@@ -33,7 +33,7 @@ use Rattle.mpw_job.proofs.Tests.{step_on, rule_of}
 use Rattle.mpw_job.proofs.Shapes.{tests_tell}
 use Rattle.mpw_job.proofs.Flat.{flat_from, tested_from}
 
--- a square in the row beside the first edge
+-- a square in the row next to the first edge
 record IsBeside (P : ℤ → ℤ → Type 0) (x1 x2 j : ℤ) : Type 0 where
   at : ℤ
   held : P at j
@@ -95,7 +95,7 @@ beside P (Enclosing l m) distance a b side x1 x2 j f g h =
       }
     ]
 
--- squares that a test tells are there
+-- squares for which a test is true
 abbrev pub IsSeen : (ℕ → Square → Type 0) → Square → Type 0
 IsSeen has s = (origin : ℕ) × has origin s
 
@@ -121,7 +121,7 @@ shown_seen : (items : List Item) → TellsSeen (shown_on items) (HasShown items)
 shown_seen items layer i j e =
     let p = (tests_tell items layer).shown i j e in (p.0, (layer, p.1))
 
--- what is seen, met by the box of a run
+-- what the box of a run touches
 in_box : (b : Box2) (p : Point) → b.x0 ≤ℤ p.x → p.x ≤ℤ b.x1 → b.y0 ≤ℤ p.y → p.y ≤ℤ b.y1
     → has_point b p ≡ true
 in_box b p l r d u = test_from_PointIn b p (record { left = l; right = r; bottom = d; top = u })

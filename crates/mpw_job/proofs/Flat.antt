@@ -27,7 +27,7 @@ use Rattle.mpw_job.proofs.Tests.{is_false, row_has_step, row_passes}
 
 -- ---- maximal runs
 
--- the test passes just the rows of the relation
+-- the test passes exactly the rows of the relation
 abbrev pub Decides : (Line → ℤ → Bool) → (Line → ℤ → Type 0) → Type 0
 Decides steps Passes = (line : Line) (j : ℤ) → (steps line j ≡ true) ↔ Passes line j
 
@@ -72,7 +72,7 @@ of_tests steps Passes same has markers book h = record {
 
 -- ---- layouts
 
--- a test that tells what is shown is the one that computes it
+-- a test that agrees with the shapes is the computed one
 same_coverage : (items : List Item) (on : Coverage)
     → ((layer : Layer) → AreShownOn items layer (on layer)) → on ≡ shown_on items
 same_coverage items on shown = λ k layer i j. at layer i j k

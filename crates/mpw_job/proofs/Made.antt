@@ -115,7 +115,7 @@ listed laws s extent windows run lists h found e stand answers = record {
       (c.0, subst (λ n. c.0 < n) (sym answers.count) c.1, c.2);
 }
 
--- what is met, by the test of a square or by the shape that shows it
+-- what is touched, by the test of a square or by the shape that has it
 as_shown : (items : List Item) (steps : Line → ℤ → Bool) (book : List Marker)
     → AreMarkersOf steps (λ o q. shown_by items o q ≡ true) book
     → AreMarkersOf steps (HasShown items) book

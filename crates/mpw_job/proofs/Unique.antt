@@ -41,7 +41,7 @@ never_both m n p q = at p.0 q.0
     at (inr f) (inl g) = line_before (line_of n) (line_of m) g (sym f.0)
     at (inr f) (inr g) = omega (arith, ints, f.1, g.1, p.1, p.2)
 
--- the marker of the other list that has the key is the same
+-- the marker of the other list with the same key is equal
 in_both : (steps : Line → ℤ → Bool) (has : ℕ → Square → Type 0) (a b : List Marker) (m : Marker)
     → AreMarkersOf steps has a
     → AreMarkersOf steps has b → Contains a m → Contains b m

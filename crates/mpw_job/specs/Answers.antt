@@ -27,7 +27,7 @@ pub record TileJob : Type 0 where
   pub window : List Rectangle
   pub rules : List Rule
 
--- What is true of a tile's job: its core lies in the plane, and it has at most 256 rules, as a deck.
+-- The properties of a tile's job: its core lies in the plane, and it has at most 256 rules, as a deck.
 pub record IsTileJob (job : TileJob) : Type 0 where
   pub plane : IsBoxInPlane job.core
   pub few : length job.rules ≤ 256
@@ -42,7 +42,7 @@ abbrev pub IsFoundIn : Box2 → Coverage → Rule → Piece → Type 0
 IsFoundIn core on rule p =
     IsPiece rule (first_squares rule.check on) (second_squares rule.check on) core p
 
--- The marker as a run, and the key of a run of the rule at that place.
+-- The marker as a run, and the key of a run of the rule at that index.
 abbrev pub run_of : Marker → Piece
 run_of m = record { axis = m.axis; side = m.side; x1 = m.x1; x2 = m.x2; y0 = m.y0; y1 = m.y1 }
 
@@ -57,27 +57,27 @@ key_at place p = record {
   y1 = p.y1;
 }
 
--- The marker's numbers are those of the origins listed with a closed unit square that meets its closed box, on any layer.
+-- The marker's numbers are those of the listed origins with a closed unit square that touches its closed box, on any layer.
 pub record TellsMet (listed : List Rectangle) (m : Marker) : Type 0 where
   pub ascending : IsAscending m.met
   pub exact : (origin : ℕ) → Contains m.met origin ↔ IsMet (HasListed listed) (box_of m) origin
 
--- A maximal run of the rule at the marker's place, with what it meets.
+-- A maximal run of the marker's rule, with what it touches.
 pub record IsAnswer (job : TileJob) (m : Marker) : Type 0 where
   pub rule : Rule
   pub at : slice_get job.rules m.rule ≡ Some rule
   pub run : IsFoundIn job.core (listed_on job.window) rule (run_of m)
   pub met : TellsMet job.window m
 
--- Markers by the rule's place, then by axis, V before H, side, x1, x2 and y0.
+-- Markers by the rule's index, then by axis, V before H, side, x1, x2 and y0.
 abbrev pub marker_cmp : Marker → Marker → Ordering
 marker_cmp m n = ordering_then (nat_cmp m.rule n.rule) (piece_cmp (run_of m) (run_of n))
 
 abbrev pub ComesBefore : Marker → Marker → Type 0
 ComesBefore m n = marker_cmp m n ≡ Less
 
--- The markers answer the job: for each rule, by its place, they are the maximal runs within the core of the pair steps of the window's
--- rectangles, with the origins listed that each one's closed box meets. They stand in order, each once.
+-- The markers answer the job: for each rule, by its index, they are the maximal runs within the core of the pair steps of the window's
+-- rectangles. Each has the listed origins that its closed box touches. They are in order, each once.
 pub record Answers (job : TileJob) (markers : List Marker) : Type 0 where
   pub sound : (m : Marker) → Contains markers m → IsAnswer job m
   pub complete : (place : ℕ) (rule : Rule) (p : Piece) → slice_get job.rules place ≡ Some rule

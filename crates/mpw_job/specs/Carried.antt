@@ -1,4 +1,4 @@
--- The job that an answer carries.
+-- The job that an answer has.
 use Rattle.mpw_job.specs.declared.job.Job.{Job}
 use Rattle.mpw_job.specs.declared.job.Job.TheVariants as jobs
 use Rattle.mpw_job.specs.declared.answer.Answer.{Answer}

@@ -1,4 +1,4 @@
--- The markers of a flat layout by tests of squares and rows, which compute: the law `TestsTellMarkers` says that they are the same.
+-- The markers of a flat layout by computed tests of squares and rows. The law `TestsTellMarkers` says that they are the same.
 use Rattle.std.specs.Prelude.{ℕ, ℤ, ◌-ℤ◌, Bool, false, ◌&&◌, List, Option, Some, None, slice_get}
 use Rattle.std.specs.List.{list_any}
 use Rattle.mpw_geom.specs.declared.plane.Layer.{Layer}
@@ -27,16 +27,16 @@ unfoldable pub square_before : Placing → Square → Square
 square_before t s = oriented_square (undoing t.orient)
     (record { column = s.column -ℤ t.by.x; row = s.row -ℤ t.by.y })
 
--- The shape, where it is placed, has the unit square.
+-- The placed shape has the unit square.
 abbrev pub item_has : Item → Square → Bool
 item_has item s = element_has item.element (square_before item.placing s)
 
--- It is the layer.
+-- The layer is there and is that layer.
 abbrev pub is_layer : Option Layer → Layer → Bool
 is_layer None layer = false
 is_layer (Some own) layer = same_layer own layer
 
--- A shape of the flat list on the layer has the unit square, where it is placed.
+-- A placed shape of the flat list on the layer has the unit square.
 abbrev pub shown_on : List Item → Coverage
 shown_on items layer i j = list_any (λ (item : Item). is_layer (layer_of item.element) layer
     && item_has item (record { column = i; row = j })) items

@@ -1,3 +1,3 @@
--- What private functions and proofs alone need: no public contract speaks of it.
+-- Definitions for private functions and proofs. No public contract refers to them.
 pub mod Cores
 pub mod Keys

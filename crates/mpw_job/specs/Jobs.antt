@@ -1,4 +1,4 @@
--- Jobs, and the answers that carry them.
+-- Jobs, and the answers that have them.
 use Rattle.std.specs.Prelude.{List}
 use Rattle.mpw_tiles.specs.declared.listing.Rectangle.{Rectangle}
 use Rattle.mpw_tiles.specs.Snapshots.{StandFor}
@@ -6,7 +6,7 @@ use Rattle.mpw_markers.specs.declared.marker.Marker.{Marker}
 use Rattle.mpw_job.specs.declared.job.CutJob.{CutJob}
 use Rattle.mpw_job.specs.Answers.{TileJob, Answers}
 
--- The windows of a cut, with the job that they were cut for.
+-- The windows of a cut, with the job for which they were cut.
 pub record CutWindows : Type 0 where
   pub job : CutJob
   pub windows : List (List Rectangle)
@@ -16,7 +16,7 @@ pub record FoundMarkers : Type 0 where
   pub job : TileJob
   pub markers : List Marker
 
--- The windows stand for the job's snapshot.
+-- The windows represent the job's snapshot.
 abbrev pub IsCutAnswer : CutWindows → Type 0
 IsCutAnswer a = StandFor a.job.snapshot a.windows
 

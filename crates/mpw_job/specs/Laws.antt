@@ -14,11 +14,11 @@ use Rattle.mpw_job.specs.Answers.{TileJob, Answers}
 use Rattle.mpw_job.specs.Computed.{shown_on, AreTestedMarkers}
 use Rattle.mpw_job.specs.Layout.{AreFlatMarkers, AreLayoutMarkers}
 
--- The test of a layer's squares is true just where a shape of the layer shows the square.
+-- The test of a layer's squares is true exactly if a shape of the layer has the square.
 abbrev pub TestsTellShown : Type 0
 TestsTellShown = (items : List Item) (layer : Layer) → AreShownOn items layer (shown_on items layer)
 
--- The markers that tests of squares and rows tell are those of the flat layout.
+-- The markers that the tests of squares and rows determine are those of the flat layout.
 abbrev pub TestsTellMarkers : Type 0
 TestsTellMarkers = (rules : List Rule) (items : List Item) (markers : List Marker)
     → AreTestedMarkers rules items markers ↔ AreFlatMarkers rules items markers
@@ -33,7 +33,7 @@ tile_job_of s plan windows run tile = record {
   rules = s.deck.rules;
 }
 
--- Each core of a plan lies in the plane, as a job's core has to.
+-- Each core of a plan lies in the plane, as a job's core must.
 abbrev pub CoresLieInPlane : Type 0
 CoresLieInPlane =
     (s : Snapshot) (plan : Tiling) (tile : ℕ) → IsSnapshot s → plan_for s ≡ Some plan
@@ -46,7 +46,7 @@ pub record AnswerTiles (s : Snapshot) (plan : Tiling) (windows : List (List Rect
   pub answered : (tile : ℕ) → tile < tiles plan
       → Answers (tile_job_of s plan windows run tile) (slice_index_or lists tile [])
 
--- Where windows stand for a snapshot, and each tile's job is answered, the book stitched from the answers has just the markers of
+-- If windows represent a snapshot, and each tile's job is answered, then the book stitched from the answers has exactly the markers of
 -- the flat layout, whatever the side of the tiles.
 abbrev pub AnswersMakeTheLayout : Type 0
 AnswersMakeTheLayout =
@@ -62,7 +62,7 @@ LayoutDeterminesMarkers =
     (s : Snapshot) (first second : List Marker) → AreLayoutMarkers s first
     → AreLayoutMarkers s second → first ≡ second
 
--- A marker of the layout meets at least one submission.
+-- A marker of the layout touches at least one submission.
 abbrev pub EachMarkerMeetsSome : Type 0
 EachMarkerMeetsSome =
     (s : Snapshot) (markers : List Marker) (m : Marker) → AreLayoutMarkers s markers

@@ -1,4 +1,4 @@
--- The squares of layers that a rule looks at, and its pair steps row by row.
+-- The squares of a rule's layers, and its pair steps row by row.
 use Rattle.std.specs.Prelude.{◌≡◌, ℤ, false, List, Some, slice_get}
 use Rattle.mpw_geom.specs.declared.plane.Layer.{Layer}
 use Rattle.mpw_deck.specs.declared.rule.Check.{Check}
@@ -12,7 +12,7 @@ use Rattle.mpw_markers.specs.declared.marker.Line.{Line}
 abbrev pub Coverage : Type 0
 Coverage = Layer → Squares
 
--- No square at all.
+-- No squares.
 abbrev pub no_squares : Squares
 no_squares i j = false
 

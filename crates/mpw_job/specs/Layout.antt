@@ -1,4 +1,4 @@
--- The markers of a flat layout. No tile and no window is mentioned.
+-- The markers of a flat layout, defined without tiles and windows.
 use Rattle.std.specs.Prelude.{List}
 use Rattle.mpw_geom.specs.declared.plane.Layer.{Layer}
 use Rattle.mpw_deck.specs.declared.rule.Rule.{Rule}
@@ -10,8 +10,8 @@ use Rattle.mpw_markers.specs.Book.{IsBook}
 use Rattle.mpw_markers.specs.Maximal.{AreMarkersOfRuns}
 use Rattle.mpw_job.specs.Layers.{Coverage, HasPairStep}
 
--- A book with one marker for each maximal run of rows that have a pair step of a rule, where `on` has just the squares that the shapes
--- of each layer show; each meets the origins of which a unit square, on any layer and taken closed, meets its closed box.
+-- A book with one marker for each maximal run of rows that have a pair step of a rule, where `on` has exactly the squares of the shapes
+-- of each layer. Each marker touches exactly the origins that have a unit square, on any layer, which, taken closed, touches its closed box.
 pub record AreFlatMarkers (rules : List Rule) (items : List Item) (markers : List Marker) : Type 0
   where
     pub book : IsBook markers

@@ -9,7 +9,7 @@ use mpw_tiles::Windows;
 use std::alloc::{AllocError, Global};
 use std::marker::Model;
 
-/// The windows of a snapshot, with the job of cutting it: contracts see both. The windows stand for the snapshot.
+/// The windows of a snapshot, with the job of cutting it. Contracts see both. The windows represent the snapshot.
 pub struct CutAnswer {
     job: CutJob,
     windows: Windows,
@@ -34,7 +34,7 @@ impl Model for CutAnswer {
 }
 
 impl CutAnswer {
-    /// The answer of a job of cutting. The windows stand for the job's snapshot. Constant time; it takes no memory.
+    /// The answer of a job of cutting. The windows must represent the job's snapshot. Constant time; takes no memory.
     pub fn new(job: CutJob, windows: Windows) -> CutAnswer
         requires { IsCutAnswer (record { job = job; windows = windows }) }
         ensures { result ≡ record { job = job; windows = windows } }
@@ -59,7 +59,7 @@ impl CutAnswer {
     /// The same answer, which shares the snapshot's parts and the windows.
     ///
     /// # Errors
-    /// Where no more copies can be counted, or there is no memory for them.
+    /// If no more copies can be counted; or out of memory (for the counts).
     pub fn copy(&self, alloc: Global) -> Result<CutAnswer, AllocError>
         ensures { IfOk result (λ answer. answer ≡ self.now) }
     {
@@ -69,7 +69,7 @@ impl CutAnswer {
         })
     }
 
-    /// The windows stand for the job's snapshot. A law: the function does nothing.
+    /// A law; the function does nothing. The windows represent the job's snapshot.
     pub fn is_answer(&self)
         ensures { IsCutAnswer self.now }
     {
@@ -77,7 +77,7 @@ impl CutAnswer {
     }
 }
 
-/// The markers of a tile, with the job of finding them: contracts see both. The markers answer the job.
+/// The markers of a tile, with the job of finding them. Contracts see both. The markers answer the job.
 pub struct TileAnswer {
     job: TileJob,
     markers: TileMarkers,
@@ -102,7 +102,7 @@ impl Model for TileAnswer {
 }
 
 impl TileAnswer {
-    /// The answer of a tile's job. The markers answer the job. Constant time; it takes no memory.
+    /// The answer of a tile's job. The markers must answer the job. Constant time; takes no memory.
     pub fn new(job: TileJob, markers: TileMarkers) -> TileAnswer
         requires { IsTileAnswer (record { job = job; markers = markers }) }
         ensures { result ≡ record { job = job; markers = markers } }
@@ -124,10 +124,10 @@ impl TileAnswer {
         &self.markers
     }
 
-    /// The same answer, in constant time and without further memory.
+    /// The same answer, in constant time and without more memory.
     ///
     /// # Errors
-    /// Where no more copies can be counted.
+    /// If no more copies can be counted.
     pub fn copy(&self) -> Result<TileAnswer, AllocError>
         ensures { IfOk result (λ answer. answer ≡ self.now) }
     {
@@ -137,7 +137,7 @@ impl TileAnswer {
         })
     }
 
-    /// The markers answer the job. A law: the function does nothing.
+    /// A law; the function does nothing. The markers answer the job.
     pub fn is_answer(&self)
         ensures { IsTileAnswer self.now }
     {
@@ -145,7 +145,7 @@ impl TileAnswer {
     }
 }
 
-/// What was done, with the job.
+/// The result of a job, with the job.
 #[derive(Drop)]
 pub enum Answer {
     /// The windows of a snapshot.

@@ -1,4 +1,4 @@
-//! What there is to do: to cut a snapshot, or to find the markers of a tile.
+//! The jobs of a run: to cut a snapshot, or to find the markers of a tile.
 
 ghost use Rattle.std.specs.Prelude.{◌≡◌, ◌↔◌, IfOk, IsTrue};
 ghost use Rattle.mpw_job.specs.Answers.{IsTileJob};
@@ -9,11 +9,11 @@ use mpw_tiles::{Snapshot, Window};
 use std::alloc::{AllocError, Global};
 use std::marker::Model;
 
-/// The job of cutting a snapshot into the windows of its tiles, for the run of that number.
+/// The job of cutting a snapshot into the windows of its tiles, for the run with that number.
 pub struct CutJob {
-    /// The run's number, counted from 1, by which its answer is known.
+    /// The run's number, counted from 1. It identifies the answer.
     pub run: u32,
-    /// The deck, the placed submissions and the shelf that the run looks at.
+    /// The deck, the placed submissions and the shelf that the run checks.
     pub snapshot: Snapshot,
 }
 
@@ -25,10 +25,10 @@ impl Drop for CutJob {
 }
 
 impl CutJob {
-    /// The same job, which shares the snapshot's parts: what a copy of the snapshot costs.
+    /// The same job, which shares the snapshot's parts. Cost: that of a copy of the snapshot.
     ///
     /// # Errors
-    /// Where no more copies can be counted, or there is no memory for them.
+    /// If no more copies can be counted; or out of memory (for the counts).
     pub fn copy(&self, alloc: Global) -> Result<CutJob, AllocError>
         ensures { IfOk result (λ job. job ≡ self.now) }
     {
@@ -38,7 +38,7 @@ impl CutJob {
         })
     }
 
-    /// Whether the two are equal by value. It stops at the first difference, and costs at most the snapshot's size.
+    /// Whether both are equal by value. Stops at the first difference, and costs at most the snapshot's size.
     pub fn is_same(&self, other: &CutJob) -> bool
         ensures { IsTrue result ↔ (self.now ≡ other.now) }
     {
@@ -46,7 +46,7 @@ impl CutJob {
     }
 }
 
-/// The job of finding the markers of a tile of a run: contracts see its numbers, its core, the rectangles of its window
+/// The job of finding the markers of a tile of a run. Contracts see its numbers, its core, the rectangles of its window
 /// and the rules. The core lies in the plane, and there are at most 256 rules. Copies share window and rules.
 pub struct TileJob {
     run: u32,
@@ -88,8 +88,8 @@ fn is_same_box(a: &Box2, b: &Box2) -> bool
 }
 
 impl TileJob {
-    /// The job of a tile of the run of that number. The core, in nm, and the window are the tile's, the rules those of
-    /// the run's deck. Constant time; it takes no memory.
+    /// The job of a tile of the run with that number. `core`, in nm, and `window` are the tile's, and `rules` are those of
+    /// the run's deck. Constant time; takes no memory.
     pub fn new(run: u32, tile: u32, core: Box2, window: Window, rules: Rules) -> TileJob
         requires { IsTileJob (record { run = run; tile = tile; core = core; window = window; rules = rules }) }
         ensures { result ≡ record { run = run; tile = tile; core = core; window = window; rules = rules } }
@@ -138,17 +138,17 @@ impl TileJob {
         &self.rules
     }
 
-    /// Each job keeps the limits. A law: the function does nothing.
+    /// A law; the function does nothing. Each job meets the limits.
     pub fn is_tile_job(&self)
         ensures { IsTileJob self.now }
     {
         let _run = self.run;
     }
 
-    /// The same job, in constant time and without further memory.
+    /// The same job, in constant time and without more memory.
     ///
     /// # Errors
-    /// Where no more copies can be counted.
+    /// If no more copies can be counted.
     pub fn copy(&self) -> Result<TileJob, AllocError>
         ensures { IfOk result (λ job. job ≡ self.now) }
     {
@@ -163,7 +163,7 @@ impl TileJob {
         })
     }
 
-    /// Whether the jobs have equal parts. It stops at the first difference, and takes no memory: at most the size of
+    /// Whether the jobs have equal parts. Stops at the first difference, and takes no memory. Cost: at most the size of
     /// the window and the rules.
     pub fn is_same(&self, other: &TileJob) -> bool
         ensures { IsTrue result ↔ (self.now ≡ other.now) }
@@ -176,12 +176,12 @@ impl TileJob {
     }
 }
 
-/// Something to do for a run.
+/// A job of a run.
 #[derive(Drop)]
 pub enum Job {
     /// Cutting a run's snapshot, which comes before its tiles.
     Cut(CutJob),
-    /// Finding the markers of one tile of a snapshot that is cut.
+    /// Finding the markers of one tile of a snapshot that was cut.
     Tile(TileJob),
 }
 
@@ -189,7 +189,7 @@ impl Job {
     /// The same job, which shares its parts.
     ///
     /// # Errors
-    /// Where no more copies can be counted, or there is no memory for them.
+    /// If no more copies can be counted; or out of memory (for the counts).
     pub fn copy(&self, alloc: Global) -> Result<Job, AllocError>
         ensures { IfOk result (λ job. job ≡ self.now) }
     {
@@ -200,8 +200,8 @@ impl Job {
     }
 }
 
-/// What a worker passes before it works a tile's job, as a test that holds it up, or counts.
+/// A hook that a worker calls before it executes a tile's job. A test may delay the worker in it, or count.
 pub trait Gate {
-    /// Passes, with the run's number and the tile's.
+    /// Called with the run's number and the tile's.
     fn pass(&self, run: u32, tile: u32);
 }

@@ -1,4 +1,4 @@
-//! Laws of the definitions alone. The contract of each function is the law.
+//! Laws about the definitions. The contract of each function is the law.
 
 ghost use Rattle.mpw_job.specs.Laws.{TestsTellShown, TestsTellMarkers, CoresLieInPlane, AnswersMakeTheLayout, LayoutDeterminesMarkers, EachMarkerMeetsSome, NoShapesNoMarkers};
 
@@ -9,27 +9,27 @@ use mpw_tiles::{
     squares_lie_in_boxes, windows_show_layers,
 };
 
-/// The test of a layer's squares is true just where a shape of the layer, where it is placed, has the square.
+/// The test of a layer's squares is true exactly if a placed shape of the layer has the square.
 pub fn tests_tell_shown()
     ensures { TestsTellShown }
 {}
 
-/// The markers that tests of squares and rows tell, which compute, are those of the flat layout.
+/// The markers that the computed tests of squares and rows determine are those of the flat layout.
 pub fn tests_tell_markers()
     ensures { TestsTellMarkers }
 {
     test_decides_pair_steps();
 }
 
-/// Each core of a snapshot's plan lies in the plane, as the core of a tile's job has to.
+/// Each core of a snapshot's plan lies in the plane, as the core of a tile's job must.
 pub fn cores_lie_in_plane()
     ensures { CoresLieInPlane }
 {
     plans_lie_in_plane();
 }
 
-/// Where windows stand for a snapshot, and the job of each tile of its plan is answered, the book stitched from the
-/// answers has just the markers of the flat layout, whatever the side of the tiles.
+/// If windows represent a snapshot, and the job of each tile of its plan is answered, then the book stitched from the
+/// answers has exactly the markers of the flat layout, whatever the side of the tiles.
 pub fn answers_make_the_layout()
     ensures { AnswersMakeTheLayout }
 {
@@ -49,14 +49,14 @@ pub fn layout_determines_markers()
     test_decides_pair_steps();
 }
 
-/// A marker of a layout meets one submission at least.
+/// A marker of a layout touches at least one submission.
 pub fn each_marker_meets_some()
     ensures { EachMarkerMeetsSome }
 {
     test_decides_pair_steps();
 }
 
-/// A snapshot that shows no shape has no markers: the empty book is that of its layout.
+/// A snapshot without shapes has no markers: the empty book is that of its layout.
 pub fn no_shapes_no_markers()
     ensures { NoShapesNoMarkers }
 {

@@ -1,10 +1,9 @@
 //! Jobs of a run, to cut a snapshot into windows and to find the markers of a tile, and their answers.
 //!
-//! A job carries all that it needs, so anybody may work it, anywhere. An answer carries its job, and its type keeps
-//! that the answer is right: the windows of a [`CutAnswer`] stand for its snapshot, and the markers of a
-//! [`TileAnswer`] are those of its core. [`answers_make_the_layout`] says what comes of it: the book stitched from the
-//! answers of all tiles has just the markers of the flat layout. Nothing here works a job, so what keeps jobs and takes
-//! answers needs nothing that this work stands on.
+//! A job has everything that it needs, so it can be executed anywhere. An answer has its job, and its type guarantees that the answer is
+//! correct: the windows of a [`CutAnswer`] represent its snapshot, and the markers of a [`TileAnswer`] are those of its core.
+//! [`answers_make_the_layout`] says what follows: the book stitched from the answers of all tiles has exactly the markers of the flat
+//! layout. Nothing here executes a job, so a crate that only stores jobs and takes answers doesn't depend on the code that does.
 #![tactic(auto)]
 
 mod answer;

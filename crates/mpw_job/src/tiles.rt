@@ -10,11 +10,11 @@ use crate::laws::cores_lie_in_plane;
 use mpw_tiles::{Plan, Snapshot, Windows};
 use std::alloc::AllocError;
 
-/// The job of a tile of the run of that number over the snapshot, by its plan, which [`Snapshot::plan`] gives, and its windows.
-/// It shares the window and the rules. Constant time, without further memory.
+/// The job of a tile, for the run with that number over the snapshot. `plan` is what [`Snapshot::plan`] returns, and `windows` are the snapshot's.
+/// It shares the window and the rules. Constant time, without more memory.
 ///
 /// # Errors
-/// Where no more copies can be counted.
+/// If no more copies can be counted.
 pub fn tile_job(
     run: u32,
     tile: u32,

@@ -1,4 +1,4 @@
--- Lists whose first elements are the same; and the first keys of columns' lists.
+-- Lists with the same first elements; and the first keys of columns' lists.
 use Rattle.std.proofs.Common.{◌≡◌, ◌∙◌, ℕ, zero, suc, ◌+◌, ◌-◌, ◌*◌, ◌<◌, ◌≤◌, Bool, true, false, cond, List, [], ◌∷◌, ◌++◌, Option, Some, length, take, map, slice_get, sum_by, filter, length-append, length-take, take-take, sym, refl, ap, ap₂, subst, le_refl, arith}
 use Rattle.std.specs.List.{AllZip, flat_map}
 use Rattle.std.proofs.lemmas.List.{length-map, take-map}

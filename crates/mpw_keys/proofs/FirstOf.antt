@@ -1,4 +1,4 @@
--- What is put together from the first keys of lists is the first of each rule of what is put together from all.
+-- What is joined from the first keys of lists is the first of each rule of what is joined from all.
 use Rattle.std.proofs.Common.{◌≡◌, ◌∙◌, ◌≢◌, inl, inr, ℕ, zero, suc, ◌+◌, ◌*◌, ◌<◌, ◌≤◌, ◌==◌, Bool, cond, List, [], ◌∷◌, ◌++◌, length, take, map, sum_by, filter, All}
 use Rattle.std.proofs.Common.{length-append, append-nil, map-id, take-take, sym, refl, ap, ap₂, subst, le_refl, eqb-true, eq-eqb, ne_eqb, arith}
 use Rattle.std.specs.List.{AllZip, range_with_len}
@@ -42,7 +42,7 @@ sides_have_rule rule ls h =
     (lists_have_rule rule (2 * rule) (omega arith) (omega arith) ls h)
     (lists_have_rule rule (2 * rule + 1) (omega arith) (omega arith) ls h)
 
--- ---- keys of one rule behind those of another
+-- ---- keys of one rule after those of another
 
 abbrev has_rule : ℕ → Key → Bool
 has_rule place k = k.rule == place
@@ -62,7 +62,7 @@ of_other rule place (k ∷ ks) ne h =
     (ne_eqb k.rule place (λ e. ne (sym (All-head (λ l. l.rule ≡ rule) k ks h) ∙ e)))
     ∙ of_other rule place ks ne (All-tail (λ l. l.rule ≡ rule) k ks h)
 
--- h n is what g gives of the first n rules, one behind another
+-- h n is the concatenation of what g gives for the first n rules
 record AreJoined (rules : ℕ) (g h : ℕ → List Key) : Type 0 where
   none : h 0 ≡ []
   more : (n : ℕ) → n < rules → h (suc n) ≡ h n ++ g n
@@ -157,7 +157,7 @@ module _ (most rules : ℕ) (firsts : List Firsts) (upright across : List Placed
       ∙ ap (map of_first) (those_of rules whole (λ n. together n vs hs) book_joined rules place
       (le_refl rules) lt)
 
-  -- the keys of a rule, all and the first; none behind the last rule
+  -- the keys of a rule, all and the first; none after the last rule
   record AtPlace (place : ℕ) : Type 0 where
     keys : List Key
     all : of_rule book place ≡ map of_first keys

@@ -102,7 +102,7 @@ module _ {X : Type 0} where
     there : (x : X) → ltb (n x) t ≡ false → leb (n x) t ≡ true → is x ≡ true
     there x e f = grind (arith)
 
-    -- what stands between the two points
+    -- what is between the two points
     pub stretch : (xs : List X) (before count : ℕ) → before ≤ length xs
         → count ≤ length (drop before xs)
         → IsPartitionPoint (λ x. ltb (n x) t ≡ true) (λ x. ltb (n x) t ≡ false) xs before

@@ -1,4 +1,4 @@
--- Keys are in order where each comes before the next one.
+-- Keys are in order if each comes before the next one.
 use Rattle.std.proofs.Common.{◌≡◌, ◌∙◌, ℕ, zero, suc, ◌+◌, ◌-◌, ◌<◌, ◌≤◌, ◌&&◌, Bool, true, false, List, [], ◌∷◌, length, get_or, drop, Ordering, Less, Equal, Greater, refl, sym, ap, arith}
 use Rattle.std.specs.Prelude.{All}
 use Rattle.std.specs.Ordering.{is_lt}
@@ -17,7 +17,7 @@ less_from Greater e = absurd (false≢true e)
 
 -- ---- the law
 
--- a key that comes before the next one comes before all behind it
+-- a key that comes before the next one comes before all after it
 first_of_all : (k : Key) (ks : List Key) → comes_before_next k ks ≡ true → AreInOrder ks
     → All (λ l. key_cmp k l ≡ Less) ks
 first_of_all k [] e h i d lt = absurd (omega (arith, lt))
@@ -51,7 +51,7 @@ module _ (keys : List Key) (place : ℕ) (d : Key) (first : 1 ≤ place) where
   abbrev before : Key
   before = get_or keys (place - 1) d
 
-  -- what is left from the key before the place on
+  -- what is left from the key before the index on
   from_before : place < length keys → are_in_order (drop (place - 1) keys)
       ≡ (is_lt (key_cmp before (get_or keys place d)) && are_in_order (drop place keys))
   from_before within =

@@ -1,4 +1,4 @@
--- Keys that are added as markers, as many as there is room for; and numbers up to a limit.
+-- Keys that are added as markers, as long as there is room; and numbers up to a limit.
 use Rattle.std.proofs.Common.{◌≡◌, ◌∙◌, ℕ, zero, suc, ◌+◌, ◌-◌, ◌<◌, ◌≤◌, ◌^◌, min, List, [], ◌∷◌, ◌++◌, length, get_or, take, map, length-append, append-nil, slice_get, Some, sum_by, sym, ap, ap₂, subst, ℤ, arith}
 use Rattle.std.specs.List.{flat_map, range_with_len}
 use Rattle.std.proofs.Math.Seq.{take-nil}
@@ -77,7 +77,7 @@ next_displaced by old mid new keys i d m lt e f g =
     (sym (map-append (displaced_key by) (take i keys) (get_or keys i d ∷ []))
     ∙ ap (map (displaced_key by)) (sym (take_more keys i d lt)))
 
--- as many of the keys as there was room for were added
+-- as many keys were added as there was room for
 pub room_filled : (by : ℤ) (old mid : Together) (keys first : List Key) (i : ℕ) (room : ℕ)
     → first ≡ take (min old.room (length keys)) keys → length first ≤ i
     → mid.markers.items ≡ old.markers.items ++ map of_first (map (displaced_key by) (take i first))

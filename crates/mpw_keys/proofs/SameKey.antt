@@ -1,4 +1,4 @@
--- Lines and keys whose parts are the same.
+-- Lines and keys with equal parts are equal.
 use Rattle.std.proofs.Common.{◌≡◌, ℕ, ℤ, ap}
 use Rattle.mpw_edges.specs.declared.run.Axis.{Axis}
 use Rattle.mpw_markers.specs.declared.marker.Key.{Key}
@@ -18,7 +18,7 @@ same_line a b e f g h k =
     (let r : ℕ × Axis × ℕ × ℤ × ℤ = (a.rule, a.axis, a.side, a.x1, a.x2) in r)
     ≡ (b.rule, b.axis, b.side, b.x1, b.x2) = cc in q)
 
--- keys of one place with the same end are one
+-- keys at one position with the same end are equal
 pub same_key : (k l : Key) → line_of_key k ≡ line_of_key l → k.y0 ≡ l.y0 → k.y1 ≡ l.y1 → k ≡ l
 same_key k l e f g =
     ap (λ (p : Line × ℤ × ℤ). let x : Key = record {

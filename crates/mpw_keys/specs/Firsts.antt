@@ -1,4 +1,4 @@
--- The first keys of each list of a column, with how many it has; and the lists of columns that share them, displaced.
+-- The first keys of each list of a column, with how many keys it has; and the lists of columns that share them, displaced.
 use Rattle.std.specs.Prelude.{◌≡◌, ◌+◌, ◌*◌, ◌-◌, ◌<◌, ◌^◌, ◌==◌, ℕ, zero, suc, List, [], ◌++◌, length, map, take, filter, min, sum_by, get_or, All, Option, None, Some, slice_get}
 use Rattle.std.specs.List.{AllZip, flat_map, range_with_len}
 use Rattle.mpw_markers.specs.declared.marker.Key.{Key}
@@ -11,24 +11,24 @@ use Rattle.mpw_keys.specs.declared.placed.Together.{Together}
 
 -- ---- of a column
 
--- The first keys of a list, as many as are wanted, and how many it has.
+-- The first keys of a list, at most `most`, and how many keys it has.
 pub record IsFirst (most : ℕ) (list : List Key) (f : First) : Type 0 where
   pub keys : f.keys.items ≡ take most list
   pub count : f.count ≡ length list
 
--- Those of the first so many lists of a column's keys.
+-- The first keys of each of the first `lists` lists of a column's keys.
 pub record AreFirsts (most lists : ℕ) (keys : List Key) (f : Firsts) : Type 0 where
   pub long : length f.lists.items ≡ lists
   pub each : (n : ℕ) (d : First) → n < lists
       → IsFirst most (filter (is_of_list n) keys) (get_or f.lists.items n d)
 
--- None of the keys is far off.
+-- All keys are within bounds.
 abbrev pub AreNear : Firsts → Type 0
 AreNear f = All (λ first. All HasNearEdges first.keys.items) f.lists.items
 
 -- ---- of columns
 
--- The first keys of that list of a column, and how many it has: none where they aren't there.
+-- The first keys of that list of a column, and how many keys it has: none if there is no such list.
 abbrev pub first_in : Option Firsts → ℕ → Option First
 first_in None n = None
 first_in (Some f) n = slice_get f.lists.items n
@@ -58,13 +58,13 @@ abbrev pub rule_placed : List Firsts → (upright across : List Placed) → ℕ 
 rule_placed firsts upright across rule =
     sides_placed firsts rule upright ++ sides_placed firsts rule across
 
--- The first of each of the first n rules, one rule behind another.
+-- The first of each of the first n rules, one rule after another.
 abbrev pub first_placed : (most : ℕ) → List Firsts → (upright across : List Placed) → ℕ → List Key
 first_placed most firsts upright across zero = []
 first_placed most firsts upright across (suc n) =
     first_placed most firsts upright across n ++ take most (rule_placed firsts upright across n)
 
--- The first of these keys, as many as there is room for, are added as markers, and so much less room is left.
+-- The first of these keys, as many as there is room for, are added as markers, and the room is reduced by as many.
 pub record AddsFirst (keys : List Key) (old new : Together) : Type 0 where
   pub added : new.markers.items ≡ old.markers.items ++ map of_first (take old.room keys)
   pub left : new.room ≡ old.room - length keys
@@ -82,9 +82,9 @@ abbrev pub rule_counted : List Firsts → (upright across : List Placed) → ℕ
 rule_counted firsts upright across rule =
     sides_counted firsts rule upright + sides_counted firsts rule across
 
--- ---- what they have to do with the columns' lists
+-- ---- how they relate to the columns' lists
 
--- The column's keys are others, displaced, of which these are the first.
+-- The column's keys are other keys, displaced, of which these are the first.
 pub record IsListed (most lists : ℕ) (firsts : List Firsts) (p : Placed) (keys : List Key) : Type 0
   where
     pub own : List Key
@@ -99,20 +99,20 @@ HasSide k = k.side < 2
 
 -- ---- markers by rule
 
--- Those of the rule with that place in the deck.
+-- The markers of the rule at that index in the deck.
 abbrev pub of_rule : List Marker → ℕ → List Marker
 of_rule markers place = filter (λ m. m.rule == place) markers
 
--- The first of each rule, as many as are wanted, are the same.
+-- The first markers of each rule, at most `most`, are the same.
 abbrev pub AgreeFirst : (most : ℕ) → List Marker → List Marker → Type 0
 AgreeFirst most a b = (place : ℕ) → take most (of_rule a place) ≡ take most (of_rule b place)
 
--- How many each of so many rules has, and how many there are.
+-- How many markers each of the first `rules` rules has, and how many there are.
 abbrev pub counts_of : (rules : ℕ) → List Marker → List ℕ
 counts_of rules markers =
     map (λ place. capped (length (of_rule markers place))) (range_with_len 0 rules)
 
--- The markers are the first of each rule of the book, no more of a rule than are wanted, and the numbers are those of the book's.
+-- The markers are the first of each rule of the book, at most `most` of a rule, and the numbers are those of the book's.
 pub record AreFirstOf (most rules : ℕ) (book first : List Marker) (counts : List ℕ) (all : ℕ) :
     Type 0
   where
@@ -123,7 +123,7 @@ pub record AreFirstOf (most rules : ℕ) (book first : List Marker) (counts : Li
 
 -- ---- law
 
--- What is put together from the first keys is the first of each rule of what is put together from all.
+-- What is joined from the first keys is the first of each rule of what is joined from all.
 abbrev pub SharedListsHaveTheFirst : Type 0
 SharedListsHaveTheFirst =
     (most rules : ℕ) (firsts : List Firsts) (upright across : List Placed) (vs hs : List (List Key))

@@ -1,4 +1,4 @@
--- The keys of columns, and their lists, put together in the order of a book.
+-- The keys of columns, and their lists, joined in the order of a book.
 use Rattle.std.specs.Prelude.{◌≡◌, ◌+◌, ◌*◌, ◌==◌, ◌^◌, ◌&&◌, ℕ, zero, suc, ℤ, pos, neg_ℤ, ◌+ℤ◌, ◌≤ℤ◌, Bool, true, List, [], ◌∷◌, ◌++◌, filter, AllPairs}
 use Rattle.std.specs.List.{flat_map}
 use Rattle.std.specs.Ordering.{nat_cmp, int_cmp, ordering_then, is_lt}
@@ -42,19 +42,19 @@ displaced_key by k = record {
   y1 = k.y1;
 }
 
--- The number is not far off: an edge that a column finds, or how far apart two columns are.
+-- The number is within bounds: an edge that a column finds, or the distance of two columns.
 pub record IsNear (x : ℤ) : Type 0 where
   pub low : neg_ℤ (pos (2 ^ 41)) ≤ℤ x
   pub high : x ≤ℤ pos (2 ^ 41)
 
--- Neither of the key's edges is far off.
+-- Both of the key's edges are within bounds.
 pub record HasNearEdges (k : Key) : Type 0 where
   pub first : IsNear k.x1
   pub second : IsNear k.x2
 
 -- ---- together
 
--- The list of that number: those of the columns, one behind another.
+-- The list with that number: those of the columns, one after another.
 abbrev pub is_of_list : ℕ → Key → Bool
 is_of_list n k = list_number k == n
 
@@ -68,12 +68,12 @@ lists_of_sides rule lists = list_of (2 * rule) lists ++ list_of (2 * rule + 1) l
 abbrev pub lists_of_rule : (upright across : List (List Key)) → ℕ → List Key
 lists_of_rule upright across rule = lists_of_sides rule upright ++ lists_of_sides rule across
 
--- The lists of the first n rules, one rule behind another.
+-- The lists of the first n rules, one rule after another.
 abbrev pub together : ℕ → (upright across : List (List Key)) → List Key
 together zero upright across = []
 together (suc n) upright across = together n upright across ++ lists_of_rule upright across n
 
--- The marker of the key, which meets the first submission alone.
+-- The marker of the key, which touches only the first submission.
 abbrev pub of_first : Key → Marker
 of_first k = record {
   rule = k.rule;

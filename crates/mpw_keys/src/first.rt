@@ -1,4 +1,4 @@
-//! The first keys of each list of a column, as many as are wanted, and how many each list has.
+//! The first keys of each list of a column, and how many keys each list has.
 
 ghost use Rattle.std.specs.Prelude.{◌≡◌, ◌≤◌, take, IfOk};
 ghost use Rattle.mpw_keys.specs.Firsts.{AreFirsts, IsFirst};
@@ -7,10 +7,10 @@ use crate::keys::ColumnKeys;
 use mpw_markers::Key;
 use std::alloc::{AllocError, Global};
 
-/// The first keys of a list, and how many it has.
+/// The first keys of a list, and how many keys it has.
 #[derive(Drop)]
 pub struct First {
-    /// Its first keys, as many as are wanted.
+    /// Its first keys, as many as requested.
     pub keys: Vec<Key>,
     /// How many keys it has.
     pub count: usize,
@@ -19,11 +19,11 @@ pub struct First {
 /// The first keys of the lists of a column, by the lists' numbers.
 #[derive(Drop)]
 pub struct Firsts {
-    /// Those of each list.
+    /// The first keys of each list.
     pub lists: Vec<First>,
 }
 
-/// The first of the keys, as many as are wanted. An error is want of memory.
+/// The first of the keys, at most `most`. The only error is out of memory.
 fn first_of(alloc: Global, keys: &[Key], most: usize) -> Result<Vec<Key>, AllocError>
     ensures { IfOk result (λ v. v.items ≡ take most keys.now) }
 {
@@ -34,7 +34,7 @@ fn first_of(alloc: Global, keys: &[Key], most: usize) -> Result<Vec<Key>, AllocE
 }
 
 impl First {
-    /// The first keys of a list. An error is want of memory.
+    /// The first keys of a list. The only error is out of memory.
     fn of(alloc: Global, keys: &[Key], most: usize) -> Result<First, AllocError>
         ensures { IfOk result (IsFirst most keys.now) }
     {
@@ -46,11 +46,11 @@ impl First {
 }
 
 impl Firsts {
-    /// The first keys of the first so many lists of a column, `most` of each at most, and how many each has. Two binary searches a list, and the keys that
-    /// are taken.
+    /// The first keys of the first `lists` lists of a column, at most `most` of each, and how many keys each has. Cost: two binary searches for each list, and
+    /// the keys that are returned.
     ///
     /// # Errors
-    /// Want of memory.
+    /// Out of memory.
     pub fn of(
         alloc: Global,
         keys: &ColumnKeys,

@@ -1,6 +1,6 @@
-//! The keys of a column, in order: by rule and side, `x1`, `x2` and `y0`.
+//! The keys of a column, sorted by rule and side, `x1`, `x2` and `y0`.
 //!
-//! So the keys of a rule and a side stand together, and are found by two binary searches.
+//! So the keys of a rule and a side are adjacent, and two binary searches find them.
 
 ghost use Rattle.std.specs.Prelude.{◌≡◌, ◌↔◌, true, length, filter, map, All, Contains, IfOk, Some, None, if◌then◌else◌};
 ghost use Rattle.std.specs.Ordering.{eq_by_cmp};
@@ -31,7 +31,7 @@ fn key_order(first: &Key, second: &Key) -> Ordering
     lists.then(edges.then(rows))
 }
 
-/// Whether neither of two keys of one axis comes first.
+/// Whether neither of two keys of one axis comes first: they have the same position.
 fn is_same_place(first: &Key, second: &Key) -> bool
     ensures { result ≡ eq_by_cmp key_cmp first.now second.now }
 {
@@ -60,7 +60,7 @@ fn are_in_order(keys: &[Key]) -> bool
     true
 }
 
-/// The first of the keys at each place, of keys that are sorted.
+/// The first of the keys at each position. The keys must be sorted.
 fn each_once(keys: Vec<Key>) -> Vec<Key>
     requires { IsSorted key_cmp keys.items }
     ensures ordered { AreInOrder result.items }
@@ -90,7 +90,7 @@ pub(crate) fn displaced_key(key: &Key, by: i64) -> Key
     }
 }
 
-/// The keys, each displaced. An error is want of memory.
+/// The keys, each displaced. The only error is out of memory.
 fn displaced_keys(alloc: Global, keys: &[Key], by: i64) -> Result<Vec<Key>, AllocError>
     requires edges { All HasNearEdges keys.now }
     requires by { IsNear by }
@@ -103,7 +103,7 @@ fn displaced_keys(alloc: Global, keys: &[Key], by: i64) -> Result<Vec<Key>, Allo
     Ok(displaced)
 }
 
-/// The keys of a column, which contracts see as a list in order.
+/// The keys of a column. Contracts see them as a sorted list.
 pub struct ColumnKeys {
     keys: Vec<Key>,
 }
@@ -128,7 +128,7 @@ impl Model for ColumnKeys {
 }
 
 impl ColumnKeys {
-    /// These keys of one axis, of which those at one place are one key. A sort of them, in place.
+    /// These keys of one axis. Keys at the same position must be equal. Cost: a sort of them, in place.
     pub fn of(keys: Vec<Key>) -> ColumnKeys
         requires { (k l : KeyValue) → Contains keys.items k → Contains keys.items l → eq_by_cmp key_cmp k l ≡ true → k ≡ l }
         ensures ordered { AreInOrder result }
@@ -139,7 +139,7 @@ impl ColumnKeys {
         }
     }
 
-    /// These keys of one axis, where they are in order, each before the next one; none where they aren't. One pass.
+    /// These keys of one axis, if they are in order, each before the next one; otherwise `None`. One pass.
     pub fn from_ordered(keys: Vec<Key>) -> Option<ColumnKeys>
         ensures { result ≡ (if are_in_order keys.items then Some keys.items else None) }
     {
@@ -150,7 +150,7 @@ impl ColumnKeys {
         None
     }
 
-    /// The keys are in order. A law: the function does nothing.
+    /// A law; the function does nothing. The keys are in order.
     pub fn is_in_order(&self)
         ensures { AreInOrder self.now }
     {
@@ -171,7 +171,7 @@ impl ColumnKeys {
         self.keys.len()
     }
 
-    /// The keys of the list of that number. Two binary searches.
+    /// The keys of the list with that number. Two binary searches.
     pub fn list(&self, number: u64) -> &[Key]
         ensures { result.now ≡ filter (is_of_list number) self.now }
     {
@@ -183,7 +183,7 @@ impl ColumnKeys {
         list
     }
 
-    /// These keys, each displaced across its edges, which keeps their order. Linear; an error is want of memory.
+    /// These keys, each displaced across its edges. Their order stays the same. Linear; the only error is out of memory.
     pub fn displaced(&self, alloc: Global, by: i64) -> Result<ColumnKeys, AllocError>
         requires edges { All HasNearEdges self.now }
         requires by { IsNear by }

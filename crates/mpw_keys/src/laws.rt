@@ -1,4 +1,4 @@
-//! Laws of the definitions alone: their functions do nothing, the contracts are the laws.
+//! Laws about the definitions. Each function does nothing; its contract is the law.
 
 ghost use Rattle.mpw_keys.specs.Firsts.{SharedListsHaveTheFirst};
 ghost use Rattle.mpw_keys.specs.Laws.{TestDecidesOrder};
@@ -8,8 +8,8 @@ pub fn test_decides_order()
     ensures { TestDecidesOrder }
 {}
 
-/// What is put together from the first keys of lists that columns share is the first of each rule of what is put together from the columns' whole lists, and
-/// the numbers are those of the whole.
+/// Let columns share lists, displaced. Then what is joined from the first keys of the lists has the first markers of each rule of what is joined from the
+/// columns' whole lists, and the numbers are those of the whole.
 pub fn shared_lists_have_the_first()
     ensures { SharedListsHaveTheFirst }
 {}

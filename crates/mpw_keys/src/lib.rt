@@ -1,11 +1,11 @@
-//! The columns into which a layout is cut, the keys that each of them has, and how its book is put together from these.
+//! The columns into which a layout is cut, the keys of each, and how the layout's book is joined from these.
 //!
-//! A [`Column`] is a half-open core over all rows of an extent, for vertical edges, or over all columns of it, for horizontal ones;
-//! [`are_columns`] tells whether columns follow on one another. [`ColumnKeys`] are the keys of what a column found, in order. No run goes on
-//! in another column, so [`together`] puts lists one behind another by rule, axis and side, and nothing is sorted as a whole.
-//!
-//! Where the first markers of each rule and their numbers do, a column keeps its [`Firsts`] alone, and columns may share them, displaced ([`Placed`]):
-//! [`Shared`] puts these together, and [`shared_lists_have_the_first`] of what the columns' whole lists make.
+//! - A [`Column`] is a half-open core over all rows of an extent, for vertical edges, or over all columns of it, for horizontal ones.
+//!   [`are_columns`] tests whether columns are adjacent and in order.
+//! - [`ColumnKeys`] are the keys of what a column found, in order. No run continues in another column. So
+//!   [`together`] concatenates lists by rule, axis and side, and nothing is sorted as a whole.
+//! - If only the first markers of each rule and their numbers are requested, a column stores only its [`Firsts`], and columns can share them, displaced
+//!   ([`Placed`]). [`Shared`] joins these. [`shared_lists_have_the_first`] says that the result is the first of what the columns' whole lists make.
 //!
 //! ```
 //! let first = ColumnKeys::of(keys_of_the_first_column);

@@ -1,7 +1,7 @@
-//! The columns' lists, put together in the order of a book.
+//! Joins the lists of columns in the order of a book.
 //!
-//! A book goes by rule, axis `V` before `H`, side, `x1`, `x2` and `y0`. Columns follow on one another, so the list of a rule, an axis and a
-//! side is that of its columns, one behind another: no list is sorted beyond its column, and each marker is made where it stays.
+//! A book is sorted by rule, axis `V` before `H`, side, `x1`, `x2` and `y0`. Columns are adjacent and in order, so the list of a rule, an axis and a
+//! side is the concatenation of its columns' lists. No list is sorted beyond its column, and each marker is written once, where it stays.
 
 ghost use Rattle.std.specs.Prelude.{◌≡◌, ◌++◌, [], ◌∷◌, IfOk, OnOk, map};
 ghost use Rattle.mpw_keys.specs.Keys.{list_of, lists_of_sides, lists_of_rule, together, of_first};
@@ -10,7 +10,7 @@ use crate::keys::ColumnKeys;
 use mpw_markers::{Key, Marker, Met};
 use std::alloc::{AllocError, Global};
 
-/// The marker of this key, which meets these submissions.
+/// The marker with this key, which touches these submissions.
 pub(crate) fn marker(key: &Key, met: Met) -> Marker
     ensures { met ≡ 0 ∷ [] → result ≡ of_first key.now }
 {
@@ -26,7 +26,7 @@ pub(crate) fn marker(key: &Key, met: Met) -> Marker
     }
 }
 
-/// Adds the markers of these keys, each of which meets the first submission alone.
+/// Adds the markers of these keys, each of which touches only the first submission.
 fn add_markers(alloc: Global, markers: &mut Vec<Marker>, keys: &[Key]) -> Result<(), AllocError>
     ensures { OnOk result (markers.new.items ≡ markers.old.items ++ map of_first keys.now) }
 {
@@ -37,7 +37,7 @@ fn add_markers(alloc: Global, markers: &mut Vec<Marker>, keys: &[Key]) -> Result
     Ok(())
 }
 
-/// Adds the markers of the list of that number: those of the columns, one behind another.
+/// Adds the markers of the list with that number: those of the columns, one after another.
 fn add_list(
     alloc: Global,
     markers: &mut Vec<Marker>,
@@ -89,11 +89,11 @@ fn count_of(lists: &[ColumnKeys]) -> usize {
     count
 }
 
-/// The markers of so many rules, from the lists of the columns of either axis, each of which meets the first submission alone. One pass over
-/// the lists for each rule and side, two binary searches a list in it, and one over the keys in all; a marker is written once.
+/// The markers of `rules` rules, from the lists of the columns of both axes. Each touches only the first submission. Cost: one pass over
+/// the lists for each rule and side, with two binary searches for each list, and one pass over the keys in all.
 ///
 /// # Errors
-/// Want of memory.
+/// Out of memory.
 pub fn together(
     alloc: Global,
     rules: u32,

@@ -1,4 +1,4 @@
-//! Columns that share lists, displaced; and the first markers of each rule, put together from the first keys of these.
+//! Columns that share lists, displaced; and the first markers of each rule, joined from the first keys of these lists.
 
 ghost use Rattle.std.specs.Prelude.{◌≡◌, ◌++◌, All, IfOk, OnOk, map, option_copied, slice_get, sum_by, take};
 ghost use Rattle.std.specs.List.{flat_map, range_with_len};
@@ -12,12 +12,12 @@ use crate::lists::marker;
 use mpw_markers::{Key, Marker, Met};
 use std::alloc::{AllocError, Global};
 
-/// Which lists a column has, and how far they are displaced across its edges, in nm.
+/// Which lists a column has, and by how much they are displaced across its edges, in nm.
 #[derive(Clone, Copy)]
 pub struct Placed {
-    /// The place of its lists among those that are shared.
+    /// The index of its lists among those that are shared.
     pub list: usize,
-    /// The displacement.
+    /// The displacement, in nm.
     pub by: i64,
 }
 
@@ -32,7 +32,7 @@ pub struct Shared<'a> {
     pub across: &'a [Placed],
 }
 
-/// Markers that are put together, and how many more of the same rule are wanted.
+/// Markers that are being joined, and how many more of the same rule are requested.
 #[derive(Drop)]
 struct Together {
     markers: Vec<Marker>,
@@ -40,7 +40,7 @@ struct Together {
 }
 
 impl Together {
-    /// Adds the markers of these keys, each displaced, as many as there is room for. An error is want of memory.
+    /// Adds the markers of these keys, each displaced, as long as there is room. The only error is out of memory.
     fn add_keys(&mut self, alloc: Global, keys: &[Key], by: i64) -> Result<(), AllocError>
         requires edges { All HasNearEdges keys.now }
         requires by { IsNear by }
@@ -57,7 +57,7 @@ impl Together {
 }
 
 impl Shared<'_> {
-    /// The first keys of a column's list, and how many it has; none where it isn't there.
+    /// The first keys of a column's list, and how many keys it has; `None` if there is no such list.
     fn first(&self, column: &Placed, number: usize) -> Option<&First>
         ensures { option_copied result ≡ first_in (slice_get self.now.firsts.now column.now.list) number }
     {
@@ -67,7 +67,7 @@ impl Shared<'_> {
         }
     }
 
-    /// Adds the markers of a column's list. An error is want of memory.
+    /// Adds the markers of a column's list. The only error is out of memory.
     fn add_column(
         &self,
         alloc: Global,
@@ -85,7 +85,7 @@ impl Shared<'_> {
         }
     }
 
-    /// Adds the markers of the list of that number of each of these columns, one behind another. An error is want of memory.
+    /// Adds the markers of the list with that number of each of these columns, one after another. The only error is out of memory.
     fn add_list(
         &self,
         alloc: Global,
@@ -103,7 +103,7 @@ impl Shared<'_> {
         Ok(())
     }
 
-    /// Adds the markers of a rule on an axis: those of side 0, and those of side 1. An error is want of memory.
+    /// Adds the markers of a rule on an axis: those of side 0, and those of side 1. The only error is out of memory.
     fn add_sides(
         &self,
         alloc: Global,
@@ -120,7 +120,7 @@ impl Shared<'_> {
         self.add_list(alloc, together, columns, number + 1)
     }
 
-    /// Adds the first markers of a rule: those on axis `V`, and then those on axis `H`. An error is want of memory.
+    /// Adds the first markers of a rule: those on axis `V`, and then those on axis `H`. The only error is out of memory.
     fn add_rule(&self, alloc: Global, together: &mut Together, rule: u32) -> Result<(), AllocError>
         requires near { All AreNear self.now.firsts.now }
         requires upright { All (λ p. IsNear p.by) self.now.upright.now }
@@ -131,11 +131,11 @@ impl Shared<'_> {
         self.add_sides(alloc, together, self.across, rule)
     }
 
-    /// The first markers of each of so many rules, `most` of each at most, in the order of a book; each meets the first submission alone. A look at each column
-    /// for each rule, axis and side, and what is written.
+    /// The first markers of each of the first `rules` rules, at most `most` of each, in the order of a book. Each touches only the first submission. Cost: one
+    /// visit of each column for each rule, axis and side, and what is written.
     ///
     /// # Errors
-    /// Want of memory.
+    /// Out of memory.
     pub fn first_markers(
         &self,
         alloc: Global,
@@ -169,7 +169,7 @@ impl Shared<'_> {
         }
     }
 
-    /// How many keys the lists of that number of these columns have, up to 2^64 - 1.
+    /// How many keys the lists with that number of these columns have, up to 2^64 - 1.
     fn count_list(&self, columns: &[Placed], number: usize) -> usize
         ensures { result ≡ capped (sum_by (placed_count self.now.firsts.now number) columns.now) }
     {
@@ -197,10 +197,10 @@ impl Shared<'_> {
         upright.saturating_add(self.count_sides(self.across, rule))
     }
 
-    /// How many markers each of so many rules has, up to 2^64 - 1. A look at each column for each rule, axis and side.
+    /// How many markers each of the first `rules` rules has, up to 2^64 - 1. Cost: one visit of each column for each rule, axis and side.
     ///
     /// # Errors
-    /// Want of memory.
+    /// Out of memory.
     pub fn counts(&self, alloc: Global, rules: u32) -> Result<Vec<usize>, AllocError>
         ensures { IfOk result (λ v. v.items
             ≡ map (λ rule. capped (rule_counted self.now.firsts.now self.now.upright.now self.now.across.now rule)) (range_with_len 0 rules)) }
@@ -212,7 +212,7 @@ impl Shared<'_> {
         Ok(counts)
     }
 
-    /// How many markers so many rules have together, up to 2^64 - 1. The same looks; takes no memory.
+    /// How many markers the first `rules` rules have together, up to 2^64 - 1. The cost is that of [`Shared::counts`]; takes no memory.
     pub fn count(&self, rules: u32) -> usize
         ensures { result ≡ capped (sum_by (rule_counted self.now.firsts.now self.now.upright.now self.now.across.now) (range_with_len 0 rules)) }
     {

@@ -21,7 +21,7 @@ use Rattle.mpw_replies.specs.Sight.{is_full, is_of, cells_on, met_cells, line_fo
 use Rattle.mpw_access.specs.Seen.{may_read, seen_by}
 use Rattle.mpw_replies.specs.Sight.{masked_line, masked_lines}
 
--- what passes a test, where that tells P
+-- items that pass a test have P, if the test implies P
 of_kept : {A : Type 0} (P : A → Type 0) (test : A → Bool) (xs : List A)
     → ((x : A) → test x ≡ true → P x) → All P (filter test xs)
 of_kept P test [] tells = λ k d lt. absurd (omega (arith, lt))
@@ -42,13 +42,13 @@ module _ (policy : Policy) (connection : ℕ) where
   none : Readable []
   none = λ k d lt. absurd (omega (arith, lt))
 
-  -- a submission that may be seen is of a cell that may be read
+  -- a submission that may be seen belongs to a cell that may be read
   of_seen : (cell : Name) (o : Option Submission)
       → is_seen (option_map (may_read policy connection) o) ≡ true → is_of cell o ≡ true → May cell
   of_seen cell None seen same = absurd cc
   of_seen cell (Some s) seen same = subst May (sym ((bytes_decides cell s.cell).0 same)) seen
 
-  -- a cell of which a submission is met, where all that are met may be seen
+  -- a cell with a touched submission may be read, if all touched submissions may be seen
   of_met : (shelf : List Submission) (cell : Name) (met : List ℕ)
       → list_all (λ number. is_seen (slice_get (seen_by policy connection shelf) number)) met ≡ true
       → list_any (λ number. is_of cell (slice_get shelf number)) met ≡ true → May cell

@@ -1,4 +1,4 @@
--- Denials of a permission in the rows over the run.
+-- Denials of a permission in the decision tables of the run.
 use Rattle.std.proofs.Common.{◌≡◌, ℕ, Bool, true, false, cond, List, [], ◌∷◌, Option, None, Some, Result, Ok, Err, is_some, inl, inr, ap}
 use Rattle.mpw_laws.proofs.RowParts.{parts, denial_ended}
 use Rattle.mpw_deck.specs.Decks.{Deck}
@@ -58,7 +58,7 @@ planning_denies snapshot [] operation object e = cc
 planning_denies snapshot (item ∷ items) operation object e =
     cover_denies snapshot (plan_for snapshot) operation object e
 
--- ---- rows
+-- ---- decision tables
 
 begun_denies : EnteringDeniesWhatIsLacked
     → (policy : Policy) (shelf : List Submission) (wafer : Wafer) (run : Run) (connection : ℕ)
@@ -91,7 +91,7 @@ left_off_denies lacks policy run connection operation object e =
       | inr rest ↦ absurd ((phase_denies run.phase operation object).1 rest.2)
     ]
 
--- no session: that is no lack of a permission
+-- a missing session is not a missing permission
 session_denies : {A : Type 0} (value : A) (test : Bool) (operation : Operation) (object : Object)
     → cond test (Ok value) (Err (ending.Denied denial.Session))
     ≡ Err (denied operation object) → ⊥

@@ -1,4 +1,4 @@
--- What a request leaves of the run.
+-- What a request does to the run.
 use Rattle.std.proofs.Common.{◌≡◌, ℕ, false, List, Result, Ok, Err, refl}
 use Rattle.mpw_hier.specs.declared.submission.Submission.{Submission}
 use Rattle.mpw_rbac.specs.Policy.{Policy}
@@ -15,7 +15,7 @@ use Rattle.mpw_wafer.specs.Run.Checking.{run_row, cancel_row, status, markers, b
 
 -- ---- denials and refusals
 
--- the run is left, and nothing has to be kept
+-- the run is unchanged, and nothing must be stored
 abbrev IsUnchanged : Run → Outcome → Type 0
 IsUnchanged run o = (o.run ≡ run) × (o.changes ≡ false)
 

@@ -1,4 +1,4 @@
--- What requests over the run list may be read.
+-- The requests of the run list only what may be read.
 use Rattle.std.proofs.Common.{◌≡◌, ℕ, ◌+◌, List, [], ◌∷◌, Result, Ok, Err, arith, refl, subst}
 use Rattle.std.specs.Prelude.{All}
 use Rattle.std.proofs.lemmas.List.Elements.{All-cons}
@@ -50,7 +50,7 @@ module _ (policy : Policy) (connection : ℕ) where
   of_left run (Ok x) lines e = let same : [] ≡ lines = cc in subst Readable same none
   of_left run (Err why) lines e = absurd (ended_not_ok why lines e)
 
-  -- what is listed is the row's
+  -- the listed lines are those of the decision table
   of_listed : (run : Run) (row : Result (List Listed) Ending) (lines : List Listed)
       → ((told : List Listed) → row ≡ Ok told → Readable told)
       → (listing_outcome run row).reply ≡ reply.Ok lines → Readable lines

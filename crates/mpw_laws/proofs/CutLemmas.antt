@@ -1,4 +1,4 @@
--- A run that is to be cut: who takes its job cuts it, and the tiles come next.
+-- A run before its cut: who takes its job cuts it, and the tiles come next.
 use Rattle.std.proofs.Common.{◌≡◌, ◌∙◌, ◌<◌, ◌≤◌, ◌⊎◌, ℕ, Bool, true, false, List, get_or, length, Option, Some, None, refl, sym, ap, arith, inl, inr}
 use Rattle.std.specs.Prelude.{slice_get, if◌then◌else◌}
 use Rattle.std.proofs.lemmas.Bool.{true≢false, eq-eqb}
@@ -26,14 +26,14 @@ use Rattle.mpw_laws.specs.WorkLaws.{IsAnswered, IsOver}
 use Rattle.mpw_serve.specs.Working.{CameOf, cut_of_call, cut_of_response, is_kept, own_worker, was_kept}
 use Rattle.mpw_laws.proofs.EventLemmas.{wanted_take, wanted_cut, Took, came_quiet}
 
--- ---- a run that is to be cut
+-- ---- a run before its cut
 
 pub record Cuts (d : KeptDesk) (planned : Planned) : Type 0 where
   pub is_open : (state_of d.desk).closed ≡ false
   pub phase : (state_of d.desk).run.phase ≡ Cutting planned
   pub plan : plan_for planned.snapshot ≡ Some planned.plan
 
--- a run whose first tiles are answered, up to one
+-- a run whose first tiles are answered, up to an index
 pub record Checks_at (d : KeptDesk) (planned : Planned) (windows : List (List Rectangle))
     (number k : ℕ) : Type 0 where
   pub is_open : (state_of d.desk).closed ≡ false

@@ -35,11 +35,11 @@ use Rattle.mpw_permissions.specs.declared.permission.Operation.TheVariants as op
 use Rattle.mpw_events.specs.Step.{State, Outcome, reply_of, policy_outcome, query_outcome, trail_outcome, identity_lines, outcome_of, event_outcome, step, response_of}
 use Rattle.mpw_laws.proofs.RefusalLemmas.{settlement-denied}
 
--- what is told alike is alike
+-- equal responses have equal replies
 pub inside : {a b : Reply} → response.Told a ≡ response.Told b → a ≡ b
 inside e = cc
 
--- the refusal that a denial tells of
+-- the refusal that a denial shows
 abbrev pub told_of : Reply → Option Refusal
 told_of (reply.Denied (denial.Permission operation object)) =
     Some (refusal.NotPermitted operation object)
@@ -85,7 +85,7 @@ denied-query_outcome : (s : State) (row : Result Identity Refusal) (d : Reply) (
 denied-query_outcome s (Ok q) d x is e = absurd (none-some x (ap told_of (inside e) ∙ is))
 denied-query_outcome s (Err r) d x is e = ap (λ x. Err x) (told_by r x d is (inside e))
 
--- what a request of the policy is denied is what its row tells
+-- the denial of a policy request is that of its decision table
 pub denied-row : (s : State) (connection : ℕ) (request : PolicyRequest) (kept : Bool) (w : Denial)
     (x : Refusal) → told_of (reply.Denied w) ≡ Some x
     → response_of s (event.Ask connection (ask.Policy request)) kept ≡ response.Told

@@ -1,4 +1,4 @@
--- The work behind an accepted run goes on until it is over.
+-- The work after an accepted run goes on until it is over.
 use Rattle.std.proofs.Common.{◌≡◌, ◌∙◌, ℕ, Bool, true, false, List, [], ◌∷◌, Option, Some, None, Result, Ok, Err, refl, sym, ap, subst}
 use Rattle.std.proofs.lemmas.Bool.{true≢false}
 use Rattle.mpw_events.specs.History.{KeptDesk, IsHandled, state_of}
@@ -51,7 +51,7 @@ off_ends exact d d' planned is (WorksOff.called call job near far came taken cut
     let c = called_cuts d near planned is call job came taken all.0 in cut_ends exact near job far
     planned c.0 c.1 cut all.1
 
--- ---- behind which request
+-- ---- after which request
 
 ok_is : (x y : Planned) → ◌≡◌ {A = Result Planned Ending} (Ok x) (Ok y) → x ≡ y
 ok_is x y e = cc

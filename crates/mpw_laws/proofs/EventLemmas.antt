@@ -1,4 +1,4 @@
--- What comes of an event of the run: it ends the work, or its step is made.
+-- The result of an event of the run: it ends the work, or its step is made.
 use Rattle.std.proofs.Common.{◌≡◌, ◌∙◌, ◌⊎◌, ℕ, Bool, true, false, List, [], ◌∷◌, ◌++◌, length, refl, sym, ap, subst, inl, inr}
 use Rattle.std.specs.Prelude.{◌||◌, ◌&&◌, not, nat_lt, if◌then◌else◌}
 use Rattle.std.proofs.lemmas.Bool.{true≢false}
@@ -17,14 +17,14 @@ use Rattle.mpw_run.specs.Step as run
 use Rattle.mpw_laws.specs.WorkLaws.{IsOver}
 use Rattle.mpw_serve.specs.Working.{ends}
 
--- ---- what came of an event
+-- ---- the result of an event
 
 state_after-on : (s : State) (first more : List Call)
     → state_after s (first ++ more) ≡ state_after (state_after s first) more
 state_after-on s [] more = refl
 state_after-on s (c ∷ cs) more = state_after-on (after s c.event c.kept) cs more
 
--- what changes nothing is the same step whether it counts as kept or not
+-- an event that changes nothing has the same step whether it counts as stored or not
 step-normal : (s : State) (e : Event) (kept : Bool)
     → step s e (kept || not (event_outcome s e).changes) ≡ step s e kept
 unfolding step
@@ -40,7 +40,7 @@ step-normal s e kept = go kept (event_outcome s e).changes
     go false true = refl
     go false false = refl
 
--- the desk was closed, or its history full, and it is left; or the event's step was made
+-- the desk was closed, or its history full, and it is unchanged; or the event's step was made
 pub data Came (d : KeptDesk) (e : Event) (r : Response) (d' : KeptDesk) : Type 0 where
   was_closed : (state_of d.desk).closed ≡ true → r ≡ closed_response e → Came d e r d'
   was_full : nat_lt (length d.desk.history) max_events ≡ false → r ≡ limit_response e

@@ -1,4 +1,4 @@
--- The tile that is handed out next was handed out fewest times.
+-- The tile that is handed out next was handed out the fewest times.
 use Rattle.std.proofs.Common.{◌≡◌, ℕ, zero, suc, ◌+◌, ◌<◌, ◌≤◌, Bool, true, false, List, [], ◌∷◌, Option, Some, None, refl, sym, ap, ◌∙◌, arith}
 use Rattle.std.specs.Prelude.{slice_get, if◌then◌else◌, nat_le}
 use Rattle.std.proofs.lemmas.Bool.{leb-true, leb-false}
@@ -17,9 +17,9 @@ at_most a b e = leb-true a b e
 above : (a b : ℕ) → nat_le a b ≡ false → b < a
 above a b e = leb-false a b e
 
--- ---- what is offered
+-- ---- what is handed out
 
--- no tile is left where nothing is offered
+-- if nothing is offered, no unanswered tile is left
 left_on : (from : ℕ) (x : Tile) (xs : List Tile) (t : Tile)
     → (next_from (from + 1) xs ≡ None → (k : ℕ) → slice_get xs k ≡ Some t → ⊥) → t.answer ≡ None
     → offered x.answer (record { number = from; tile = x }) (next_from (from + 1) xs) ≡ None
@@ -44,7 +44,7 @@ none_left from [] k t e g n = none-some t (sym (slice_get_past {X = Tile} [] k (
 none_left from (x ∷ xs) k t e g n =
     left_on from x xs t (λ f j u. none_left (from + 1) xs j t f u n) n e k g
 
--- it was handed out no more often than each that is left, and less often than those before it
+-- it was handed out at most as often as each that is left, and less often than those before it
 abbrev pub NoMore : ℕ → Tile → Offer → ℕ → Type 0
 NoMore from t o k = (o.tile.taken ≤ t.taken) × (from + k < o.number → o.tile.taken < t.taken)
 
@@ -58,7 +58,7 @@ no_more_on from x xs t n more o e k g = by x.answer refl e k g
     own : Offer
     own = record { number = from; tile = x }
 
-    -- the first is offered, and each behind it was handed out as often at least
+    -- the first is offered, and each after it was handed out at least as often
     first : own ≡ o → (k : ℕ) → slice_get (x ∷ xs) k ≡ Some t
         → ((j : ℕ) → slice_get xs j ≡ Some t → x.taken ≤ t.taken) → NoMore from t o k
     first s zero g behind =
@@ -71,7 +71,7 @@ no_more_on from x xs t n more o e k g = by x.answer refl e k g
         let c = ap (λ (p : Offer). p.number) s in
         (omega (arith, a, behind j g), λ l. absurd (omega (arith, l, c)))
 
-    -- another is offered, that was handed out less often than the first
+    -- another is offered that was handed out less often than the first
     later : next_from (from + 1) xs ≡ Some o → o.tile.taken < x.taken → (k : ℕ)
         → slice_get (x ∷ xs) k ≡ Some t → NoMore from t o k
     later q less zero g = let b = ap (λ (u : Tile). u.taken) (same_Some x t g) in

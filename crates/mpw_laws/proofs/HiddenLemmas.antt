@@ -1,4 +1,4 @@
--- What is hidden leaves no trace.
+-- A hidden marker leaves no trace.
 use Rattle.std.proofs.Common.{◌≡◌, ℕ, ◌+◌, Bool, true, false, cond, not, ◌&&◌, ◌||◌, ◌==◌, List, [], ◌∷◌, ◌++◌, length, refl, sym, ap, ◌∙◌}
 use Rattle.std.specs.Prelude.{◌≢◌, filter, slice_get}
 use Rattle.std.specs.List.{flat_map, list_all, list_any}

@@ -1,4 +1,4 @@
--- A run is finished exactly once an answer of each of its tiles was kept.
+-- A run is finished exactly if an answer of each of its tiles was accepted.
 use Rattle.std.proofs.Common.{◌≡◌, ℕ, suc, ◌<◌, Bool, true, false, ◌&&◌, ◌||◌, List, [], ◌∷◌, length, Option, Some, None, refl, sym, subst, ap, ◌∙◌, inl, inr, arith, length-append, length-set}
 use Rattle.std.specs.Prelude.{◌==◌, slice_get, slice_set, is_some, nat_lt}
 use Rattle.std.proofs.lemmas.Bool.{false≢true, cases_eq, eqb-true, eq-eqb}
@@ -22,9 +22,9 @@ use Rattle.mpw_run.proofs.Next.{next_is}
 use Rattle.mpw_run.proofs.Opened.{some_tile}
 use Rattle.mpw_laws.proofs.Coming.{keeps}
 
--- ---- what was kept, by the phase
+-- ---- what was accepted, by the phase
 
--- an answer of a tile was kept just where the tile is answered
+-- an answer of a tile was accepted exactly if the tile is answered
 abbrev HaveKept : (ℕ → Bool) → List Tile → Type 0
 HaveKept was xs = (k : ℕ) (t : Tile) → slice_get xs k ≡ Some t → was k ≡ is_some t.answer
 
@@ -89,7 +89,7 @@ cut_agrees looked was run answer (Finished f) h r = r
 
 -- ---- answers of tiles
 
--- what was kept, with one answer more
+-- what was accepted, with one more answer
 abbrev with_one : (ℕ → Bool) → ℕ → RunReply → ℕ → Bool
 with_one was tile r k = ((tile == k) && is_kept r) || was k
 
@@ -105,14 +105,14 @@ not_one : (was : ℕ → Bool) (tile : ℕ) (r : RunReply) (k : ℕ) → is_kept
 not_one was tile r k e = ap (λ (b : Bool). ((tile == k) && b) || was k) e
     ∙ ap (λ (b : Bool). b || was k) (and_false (tile == k))
 
--- an answer that is not kept
+-- an answer that is not accepted
 left : (looked : Option Planned) (was : ℕ → Bool) (tile : ℕ) (r : RunReply) (run : Run)
     → is_kept r ≡ false → Agrees looked was run.phase → AgreesWith looked was tile (left_as r run)
 left looked was tile r run e h =
     let same : was ≡ with_one was tile r = (λ i k. sym (not_one was tile r k e) i) in
     subst (λ (f : ℕ → Bool). Agrees looked f run.phase) same h
 
--- the answer that is kept
+-- the answer that is accepted
 own_one : (was : ℕ → Bool) (tile k : ℕ) (r : RunReply) → is_kept r ≡ true → k ≡ tile
     → with_one was tile r k ≡ true
 own_one was tile k r e s =
@@ -139,7 +139,7 @@ set_kept was xs k x m r e at h j t g = elim (cases_eq j k) [
   | inr ne ↦ other_one was k j r ne ∙ h j t (sym (other_tile xs k j (answered_by m x) ne) ∙ g)
 ]
 
--- where all tiles are answered, an answer of each was kept
+-- if all tiles are answered, an answer of each was accepted
 all_kept : (was : ℕ → Bool) (xs : List Tile) (n : ℕ) → HaveKept was xs → length xs ≡ n
     → answered xs ≡ n → (k : ℕ) → k < n → was k ≡ true
 all_kept was xs n h count all k l =
@@ -234,7 +234,7 @@ agrees law computes (event ∷ before) right =
 
 -- ---- finished
 
--- where each tile has an answer, all are answered
+-- if each tile has an answer, all are answered
 each_on : (t : Tile) (xs : List Tile) → answered xs ≡ length xs → is_some t.answer ≡ true
     → answered (t ∷ xs) ≡ length (t ∷ xs)
 each_on t xs rest h = by t.answer refl

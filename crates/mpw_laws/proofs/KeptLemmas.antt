@@ -1,4 +1,4 @@
--- What each request of the policy and each end of a session keeps, every history keeps.
+-- A property that each policy request and each end of a session preserves holds after every history.
 use Rattle.std.proofs.Common.{◌≡◌, ℕ, Bool, true, false, cond, List, [], ◌∷◌, Result, Ok, Err, refl}
 use Rattle.std.specs.Prelude.{◌&&◌, not}
 use Rattle.mpw_rbac.specs.declared.refusal.Refusal.{Refusal}
@@ -19,7 +19,7 @@ use Rattle.mpw_events.specs.History.{state_after}
 use Rattle.mpw_events.specs.PolicyRows.{row_of}
 use Rattle.mpw_events.specs.Step.{State, Outcome, new_state, no_change, policy_outcome, query_outcome, trail_outcome, identity_lines, outcome_of, event_outcome, not_kept_response, settlement, step, after}
 
--- what the row leaves has the property where the policy before had it
+-- the policy after the decision table has the property if the policy before had it
 abbrev Keeps : (Policy → Type 0) → (Policy → Result Policy Refusal) → Type 0
 Keeps P row = (p q : Policy) → row p ≡ Ok q → P p → P q
 

@@ -1,4 +1,4 @@
--- Denials of a permission in the rows over the shelf.
+-- Denials of a permission in the decision tables of the layouts.
 use Rattle.std.proofs.Common.{◌≡◌, ℕ, Bool, true, false, cond, List, [], ◌∷◌, map, Option, Some, None, Result, Ok, Err, inl, inr, refl, ap, is_some}
 use Rattle.std.specs.Prelude.{not, ◌^◌}
 use Rattle.std.specs.List.{flat_map}

@@ -1,4 +1,4 @@
--- What a request leaves of the waivers.
+-- What a request does to the waivers.
 use Rattle.std.proofs.Common.{◌≡◌, List, length, Option, None, Some, Result, Ok, Err, refl}
 use Rattle.std.proofs.lemmas.List.{length-set}
 use Rattle.mpw_requests.specs.declared.sign_off.SignOffRequest.TheVariants as ask
@@ -36,7 +36,7 @@ negatives_leave policy wafer run waivers connection ask.Waivers told =
 negatives_leave policy wafer run waivers connection ask.Verdict told =
     listing_left waivers (verdict_row policy wafer run waivers connection)
 
--- ---- places
+-- ---- entries
 
 waived_places : (waivers : List (Option Waiver)) (row : Result ByUser Ending)
     → length (waived_outcome waivers row).waivers ≡ length waivers

@@ -1,4 +1,4 @@
--- What is denied or refused leaves the shelf.
+-- A denial or a refusal leaves the shelf unchanged.
 use Rattle.std.proofs.Common.{◌≡◌, List, Result, Ok, Err, refl}
 use Rattle.mpw_hier.specs.declared.submission.Submission.{Submission}
 use Rattle.mpw_requests.specs.declared.layouts.LayoutRequest.TheVariants as ask

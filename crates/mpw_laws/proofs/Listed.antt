@@ -1,4 +1,4 @@
--- The lines of a listing of waivers are of markers that are shown.
+-- The lines of a listing of waivers are of full markers.
 use Rattle.std.proofs.Common.{[], ◌≡◌, ℕ, suc, ◌+◌, Bool, true, false, cond, List, ◌∷◌, map, slice_get, Option, None, Some, Result, Ok, Err, refl, ap, subst, arith}
 use Rattle.std.specs.Prelude.{All}
 use Rattle.std.proofs.lemmas.List.Elements.{All-nil, All-cons, All-append, All-map}
@@ -26,7 +26,7 @@ use Rattle.mpw_signoff.specs.SigningOff.{waiver_lines, waivers_row, listing_outc
 use Rattle.mpw_signoff.specs.WaiverLines.{waiver_line, rule_line, marker_line, shown_line, lines_from}
 use Rattle.mpw_laws.proofs.Shown.{finished_is}
 
--- what is so of the line of each marker that is shown and has a waiver is so of all lines
+-- what holds of the line of each full marker with a waiver holds of all lines
 module _ (P : Line → Type 0) (rules : List Rule) (seen : List Bool) (waivers : List (Option Waiver))
     (whole : List Marker) where
   abbrev Each : Type 0

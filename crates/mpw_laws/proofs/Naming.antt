@@ -1,4 +1,4 @@
--- What the marker that a request names is.
+-- The marker that a request names.
 use Rattle.std.proofs.Common.{[], ◌≡◌, ◌∙◌, ℕ, List, get_or, slice_get, Option, None, Some, refl, sym, ap}
 use Rattle.std.proofs.lemmas.List.Quantifiers.{position-Some}
 use Rattle.std.proofs.lemmas.Option.{slice_get-get_or, none-some, same_Some}
@@ -23,7 +23,7 @@ no_rule = record {
   distance = 0;
 }
 
--- the rule, and where the marker stands
+-- the rule, and the index of the marker
 pub record IsNamed (rules : List Rule) (book : List Marker) (name : MarkerName) (n : Named) :
     Type 0 where
   pub rule : Rule
@@ -54,7 +54,7 @@ by_is book name None n e = absurd (none-some n e)
 by_is book name (Some rule) n e =
     let both = at_is book (place_in book (key_by name rule)) n e in (rule, refl, both.0, both.1)
 
--- a marker of the key of a name has the name
+-- a marker with the key of a name has the name
 name_is : (name : MarkerName) (place : ℕ) (rule : Rule) (m : Marker) → key_of m ≡ key_by name place
     → name.rule ≡ rule.name → name ≡ name_for rule.name m
 name_is name place rule m same first = λ i. record {

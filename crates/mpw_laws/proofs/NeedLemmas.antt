@@ -41,13 +41,13 @@ use Rattle.mpw_laws.proofs.DenialLemmas.{inside}
 use Rattle.mpw_laws.proofs.ReadableLemmas.{never_ok, told_refusal}
 use Rattle.mpw_laws.proofs.RefusalLemmas.{settlement-ok}
 
--- where a row of tests gives a value, its first test holds, and the others give that value
+-- if a decision table gives a value, its first test holds, and the others give that value
 test_holds : {A E : Type 0} (test : Bool) (rest : Result A E) (refusal : E) (value : A)
     → cond test rest (Err refusal) ≡ Ok value → (test ≡ true) × (rest ≡ Ok value)
 test_holds true rest refusal value e = (refl, e)
 test_holds false rest refusal value e = absurd cc
 
--- an outcome that accepts is of a row that gives a value
+-- an outcome that accepts comes from a decision table that gives a value
 row_gives : {A : Type 0} (told : Result A Ending → Reply)
     → ((e : Ending) → told (Err e) ≡ ended_by e) → (row : Result A Ending) (lines : List Listed)
     → told row ≡ reply.Ok lines → (value : A) × (row ≡ Ok value)
@@ -55,7 +55,7 @@ row_gives told errs (Ok value) lines e = (value, refl)
 row_gives told errs (Err ending) lines e =
     absurd (ended_not_ok ending lines (sym (errs ending) ∙ e))
 
--- the test of a permission, with what comes behind it
+-- the test of a permission, with what follows it
 had : {B : Type 0} (policy : Policy) (connection : ℕ) (operation : Operation) (object : Object)
     (behind : Unit {0} → Result B Ending) (value : B)
     → (permitted policy connection operation object >>= behind) ≡ Ok value
@@ -66,7 +66,7 @@ had policy connection operation object behind value e =
 
 -- ---- requests of the policy
 
--- what is accepted is what its row leaves
+-- if a request is accepted, the new policy is that of its decision table
 acceptance-policy_outcome : (s : State) (row : Result Policy Refusal) (lines : List Listed)
     → (policy_outcome s row).response ≡ response.Told (reply.Ok lines) → (q : Policy) × (row ≡ Ok q)
 acceptance-policy_outcome s (Ok q) lines e = (q, refl)

@@ -1,4 +1,4 @@
--- What the cells of a user's own met submissions are, and the least of them.
+-- The cells of a user's own touched submissions, and the first of them in alphabetical order.
 use Rattle.std.proofs.Common.{◌≡◌, ℕ, ◌<◌, zero, suc, Bool, true, false, cond, ◌||◌, inl, inr, List, [], ◌∷◌, length, get_or, Option, None, Some, refl, sym, ap, subst, ◌∙◌, true≢false, arith}
 use Rattle.std.specs.Prelude.{slice_get, Contains}
 use Rattle.std.specs.List.{filter_map, cons_option}
@@ -13,7 +13,7 @@ use Rattle.mpw_geom.proofs.LeastLemmas.{least-is, not_both}
 
 -- ---- one number
 
--- the submission, of that cell, is the user's
+-- the submission belongs to that cell, and is the user's
 record IsUsers (user cell : List ℕ) (o : Option Submission) : Type 0 where
   submission : Submission
   is : o ≡ Some submission
@@ -127,7 +127,7 @@ own_in shelf met user cell there =
       of_cell = own.of_cell;
     }
 
--- ---- the least
+-- ---- the first in alphabetical order
 
 least_own-is : (shelf : List Submission) (met user : List ℕ) (o : Option (List ℕ))
     → least_own_cell shelf met user ≡ o

@@ -1,4 +1,4 @@
--- Every state has a place for a waiver of each marker of a finished run, and of no other run's.
+-- Every state has an entry for a waiver of each marker of a finished run, and of no other run.
 use Rattle.std.proofs.Common.{◌≡◌, ℕ, List, length, Option, None, refl, sym, ◌∙◌}
 use Rattle.std.proofs.lemmas.List.{length-replicate}
 use Rattle.mpw_run.specs.declared.phase.Phase.{Phase}

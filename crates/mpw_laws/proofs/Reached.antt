@@ -1,4 +1,4 @@
--- What is so after any requests.
+-- What holds after any requests.
 use Rattle.std.proofs.Common.{◌≡◌, ℕ, List, [], ◌∷◌, zero, suc, length, Option, None, Some, Ok, refl, sym, ap, ◌∙◌, inl, inr}
 use Rattle.std.specs.Prelude.{slice_set}
 use Rattle.std.proofs.lemmas.List.{length-replicate}
@@ -10,7 +10,7 @@ use Rattle.mpw_laws.specs.Signing.{asked}
 use Rattle.mpw_waiver.specs.Waivers.{waiver_at, with_asker, with_signer, signed_by}
 use Rattle.mpw_laws.proofs.Signed.{passed_is, signers_apart}
 
--- ---- places
+-- ---- entries
 
 length-put : (waivers : List (Option Waiver)) (place : ℕ) (o : Option Waiver)
     → length (slice_set waivers place o) ≡ length waivers
@@ -34,7 +34,7 @@ none_at zero place waiver e = absurd cc
 none_at (suc size) zero waiver e = absurd cc
 none_at (suc size) (suc place) waiver e = none_at size place waiver e
 
--- ---- reached
+-- ---- waivers that requests lead to
 
 after_ask : (waivers after : List (Option Waiver)) (place : ℕ) (user : List ℕ)
     → asked waivers place user ≡ Ok after
@@ -54,7 +54,7 @@ reached-size shelf met size waivers (sign {waivers = before} place user reached 
     ap length (signers_apart shelf before waivers place (met place) user e).1
     ∙ length-put before place _ ∙ reached-size shelf met size before reached
 
--- the waiver that somebody signed now
+-- the waiver that was signed now
 signed-is : (o : Option Waiver) (before waiver : Waiver) (user signer : List ℕ) → o ≡ Some before
     → signed_by user o ≡ Some waiver
     → waiver.signer ≡ Some signer → (user ≡ signer) × (waiver.asker ≡ before.asker)

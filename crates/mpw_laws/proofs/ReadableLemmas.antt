@@ -42,7 +42,7 @@ use Rattle.mpw_events.specs.Step.{State, Outcome, reply_of, policy_outcome, quer
 use Rattle.mpw_laws.proofs.DenialLemmas.{inside}
 use Rattle.mpw_laws.proofs.RefusalLemmas.{settlement-ok}
 
--- ---- what the policy refuses is told by a denial or a refusal
+-- ---- what the policy refuses gets a denial or a refusal
 
 pub never_ok : (r : Reply) → IsNegative r → (lines : List Listed) → r ≡ reply.Ok lines → ⊥
 never_ok (reply.Ok found) tells lines e = tells
@@ -109,7 +109,7 @@ module _ (policy : Policy) (connection : ℕ) where
   of_identity s (Err refusal) lines e =
       absurd (never_ok (reply_of refusal) (told_refusal refusal) lines (inside e))
 
-  -- what the wafer's requests tell is a version, or nothing
+  -- the reply to a request of the wafer has a version, or nothing
   of_version : (version : Option ℕ) → All (IsOfReadable policy connection)
       (map stored (wafers.version_lines version))
   of_version None = no_lines

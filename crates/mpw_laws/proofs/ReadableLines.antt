@@ -102,7 +102,7 @@ module _ (policy : Policy) (connection : ℕ) where
       All-append (IsOfReadable policy connection) (readable_shape policy shelf connection item) _
       (of_shape (slice_get shelf item.origin) item) (of_shapes shelf items)
 
-  -- ---- rows
+  -- ---- decision tables
 
   cells_row : PresentAreOfTheirCell → (shelf : List Submission) (lines : List Listed)
       → cells policy shelf connection ≡ Ok lines → All (IsOfReadable policy connection) lines

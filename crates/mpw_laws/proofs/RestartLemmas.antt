@@ -1,4 +1,4 @@
--- What a restart leaves.
+-- The state after a restart.
 use Rattle.std.proofs.Common.{◌≡◌, ℕ, Bool, None, refl}
 use Rattle.mpw_rbac.specs.Policy.{session_of}
 use Rattle.mpw_events.specs.declared.event.Event.TheVariants as event

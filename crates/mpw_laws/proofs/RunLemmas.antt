@@ -1,4 +1,4 @@
--- What of the run's events leaves the state.
+-- Which events of the run leave the state unchanged.
 use Rattle.std.proofs.Common.{◌≡◌, ℕ, Bool, true, false, Result, Ok, Err, refl, sym, ap, ◌∙◌, true≢false}
 use Rattle.mpw_rbac.specs.declared.refusal.Refusal.{Refusal}
 use Rattle.mpw_rbac.specs.declared.session.Identity.{Identity}
@@ -24,7 +24,7 @@ use Rattle.mpw_events.specs.declared.event.Response.TheVariants as response
 use Rattle.mpw_events.specs.Step.{State, Outcome, policy_outcome, query_outcome, trail_outcome, identity_lines, outcome_of, event_outcome, of_run, step, response_of}
 use Rattle.mpw_laws.proofs.RefusalLemmas.{settlement-run}
 
--- ---- what is not kept leaves the state
+-- ---- a result that is not accepted leaves the state unchanged
 
 same-reply : {a b : RunReply} → run_response a ≡ run_response b → a ≡ b
 same-reply e = cc
@@ -44,7 +44,7 @@ audited-told : (s : State) (row : Result (Unit {0}) Ending) (r : RunReply)
 audited-told s (Ok allowed) r e = cc
 audited-told s (Err ending) r e = cc
 
--- a request is told a reply of its own
+-- a request gets its own kind of reply
 request-told : (s : State) (connection : ℕ) (request : Request) (r : RunReply)
     → (outcome_of s connection request).response ≡ run_response r → ⊥
 request-told s connection (ask.Policy request) r e =
@@ -57,7 +57,7 @@ request-told s connection (ask.SignOff request) r e = cc
 request-told s connection ask.Trail r e =
     audited-told s (permitted s.policy connection operation.Audit object.Desk) r e
 
--- what is not kept finishes no run
+-- a result that is not accepted finishes no run
 leaving-goes-on : (r : RunReply) → leaves r ≡ true → finishes r ≡ false
 leaving-goes-on (reply.Taken job) is = refl
 leaving-goes-on reply.NoJob is = refl

@@ -1,4 +1,4 @@
--- A connection that is served over a desk of one's own leads the desk on by calls.
+-- A connection that is served over a private desk adds calls to its history.
 use Rattle.std.proofs.Common.{◌≡◌, ℕ, List, Option, sym, subst, Bool, true, false}
 use Rattle.mpw_events.specs.declared.event.Event.TheVariants as event
 use Rattle.mpw_events.specs.declared.event.Response.{Response}
@@ -12,7 +12,7 @@ use Rattle.mpw_serve.specs.Serving.{Answer, Serves}
 use Rattle.mpw_serve.specs.OwnDesk.{IsAnswer, IsGone}
 use Rattle.mpw_serve.proofs.ServedLemmas.{served_leads}
 
--- ---- what the keeper has of it
+-- ---- what the store writer has of it
 
 module _
     (goes : (d left : KeptDesk) (event : Event) (response : Response)

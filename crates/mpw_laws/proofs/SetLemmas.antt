@@ -1,4 +1,5 @@
--- A set of separation of duty that a row tells is the least of its kind that the policy that was asked for would break.
+-- The set of separation of duty that a denial names is the first of its kind, in alphabetical order, that the
+-- requested policy would break.
 use Rattle.std.proofs.Common.{◌≡◌, ℕ, List, Result, Err}
 use Rattle.mpw_rbac.specs.declared.refusal.Refusal.{Refusal}
 use Rattle.mpw_rbac.specs.declared.refusal.Refusal.TheVariants.{Ssd, Dsd}
@@ -13,7 +14,7 @@ pub record TellsRightly (row : Policy → Result Policy Refusal) (asked : Policy
   pub dynamic : (p : Policy) (name : List ℕ) → row p ≡ Err (Dsd name)
       → IsLeastDynamic (asked p) name
 
--- a row that tells no set
+-- a decision table that names no set
 pub tells_none : (row : Policy → Result Policy Refusal) (asked : Policy → Policy)
     → TellsNoStatic row → TellsNoDynamic row → TellsRightly row asked
 tells_none row asked no_static no_dynamic = record {

@@ -1,4 +1,4 @@
--- Lines of `shapes` are of boundaries and paths.
+-- Lines of `shapes` have boundaries and paths.
 use Rattle.std.proofs.Common.{◌≡◌, ℕ, Bool, true, false, cond, refl, List, [], ◌∷◌, Option, Some, None, Result, Ok, Err, arith, subst}
 use Rattle.std.specs.Prelude.{All, slice_get}
 use Rattle.std.specs.List.{flat_map}

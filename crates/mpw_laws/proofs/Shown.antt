@@ -1,4 +1,4 @@
--- What the marker of an accepted request is.
+-- The marker of an accepted request.
 use Rattle.std.proofs.Common.{◌≡◌, ◌∙◌, ℕ, Bool, true, false, cond, List, Option, None, Some, Result, Ok, Err, refl, sym, ap}
 use Rattle.mpw_replies.proofs.RowParts.{passed}
 use Rattle.mpw_markers.specs.Laws.{PlacesAreOfKeys}
@@ -83,7 +83,7 @@ asked_ok : (waivers : List (Option Waiver)) (row : Result ByUser Ending) (lines 
 asked_ok waivers (Ok by) lines e = (by, refl)
 asked_ok waivers (Err why) lines e = absurd (no_lines why lines e)
 
--- what an accepted row passed
+-- what an accepted decision table passed
 record IsPassed (policy : Policy) (run : Run) (connection : ℕ) (name : MarkerName) (by : ByUser) :
     Type 0 where
   f : Checked

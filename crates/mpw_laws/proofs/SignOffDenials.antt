@@ -1,4 +1,4 @@
--- Denials in the rows of the sign-off.
+-- Denials in the decision tables of the sign-off.
 use Rattle.std.proofs.Common.{◌≡◌, ◌∙◌, ℕ, Bool, true, false, cond, ◌⊎◌, inl, inr, List, [], ◌∷◌, Option, None, Some, Result, Ok, Err, is_some, refl, sym, ap, subst}
 use Rattle.mpw_laws.proofs.RowParts.{parts, denial_ended}
 use Rattle.mpw_markers.specs.Laws.{PlacesAreOfKeys}
@@ -82,7 +82,7 @@ by_fault : (told : Result (Unit {0}) WaiverFault) (why : Denial)
 by_fault (Ok x) why e = absurd cc
 by_fault (Err f) why e = (f, refl, let same : ending_of f ≡ ending.Denied why = cc in same)
 
--- ---- rows
+-- ---- decision tables
 
 user_done : (by : ByUser) (why : Denial)
     → ◌≡◌ {A = Result ByUser Ending} (Ok by) (Err (ending.Denied why)) → ⊥
@@ -203,7 +203,7 @@ listing_ended waivers (Err other) why e = ap (λ x. Err x) (denial_ended other w
 
 -- ---- permissions
 
--- no session: that is no lack of a permission
+-- a missing session is not a missing permission
 session_denies : (test : Bool) (operation : Operation) (object : Object)
     → cond test (Ok (tt {0})) (Err (ending.Denied denial.Session))
     ≡ Err (denied operation object)
@@ -286,7 +286,7 @@ separates policy connection operation object why e s =
     (permits policy connection operation object)
     operation object why e s
 
--- a denial by separation is of a request to sign
+-- a denial by separation is the reply to a request to sign
 record IsOfSigning (policy : Policy) (run : Run) (waivers : List (Option Waiver)) (connection : ℕ)
     (request : SignOffRequest) (why : Denial) : Type 0 where
   name : MarkerName
@@ -332,7 +332,7 @@ asker_cause fault.NoWaiver e = absurd cc
 asker_cause (fault.Submitter other) e = absurd cc
 asker_cause fault.Asker e = refl
 
--- the waiver's own row ends in the fault that the denial tells of
+-- the waiver's own test ends in the fault that the denial shows
 signed_fails : (policy : Policy) (run : Run) (waivers : List (Option Waiver)) (connection : ℕ)
     (name : MarkerName) (why : Denial) (k : IsKeptApart policy run waivers connection name why)
     (cause : WaiverFault) → k.cause ≡ cause

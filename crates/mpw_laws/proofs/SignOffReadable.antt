@@ -1,4 +1,4 @@
--- What the requests of the sign-off list may be read.
+-- The sign-off requests list only what may be read.
 use Rattle.std.proofs.Common.{◌≡◌, ◌==◌, ℕ, Bool, true, false, if◌then◌else◌, List, [], ◌∷◌, Option, None, Some, Result, Ok, Err, refl, subst}
 use Rattle.std.specs.Prelude.{All}
 use Rattle.std.proofs.lemmas.List.Elements.{All-nil, All-cons, All-map}
@@ -49,7 +49,7 @@ module _ (policy : Policy) (connection : ℕ) where
   of_signed waivers (Ok by) lines e = let same : [] ≡ lines = cc in subst Readable same none
   of_signed waivers (Err why) lines e = absurd (ended_not_ok why lines e)
 
-  -- what is listed is the row's
+  -- the listed lines are those of the decision table
   of_listed : (waivers : List (Option Waiver)) (row : Result (List Listed) Ending)
       (lines : List Listed) → ((told : List Listed) → row ≡ Ok told → Readable told)
       → (listing_outcome waivers row).reply ≡ reply.Ok lines → Readable lines

@@ -1,4 +1,4 @@
--- What the rows of asking and signing say, told or denied.
+-- The tests of asking and signing, passed or denied.
 use Rattle.std.proofs.Common.{◌≡◌, ℕ, Bool, true, false, cond, List, Option, None, Some, Ok, Err, refl, sym, ap, ◌∙◌, true≢false}
 use Rattle.std.specs.Prelude.{Result, is_some, ◌≢◌}
 use Rattle.std.specs.Ordering.{is_lt}
@@ -20,7 +20,7 @@ Told = Result (Unit {0}) WaiverFault
 abbrev passed : Told
 passed = Ok tt
 
--- ---- what is left where a test passes
+-- ---- the waivers if a test passes
 
 pub passed_is : (told : Told) (waivers after : List (Option Waiver))
     → if_passed told waivers ≡ Ok after
@@ -75,7 +75,7 @@ passes-from shelf met user o p =
     ∙ ap (λ l. separation_test l p.waiver.asker user) p.least
     ∙ ap (λ b. cond b (Err Asker) passed) p.asker
 
--- a denial comes of the test of separation
+-- a denial comes from the test of separation
 denied : (shelf : List Submission) (met user : List ℕ) (o : Option Waiver) (fault : WaiverFault)
     → sign_test shelf met user o ≡ Err fault → fault ≢ NoWaiver → fault ≢ Known
     → (waiver : Waiver) × (o ≡ Some waiver)

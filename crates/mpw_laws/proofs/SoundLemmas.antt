@@ -1,4 +1,5 @@
--- What each request of the policy keeps, every history keeps: active roles are authorized, and the sets of separation hold.
+-- What each policy request preserves, and so every history: active roles are authorized, and the sets of
+-- separation hold.
 use Rattle.std.proofs.Common.{ℕ, List}
 use Rattle.mpw_rbac.specs.Sound.{Sound}
 use Rattle.mpw_rbac.specs.Laws.{KeepsSound}

@@ -1,4 +1,4 @@
--- How a run goes on, what leaves it as it was, and what a call for a job changes.
+-- How a run goes on, what leaves it unchanged, and what a call for a job changes.
 use Rattle.std.proofs.Common.{◌≡◌, ℕ, zero, suc, true, ◌⊎◌, inl, inr, List, [], ◌∷◌, map, Option, Some, None, refl, sym, ap, ◌∙◌, arith}
 use Rattle.std.specs.Prelude.{◌==◌, slice_get, slice_set, nat_lt}
 use Rattle.std.proofs.lemmas.Bool.{false≢true}
@@ -37,7 +37,7 @@ cut_goes run answer (Cutting planned) e =
 cut_goes run answer (Checking c) e = GoesOn.stays refl refl
 cut_goes run answer (Finished f) e = GoesOn.stays refl refl
 
--- with the answer of a tile it may be finished too
+-- after the answer of a tile it may also be finished
 abbrev Comes : Run → Outcome → Type 0
 Comes run o = GoesOn run o ⊎ IsFinishedNow run o
 
@@ -80,7 +80,7 @@ goes_on = record {
       (λ t. tile_comes run answer run.phase refl) (λ f. inl (GoesOn.stays refl refl));
 }
 
--- ---- what is not kept
+-- ---- what is not accepted
 
 on_stays : (run : Run) (o : Outcome) → GoesOn run o → leaves o.reply ≡ true → o.run ≡ run
 on_stays run o (GoesOn.stays same going) e = same

@@ -1,4 +1,4 @@
--- What is true of both outcomes of a test is true of the one that it gives.
+-- What holds of both outcomes of a test holds of the one that it gives.
 use Rattle.std.proofs.Common.{◌≡◌, Bool, true, false, refl}
 use Rattle.std.specs.Prelude.{if◌then◌else◌}
 use Rattle.mpw_run.specs.Step.{Outcome}

@@ -1,4 +1,4 @@
--- A run whose tiles are checked goes on from tile to tile until it is over.
+-- A run whose tiles are being checked goes on from tile to tile until it is over.
 use Rattle.std.proofs.Common.{◌≡◌, ◌∙◌, ◌<◌, ◌≤◌, ◌⊎◌, ℕ, zero, suc, ◌+◌, Bool, true, false, List, [], ◌∷◌, map, drop, get_or, length, Option, Some, None, refl, sym, ap, subst, arith, inl, inr, length-set}
 use Rattle.std.specs.Prelude.{◌==◌, slice_get, slice_set, if◌then◌else◌}
 use Rattle.std.specs.List.{range_with_len}

@@ -1,4 +1,4 @@
--- The step leaves the trail, and each request stands behind those before it.
+-- A step leaves the earlier trail unchanged, and each request comes after those before it.
 use Rattle.std.proofs.Common.{◌≡◌, ℕ, Bool, true, false, cond, List, ◌++◌, refl, ap, ◌∙◌}
 use Rattle.std.specs.Prelude.{◌&&◌, not}
 use Rattle.mpw_permissions.specs.declared.permission.Object.TheVariants as object

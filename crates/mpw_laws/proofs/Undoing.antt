@@ -1,4 +1,4 @@
--- Taking away what was placed, and its version.
+-- Removing a placement, and its version.
 use Rattle.std.proofs.Common.{◌≡◌, ℕ, Bool, true, false, not, ◌||◌, List, [], ◌∷◌, ◌++◌, Some, None, Ok, refl, sym, ap, subst, ◌∙◌, append-nil}
 use Rattle.std.specs.Prelude.{filter, slice_get}
 use Rattle.std.specs.List.{list_any, find}
@@ -16,7 +16,7 @@ use Rattle.mpw_placings.proofs.Tests.{is_at_itself}
 
 -- ---- lists
 
--- where none passes a test, those that don't are all of them, and none is found
+-- if no item passes a test, those that don't are all of them, and none is found
 all_left : {X : Type 0} (p : X → Bool) (xs : List X) → list_any p xs ≡ false
     → filter (λ x. not (p x)) xs ≡ xs
 all_left p [] e = refl

@@ -1,4 +1,4 @@
--- Denials of a permission in the rows over the wafer.
+-- Denials of a permission in the decision tables of the wafer.
 use Rattle.std.proofs.Common.{◌≡◌, ℕ, false, List, Result, Ok, Err, inl, inr, ap}
 use Rattle.mpw_laws.proofs.RowParts.{parts, denial_ended}
 use Rattle.mpw_geom.specs.declared.placing.Placing.{Placing}

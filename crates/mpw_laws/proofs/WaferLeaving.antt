@@ -1,4 +1,4 @@
--- What a request that is denied or refused leaves of the wafer, and the version that is told.
+-- What a denied or refused request leaves of the wafer, and the version in the reply.
 use Rattle.std.proofs.Common.{◌≡◌, ℕ, List, Result, Ok, Err, map, refl, sym, ap, ◌∙◌}
 use Rattle.mpw_geom.specs.declared.placing.Placing.{Placing}
 use Rattle.mpw_deck.specs.Decks.{Deck}

@@ -1,5 +1,5 @@
--- What holds of a run's phase with its waivers, where each way in which a request or an event leaves them keeps it,
--- holds in every state.
+-- What holds of a run's phase with its waivers in every state, if each kind of request and event preserves
+-- it.
 use Rattle.std.proofs.Common.{ℕ, Bool, true, false, List, [], length, Option, None, Some, Result, Ok, Err}
 use Rattle.std.specs.Prelude.{◌==◌, slice_get, slice_set, nat_lt, if◌then◌else◌}
 use Rattle.mpw_tiles.specs.Plan.{tiles}
@@ -52,7 +52,7 @@ module _
     abbrev Fit : State → Type 0
     Fit s = R s.run.phase s.waivers
 
-    -- ---- requests over the run
+    -- ---- requests of the run
 
     waived-begun : (s : State) (row : Result Planned Ending) → Fit s
         → Fit (over_run s (checking.begun_outcome s.run row)).state

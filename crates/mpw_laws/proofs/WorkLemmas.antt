@@ -1,4 +1,4 @@
--- A desk on which a run is worked off goes on by calls.
+-- Executing a run adds calls to a desk's history.
 use Rattle.std.proofs.Common.{◌&&◌, Bool, true, false, List, Option, None, Some, sym, subst}
 use Rattle.mpw_events.specs.History.{KeptDesk, IsHandled}
 use Rattle.mpw_events.specs.GoingOn.{GoesOnTo}

@@ -1,4 +1,4 @@
--- Laws of the requests over the checking run.
+-- Laws of the requests of the run.
 use Rattle.std.specs.Prelude.{◌≡◌, false, List, All}
 use Rattle.mpw_permissions.specs.declared.permission.Operation.{Operation}
 use Rattle.mpw_permissions.specs.declared.permission.Object.{Object}
@@ -17,17 +17,17 @@ RunsDenyWhatIsLacked = EachOutcome (λ policy run connection outcome.
     → outcome.reply ≡ reply.Denied (denial.Permission operation object)
     → permits policy connection operation object ≡ false)
 
--- What is denied or refused leaves the run.
+-- A denial or a refusal leaves the run unchanged.
 abbrev pub NegativesLeaveTheRun : Type 0
 NegativesLeaveTheRun = EachOutcome (λ policy run connection outcome.
     IsNegative outcome.reply → outcome.run ≡ run)
 
--- It is no change that has to be kept.
+-- It is no change that must be stored.
 abbrev pub NegativesAreNoChange : Type 0
 NegativesAreNoChange = EachOutcome (λ policy run connection outcome.
     IsNegative outcome.reply → outcome.changes ≡ false)
 
--- What is listed of markers names only cells that the session may read.
+-- The lines of `markers` name only cells that the session may read.
 abbrev pub MarkersAreOfReadable : Type 0
 MarkersAreOfReadable = EachOutcome (λ policy run connection outcome.
     (lines : List Listed) → outcome.reply ≡ reply.Ok lines

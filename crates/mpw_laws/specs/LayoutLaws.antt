@@ -1,4 +1,4 @@
--- Laws of the requests over the shelf.
+-- Laws of the requests of the layouts.
 use Rattle.std.specs.Prelude.{◌≡◌, ℕ, true, false, List, All}
 use Rattle.mpw_permissions.specs.declared.permission.Operation.{Operation}
 use Rattle.mpw_permissions.specs.declared.permission.Object.{Object}
@@ -21,21 +21,21 @@ LayoutsDenyWhatIsLacked = (policy : Policy) (shelf : List Submission) (connectio
     → (outcome_of policy shelf connection request).reply ≡ reply.Denied
     (denial.Permission operation object) → permits policy connection operation object ≡ false
 
--- Each line that tells of a cell, or shows a shape of one, is of a cell that the session may read.
+-- Each line that names a cell, or shows a shape of one, is of a cell that the session may read.
 abbrev pub LayoutsAreOfReadable : Type 0
 LayoutsAreOfReadable = (policy : Policy) (shelf : List Submission) (connection : ℕ)
     (request : LayoutRequest) (lines : List Listed)
     → (outcome_of policy shelf connection request).reply ≡ reply.Ok lines
     → All (IsOfReadable policy connection) lines
 
--- What is denied or refused leaves the shelf.
+-- A denial or a refusal leaves the shelf unchanged.
 abbrev pub NegativesLeaveTheShelf : Type 0
 NegativesLeaveTheShelf =
     (policy : Policy) (shelf : List Submission) (connection : ℕ) (request : LayoutRequest)
     → IsNegative (outcome_of policy shelf connection request).reply
     → (outcome_of policy shelf connection request).shelf ≡ shelf
 
--- A line of a shape, which is a boundary or a path.
+-- A line with a shape, which is a boundary or a path.
 abbrev pub IsShapeLine : Listed → Type 0
 IsShapeLine (stored line) = ⊥
 IsShapeLine (shape cell version placing element) = is_shape element ≡ true
@@ -43,7 +43,7 @@ IsShapeLine (marker rule key cells) = ⊥
 IsShapeLine (masked rule number) = ⊥
 IsShapeLine (entry number e) = ⊥
 
--- Each line of a reply to `shapes` is of a boundary or of a path.
+-- Each line of a reply to `shapes` has a boundary or a path.
 abbrev pub ShapesAreNoReferences : Type 0
 ShapesAreNoReferences =
     (policy : Policy) (shelf : List Submission) (connection : ℕ) (cell : List ℕ)

@@ -16,7 +16,7 @@ BooksAreOfReadable =
     → All (IsOfReadable policy connection)
     (book_lines rules shelf (seen_by policy connection shelf) book)
 
--- A marker that meets a submission is not both shown in full and hidden.
+-- A marker that touches a submission is not both full and hidden.
 abbrev pub FullAreNotHidden : Type 0
 FullAreNotHidden =
     (seen : List Bool) (m : Marker) → m.met ≢ [] → is_full seen m ≡ true → is_hidden seen m ≡ false

@@ -1,4 +1,4 @@
--- What each request needs of the connection that asks it, if it is to be accepted.
+-- What each request needs of its connection to be accepted.
 use Rattle.std.specs.Prelude.{◌≡◌, ℕ, true, is_some}
 use Rattle.mpw_permissions.specs.declared.permission.Object.{Object}
 use Rattle.mpw_permissions.specs.declared.permission.Object.TheVariants.{Cell, Desk}
@@ -24,14 +24,15 @@ pub data Need : Type 0 where
   session : Need
   permission : Operation → Object → Need
 
--- The connection has what is needed.
+-- The connection has what the request needs.
 abbrev pub Has : Policy → ℕ → Need → Type 0
 Has policy connection nothing = Unit {0}
 Has policy connection session = is_some (session_of policy connection) ≡ true
 Has policy connection (permission operation object) =
     permits policy connection operation object ≡ true
 
--- Who administers the desk needs the permission for that; `open` needs nothing, and what is asked of one's own session that session.
+-- A request that administers the desk needs the permission for it. `open` needs nothing, and a request about
+-- one's own session needs that session.
 abbrev pub policy_need : PolicyRequest → Need
 policy_need (Open user digest) = nothing
 policy_need Close = session

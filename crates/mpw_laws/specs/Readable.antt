@@ -1,4 +1,4 @@
--- Which lines of a reply tell of a cell.
+-- Which lines of a reply name a cell.
 use Rattle.std.specs.Prelude.{◌≡◌, ℕ, true, ⊤, All}
 use Rattle.mpw_permissions.specs.declared.permission.Operation.TheVariants.{Read}
 use Rattle.mpw_permissions.specs.declared.permission.Object.TheVariants as object
@@ -7,8 +7,9 @@ use Rattle.mpw_replies.specs.declared.reply.Line.TheVariants.{User, Active, Auth
 use Rattle.mpw_replies.specs.declared.reply.Line.TheVariants as line
 use Rattle.mpw_replies.specs.Listing.{Listed, stored, shape, marker, masked, entry}
 
--- The line of a cell or of a shape is of a cell that the session may read, and so is each cell that the line of a marker names. The
--- other lines of what a session sees name none; a request of the trail is told by a permission of its own.
+-- The line of a cell or of a shape is of a cell that the session may read, and so is each cell that the line
+-- of a marker names. The other lines that a session sees name none. A request of the trail has its own
+-- permission.
 abbrev pub IsOfReadable : Policy → ℕ → Listed → Type 0
 IsOfReadable policy connection (stored (line.Cell cell version submitter)) =
     permits policy connection Read (object.Cell cell) ≡ true

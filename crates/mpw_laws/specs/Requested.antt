@@ -1,4 +1,4 @@
--- What requests of the policy ask for, as laws on their replies speak of it.
+-- What policy requests ask for, as the laws of their replies need it.
 use Rattle.std.specs.Prelude.{ℕ, Bool, true, false, [], ◌∷◌, ◌++◌}
 use Rattle.mpw_roles.specs.Hierarchy.{with_pair}
 use Rattle.mpw_rbac.specs.Policy.{Policy, assigned_roles}
@@ -27,7 +27,8 @@ is_administration (Dsd set) = true
 is_administration (UnSsd name) = true
 is_administration (UnDsd name) = true
 
--- The policy that a request asks for, where its row tests the sets of separation of duty. No other row tells a set.
+-- The policy that a request asks for, if its decision table tests the sets of separation of duty. No other
+-- table's denial names a set.
 abbrev pub requested_policy : Policy → ℕ → PolicyRequest → Policy
 requested_policy policy connection (Open user digest) = policy
 requested_policy policy connection Close = policy

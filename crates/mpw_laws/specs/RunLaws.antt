@@ -1,4 +1,4 @@
--- What follows for a run from its events.
+-- What follows from a run's events.
 use Rattle.std.specs.Prelude.{[], ◌≡◌, ◌↔◌, ◌<◌, ◌≤◌, ◌==◌, ◌&&◌, ◌||◌, ◌⊎◌, ℕ, Bool, true, false, List, ◌∷◌, map, Option, Some, None, slice_get}
 use Rattle.mpw_tiles.specs.Plan.{tiles}
 use Rattle.mpw_job.specs.Jobs.{CutWindows, FoundMarkers, IsCutAnswer, IsTileAnswer}
@@ -12,7 +12,7 @@ use Rattle.mpw_run.specs.Laws.{finishes}
 
 -- ---- events
 
--- What comes to a run.
+-- An event of a run.
 pub data Event : Type 0 where
   start : Planned → Event
   cancel : Event
@@ -20,7 +20,7 @@ pub data Event : Type 0 where
   cut : CutWindows → Event
   tile : FoundMarkers → Event
 
--- What an event is answered, and the run that it leaves.
+-- The reply to an event, and the run after it.
 abbrev pub step : Run → Event → Outcome
 step run (Event.start planned) = record { reply = reply.Kept; run = started run planned }
 step run Event.cancel = record { reply = reply.Kept; run = cancelled run }
@@ -28,7 +28,7 @@ step run Event.take = taken run
 step run (Event.cut answer) = cut_answered run answer
 step run (Event.tile answer) = tile_answered run answer
 
--- What is true of an event by its type: plans are their snapshots', and answers are right.
+-- What holds of an event by its type: plans are those of their snapshots, and answers are right.
 abbrev pub IsRight : Event → Type 0
 IsRight (Event.start planned) = IsPlanned planned
 IsRight Event.cancel = Unit {0}
@@ -40,18 +40,18 @@ abbrev pub AreRight : List Event → Type 0
 AreRight [] = Unit {0}
 AreRight (event ∷ before) = IsRight event × AreRight before
 
--- The run after events, of which the last stands first.
+-- The run after events. The list begins with the last event.
 abbrev pub run_after : List Event → Run
 run_after [] = new_run
 run_after (event ∷ before) = (step (run_after before) event).run
 
--- What is true of runs holds after any events.
+-- Every run is sound after any events.
 abbrev pub EachRunKeeps : Type 0
 EachRunKeeps = (events : List Event) → AreRight events → IsRun (run_after events)
 
--- ---- whose answers were kept
+-- ---- whose answers were accepted
 
--- The answer was kept: `Kept`, or `Finished` with the last one.
+-- The answer was accepted: the reply is `Kept`, or `Finished` for the last one.
 abbrev pub is_kept : RunReply → Bool
 is_kept (reply.Taken job) = false
 is_kept reply.NoJob = false
@@ -61,7 +61,7 @@ is_kept reply.Stranger = false
 is_kept reply.Double = false
 is_kept reply.OldRun = false
 
--- What the run that goes on looks at: the last start's, where no cancel came behind it.
+-- What the current run checks: the plan of the last start, if no cancel followed it.
 abbrev pub looked_at : List Event → Option Planned
 looked_at [] = None
 looked_at (Event.start planned ∷ before) = Some planned
@@ -70,7 +70,7 @@ looked_at (Event.take ∷ before) = looked_at before
 looked_at (Event.cut answer ∷ before) = looked_at before
 looked_at (Event.tile answer ∷ before) = looked_at before
 
--- Since the run began, an answer of the tile was kept.
+-- Since the run began, an answer of the tile was accepted.
 abbrev pub was_kept : List Event → ℕ → Bool
 was_kept [] number = false
 was_kept (Event.start planned ∷ before) number = false
@@ -87,21 +87,21 @@ is_finished (Cutting planned) = false
 is_finished (Checking c) = false
 is_finished (Finished f) = true
 
--- A run goes on, and for each of its tiles an answer was kept.
+-- A run is going on or finished, and for each of its tiles an answer was accepted.
 pub record AllWereKept (events : List Event) : Type 0 where
   pub planned : Planned
   pub goes_on : looked_at events ≡ Some planned
   pub all : (number : ℕ) → number < tiles planned.plan → was_kept events number ≡ true
 
--- A run is finished exactly once an answer of each of its tiles was kept.
+-- A run is finished exactly if an answer of each of its tiles was accepted.
 abbrev pub FinishedOnceAllWereKept : Type 0
 FinishedOnceAllWereKept =
     (events : List Event) → AreRight events
     → (is_finished (run_after events).phase ≡ true) ↔ AllWereKept events
 
--- ---- what leaves a run
+-- ---- what leaves a run unchanged
 
--- The replies that leave a run as it was.
+-- The replies that leave a run unchanged.
 abbrev pub leaves : RunReply → Bool
 leaves (reply.Taken job) = false
 leaves reply.NoJob = true
@@ -111,12 +111,12 @@ leaves reply.Stranger = true
 leaves reply.Double = true
 leaves reply.OldRun = true
 
--- What is not kept, and a call to which no job is handed out, leaves the run as it was.
+-- A result that is not accepted leaves the run unchanged. So does a call that gets no job.
 abbrev pub UnkeptLeavesTheRun : Type 0
 UnkeptLeavesTheRun =
     (run : Run) (event : Event) → leaves (step run event).reply ≡ true → (step run event).run ≡ run
 
--- A run is as it was, or it goes on and is not finished, neither before nor behind.
+-- A run is unchanged, or it goes on and is not finished, neither before nor after.
 pub data GoesOn (run : Run) (o : Outcome) : Type 0 where
   stays : o.run ≡ run → finishes o.reply ≡ false → GoesOn run o
   moves : o.run.number ≡ run.number → is_finished run.phase ≡ false
@@ -130,7 +130,8 @@ pub record IsFinishedNow (run : Run) (o : Outcome) : Type 0 where
   pub behind : is_finished o.run.phase ≡ true
   pub told : o.reply ≡ reply.Finished
 
--- A run goes on by a call for a job and by the windows of a cut, and it goes on or is finished by the markers of a tile.
+-- A run goes on after a call for a job and after the windows of a cut. After the markers of a tile it goes on
+-- or is finished.
 pub record RunsGoOnOrAreFinished : Type 0 where
   pub take : (run : Run) → GoesOn run (taken run)
   pub cut : (run : Run) (answer : CutWindows) → GoesOn run (cut_answered run answer)
@@ -139,7 +140,7 @@ pub record RunsGoOnOrAreFinished : Type 0 where
 
 -- ---- what a call for a job changes
 
--- A phase but for how often its tiles were handed out.
+-- A tile without the number of times that it was handed out.
 abbrev pub uncounted : Tile → Tile
 uncounted x = record { taken = 0; answer = x.answer }
 
@@ -154,7 +155,7 @@ pub record TakingCountsAlone (run : Run) : Type 0 where
   pub number : (taken run).run.number ≡ run.number
   pub phase : without_counts (taken run).run.phase ≡ without_counts run.phase
 
--- No unanswered tile was handed out fewer times, and none before it as few times.
+-- No unanswered tile was handed out fewer times, and each before it was handed out more often.
 pub record IsNext (tiles : List Tile) (number : ℕ) (x : Tile) : Type 0 where
   pub at : slice_get tiles number ≡ Some x
   pub unanswered : x.answer ≡ None
@@ -163,7 +164,7 @@ pub record IsNext (tiles : List Tile) (number : ℕ) (x : Tile) : Type 0 where
   pub least : (k : ℕ) (other : Tile) → slice_get tiles k ≡ Some other → other.answer ≡ None
       → k < number → x.taken < other.taken
 
--- What is handed out next is that tile, and nothing where each tile is answered.
+-- The tile that is handed out next is that one, and there is none if each tile is answered.
 pub record NextIsFewest : Type 0 where
   pub some : (tiles : List Tile) (o : Offer) → next_from 0 tiles ≡ Some o
       → IsNext tiles o.number o.tile

@@ -1,4 +1,4 @@
--- Laws of the requests that sign a run off.
+-- Laws of the sign-off requests.
 use Rattle.std.specs.Prelude.{[], ◌≡◌, ◌<◌, ℕ, true, false, List, ◌∷◌, length, slice_get, All, Option, Some}
 use Rattle.std.specs.Ordering.{is_lt}
 use Rattle.mpw_geom.specs.Names.{name_cmp}
@@ -31,9 +31,9 @@ use Rattle.mpw_signoff.specs.Named.{name_for}
 use Rattle.mpw_signoff.specs.SigningOff.{outcome_of}
 use Rattle.mpw_signoff.specs.WaiverLines.{waiver_line}
 
--- ---- markers that are shown
+-- ---- full markers
 
--- A marker of the book that stands at a place, is named so, and is shown in full to the session.
+-- A marker of the book at an index, which has this name and is full for the session.
 pub record IsShownInFull (policy : Policy) (connection : ℕ) (f : Checked) (name : MarkerName)
     (place : ℕ)
     (marker : Marker) : Type 0 where
@@ -43,7 +43,7 @@ pub record IsShownInFull (policy : Policy) (connection : ℕ) (f : Checked) (nam
   pub named : name ≡ name_for rule.name marker
   pub full : is_full (seen_by policy connection f.planned.snapshot.shelf) marker ≡ true
 
--- A request that was accepted is of such a marker, whose waiver was asked for by the session's user.
+-- An accepted request is of such a marker, and the session's user asked for its waiver.
 pub record IsRightlyAsked (policy : Policy) (run : Run) (waivers : List (Option Waiver))
     (connection : ℕ)
     (name : MarkerName) (after : List (Option Waiver)) : Type 0 where
@@ -54,7 +54,8 @@ pub record IsRightlyAsked (policy : Policy) (run : Run) (waivers : List (Option 
   pub shown : IsShownInFull policy connection checked name place marker
   pub left : after ≡ with_asker waivers place (user_of policy connection)
 
--- Or it was signed by the session's user, who may sign it: who neither asked for it nor submitted what the marker meets.
+-- Or the session's user signed it, and may do so: the user neither asked for it nor submitted what the marker
+-- touches.
 pub record IsRightlySigned (policy : Policy) (run : Run) (waivers : List (Option Waiver))
     (connection : ℕ)
     (name : MarkerName) (after : List (Option Waiver)) : Type 0 where
@@ -67,7 +68,7 @@ pub record IsRightlySigned (policy : Policy) (run : Run) (waivers : List (Option
       (user_of policy connection)
   pub left : after ≡ with_signer waivers place (user_of policy connection)
 
--- A line of a listing tells the waiver of such a marker.
+-- A line of a listing has the waiver of such a marker.
 pub record IsTold (policy : Policy) (connection : ℕ) (f : Checked) (waivers : List (Option Waiver))
     (listed : Listed) : Type 0 where
   pub place : ℕ
@@ -89,15 +90,15 @@ AcceptedLeaves request leaves =
     → leaves policy run waivers connection name
     (outcome_of policy wafer run waivers connection (request name)).waivers
 
--- What is accepted to be waived is shown.
+-- A marker whose waiver is asked for is full.
 abbrev pub AskedAreShown : Type 0
 AskedAreShown = AcceptedLeaves ask.Waive IsRightlyAsked
 
--- What is accepted to be signed is shown, and signed by one who stands apart.
+-- A marker whose waiver is signed is full, and its signer is apart from it.
 abbrev pub SignersStandApart : Type 0
 SignersStandApart = AcceptedLeaves ask.Sign IsRightlySigned
 
--- What is listed is shown.
+-- A marker that is listed is full.
 abbrev pub ToldAreShown : Type 0
 ToldAreShown =
     (policy : Policy) (wafer : Wafer) (run : Run) (waivers : List (Option Waiver)) (connection : ℕ)
@@ -117,7 +118,8 @@ SignOffsDenyWhatIsLacked =
     (denial.Permission operation object)
     → permits policy connection operation object ≡ false
 
--- The user submitted a version of the cell that the marker meets, and none of a lesser cell.
+-- The user submitted a version of the cell that the marker touches, and none of an earlier cell in
+-- alphabetical order.
 pub record IsSubmitter (policy : Policy) (run : Run) (connection : ℕ) (name : MarkerName)
     (cell : List ℕ) : Type 0 where
   pub checked : Checked
@@ -142,7 +144,7 @@ pub record IsAsker (policy : Policy) (run : Run) (waivers : List (Option Waiver)
   pub is : waiver_at waivers place ≡ Some waiver
   pub asker : waiver.asker ≡ user_of policy connection
 
--- Only who signs is denied as a submitter or as the asker, and is one.
+-- Only a request to sign is denied because the user is a submitter or the asker, and the user is one.
 abbrev pub SubmittersAreTold : Type 0
 SubmittersAreTold =
     (policy : Policy) (wafer : Wafer) (run : Run) (waivers : List (Option Waiver)) (connection : ℕ)
@@ -158,7 +160,7 @@ AskersAreTold =
     → (outcome_of policy wafer run waivers connection request).reply ≡ reply.Denied denial.Asker
     → (name : MarkerName) × (request ≡ ask.Sign name) × IsAsker policy run waivers connection name
 
--- What is denied or refused leaves the waivers.
+-- A denial or a refusal leaves the waivers unchanged.
 abbrev pub NegativesLeaveTheWaivers : Type 0
 NegativesLeaveTheWaivers =
     (policy : Policy) (wafer : Wafer) (run : Run) (waivers : List (Option Waiver)) (connection : ℕ)
@@ -166,7 +168,7 @@ NegativesLeaveTheWaivers =
     → IsNegative (outcome_of policy wafer run waivers connection request).reply
     → (outcome_of policy wafer run waivers connection request).waivers ≡ waivers
 
--- A request leaves the number of places.
+-- A request leaves the number of entries unchanged.
 abbrev pub PlacesAreLeft : Type 0
 PlacesAreLeft =
     (policy : Policy) (wafer : Wafer) (run : Run) (waivers : List (Option Waiver)) (connection : ℕ)
@@ -175,8 +177,8 @@ PlacesAreLeft =
 
 -- ---- verdicts and lines
 
--- The run is finished, the deck and the placings are those that it looked at, and where each marker of its book has a place, each has a
--- signed waiver.
+-- The run is finished, and the deck and the placings are those that it checked. If each marker of its book
+-- has an entry, each has a signed waiver.
 pub record IsSignedOff (wafer : Wafer) (run : Run) (waivers : List (Option Waiver)) : Type 0 where
   pub checked : Checked
   pub finished : run.phase ≡ Finished checked
@@ -185,7 +187,7 @@ pub record IsSignedOff (wafer : Wafer) (run : Run) (waivers : List (Option Waive
   pub signed : length waivers ≡ length checked.book → (place : ℕ) → place < length checked.book
       → is_signed (waiver_at waivers place) ≡ true
 
--- A run that is told to be clean is signed off.
+-- A run with the verdict `clean` is signed off.
 abbrev pub CleanIsSignedOff : Type 0
 CleanIsSignedOff =
     (policy : Policy) (wafer : Wafer) (run : Run) (waivers : List (Option Waiver)) (connection : ℕ)
@@ -193,7 +195,8 @@ CleanIsSignedOff =
     ≡ reply.Ok (stored line.Clean ∷ [])
     → IsSignedOff wafer run waivers
 
--- A run that is finished, with the deck and the placings that it looked at and with all waivers signed, is told to be clean.
+-- A finished run, with the deck and the placings that it checked and with all waivers signed, has the verdict
+-- `clean`.
 abbrev pub SignedOffIsClean : Type 0
 SignedOffIsClean =
     (policy : Policy) (wafer : Wafer) (run : Run) (waivers : List (Option Waiver)) (connection : ℕ)
@@ -204,7 +207,7 @@ SignedOffIsClean =
     → (outcome_of policy wafer run waivers connection ask.Verdict).reply ≡ reply.Ok lines
     → lines ≡ stored line.Clean ∷ []
 
--- What is listed names only cells that the session may read.
+-- The lines of `waivers` name only cells that the session may read.
 abbrev pub SignOffLinesAreOfReadable : Type 0
 SignOffLinesAreOfReadable =
     (policy : Policy) (wafer : Wafer) (run : Run) (waivers : List (Option Waiver)) (connection : ℕ)

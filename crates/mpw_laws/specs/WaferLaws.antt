@@ -1,4 +1,4 @@
--- Laws of the requests over the wafer.
+-- Laws of the requests of the wafer.
 use Rattle.std.specs.Prelude.{[], ◌≡◌, ℕ, false, List, ◌∷◌, slice_get, Some}
 use Rattle.mpw_geom.specs.declared.placing.Placing.{Placing}
 use Rattle.mpw_permissions.specs.declared.permission.Operation.{Operation}
@@ -26,7 +26,7 @@ WafersDenyWhatIsLacked =
     (denial.Permission operation object)
     → permits policy connection operation object ≡ false
 
--- What is denied or refused leaves the wafer.
+-- A denial or a refusal leaves the wafer unchanged.
 abbrev pub NegativesLeaveTheWafer : Type 0
 NegativesLeaveTheWafer =
     (policy : Policy) (shelf : List Submission) (wafer : Wafer) (connection : ℕ)
@@ -34,7 +34,7 @@ NegativesLeaveTheWafer =
     → IsNegative (outcome_of policy shelf wafer connection request).reply
     → (outcome_of policy shelf wafer connection request).wafer ≡ wafer
 
--- The cell has a present submission, and its version is told.
+-- The cell has a present submission, and the reply has its version.
 pub record TellsVersion (shelf : List Submission) (cell : List ℕ) (lines : List Listed) :
     Type 0 where
   pub number : ℕ

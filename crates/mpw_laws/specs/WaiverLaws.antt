@@ -1,4 +1,4 @@
--- Laws of waivers: who signed, why others are denied, and what is so after any requests.
+-- Laws of waivers: who signed, why others are denied, and what holds after any requests.
 use Rattle.std.specs.Prelude.{◌≡◌, ◌≢◌, ◌↔◌, ◌⊎◌, ℕ, true, false, List, length, slice_get, slice_set, All, Contains, Option, None, Some, Ok, Err}
 use Rattle.std.specs.Ordering.{is_lt}
 use Rattle.mpw_geom.specs.Names.{name_cmp}
@@ -8,23 +8,23 @@ use Rattle.mpw_waiver.specs.declared.waiver.Waiver.{Waiver}
 use Rattle.mpw_waiver.specs.Waivers.{none_asked, waiver_at, is_signed, unsigned, with_signer}
 use Rattle.mpw_laws.specs.Signing.{asked, signed}
 
--- ---- places
+-- ---- entries
 
--- A waiver that stands at a place behind one that was put was put there, or it stood there before.
+-- After one waiver was put, a waiver at an index was put there, or was there before.
 abbrev pub PutOrBefore : Type 0
 PutOrBefore =
     (waivers : List (Option Waiver)) (at place : ℕ) (o : Option Waiver) (waiver : Waiver)
     → waiver_at (slice_set waivers at o) place ≡ Some waiver
     → ((at ≡ place) × (o ≡ Some waiver)) ⊎ (waiver_at waivers place ≡ Some waiver)
 
--- None stands anywhere where none was asked for.
+-- If none was asked for, there is none.
 abbrev pub NoneAtFirst : Type 0
 NoneAtFirst = (size place : ℕ) (waiver : Waiver) → waiver_at (none_asked size) place ≡ Some waiver
     → ⊥
 
 -- ---- one request
 
--- One of the met submissions is of that cell, and the user submitted it.
+-- One of the touched submissions belongs to that cell, and the user submitted it.
 pub record IsOwn (shelf : List Submission) (met : List ℕ) (user cell : List ℕ) : Type 0 where
   pub number : ℕ
   pub submission : Submission
@@ -33,13 +33,13 @@ pub record IsOwn (shelf : List Submission) (met : List ℕ) (user cell : List �
   pub submitter : submission.submitter ≡ user
   pub of_cell : submission.cell ≡ cell
 
--- The user neither asked for the waiver nor submitted one of the met submissions.
+-- The user neither asked for the waiver nor submitted one of the touched submissions.
 pub record IsApart (shelf : List Submission) (met : List ℕ) (user : List ℕ) (waiver : Waiver) :
     Type 0 where
   pub asker : waiver.asker ≢ user
   pub submitter : (cell : List ℕ) → IsOwn shelf met user cell → ⊥
 
--- There is a waiver at the place that nobody signed, and nothing keeps the user apart from it.
+-- There is an unsigned waiver at the index, and the user is apart from it.
 pub record MaySign (shelf : List Submission) (waivers : List (Option Waiver)) (place : ℕ)
     (met : List ℕ) (user : List ℕ) : Type 0 where
   pub waiver : Waiver
@@ -47,21 +47,22 @@ pub record MaySign (shelf : List Submission) (waivers : List (Option Waiver)) (p
   pub still_open : waiver.signer ≡ None
   pub apart : IsApart shelf met user waiver
 
--- A waiver is signed by a user who may sign it, and no others change.
+-- A user who signs a waiver may sign it, and no other waiver changes.
 abbrev pub SignersAreApart : Type 0
 SignersAreApart =
     (shelf : List Submission) (waivers after : List (Option Waiver)) (place : ℕ) (met user : List ℕ)
     → signed shelf waivers place met user ≡ Ok after → MaySign shelf waivers place met user
     × (after ≡ with_signer waivers place user)
 
--- Each user who may sign it does.
+-- Each user who may sign it can sign it.
 abbrev pub ApartMaySign : Type 0
 ApartMaySign =
     (shelf : List Submission) (waivers : List (Option Waiver)) (place : ℕ) (met user : List ℕ)
     → MaySign shelf waivers place met user
     → signed shelf waivers place met user ≡ Ok (with_signer waivers place user)
 
--- Who is denied as a submitter submitted a met submission of the cell that is told, and none of a lesser cell.
+-- A user who is denied as a submitter submitted a touched submission of the cell that the denial names, and
+-- none of an earlier cell in alphabetical order.
 abbrev pub SubmitterIsLeast : Type 0
 SubmitterIsLeast =
     (shelf : List Submission) (waivers : List (Option Waiver)) (place : ℕ) (met user cell : List ℕ)
@@ -69,7 +70,7 @@ SubmitterIsLeast =
     → IsOwn shelf met user cell × ((other : List ℕ) → IsOwn shelf met user other
     → is_lt (name_cmp other cell) ≡ false)
 
--- Who is denied as the asker asked for the waiver.
+-- A user who is denied as the asker asked for the waiver.
 abbrev pub AskerAsked : Type 0
 AskerAsked =
     (shelf : List Submission) (waivers : List (Option Waiver)) (place : ℕ) (met user : List ℕ)
@@ -78,8 +79,8 @@ AskerAsked =
 
 -- ---- any requests
 
--- The waivers of that many markers come of requests, each of which passed its tests. The marker at a place meets the submissions of
--- the numbers that `met` has for it.
+-- The waivers of that many markers are the result of requests, each of which passed its tests. The marker at
+-- an index touches the submissions whose numbers `met` has for it.
 pub data AreWaiversReached (shelf : List Submission) (met : ℕ → List ℕ) (size : ℕ) : List
     (Option Waiver) → Type 0 where
   none : AreWaiversReached shelf met size (none_asked size)
@@ -91,13 +92,13 @@ pub data AreWaiversReached (shelf : List Submission) (met : ℕ → List ℕ) (s
       → signed shelf waivers place (met place) user ≡ Ok after
       → AreWaiversReached shelf met size after
 
--- There is still a place for each marker.
+-- There is still an entry for each marker.
 abbrev pub ReachedHaveTheirSize : Type 0
 ReachedHaveTheirSize =
     (shelf : List Submission) (met : ℕ → List ℕ) (size : ℕ) (waivers : List (Option Waiver))
     → AreWaiversReached shelf met size waivers → length waivers ≡ size
 
--- Who signed a waiver neither asked for it nor submitted what its marker meets.
+-- The signer of a waiver neither asked for it nor submitted what its marker touches.
 abbrev pub ReachedAreSignedApart : Type 0
 ReachedAreSignedApart =
     (shelf : List Submission) (met : ℕ → List ℕ) (size : ℕ) (waivers : List (Option Waiver))
@@ -106,7 +107,7 @@ ReachedAreSignedApart =
     → waiver.signer ≡ Some signer
     → IsApart shelf (met place) signer waiver
 
--- None is unsigned just where each marker has a signed waiver.
+-- No marker is unsigned exactly if each marker has a signed waiver.
 abbrev pub NoneIsUnsigned : Type 0
 NoneIsUnsigned = (waivers : List (Option Waiver)) → (unsigned waivers ≡ 0)
     ↔ All (λ waiver. is_signed waiver ≡ true) waivers

@@ -1,4 +1,4 @@
--- Laws of working a run off.
+-- Laws of executing a run.
 use Rattle.std.specs.Prelude.{◌≡◌, ⊤, ℕ, Bool, true, false, List, length, nat_lt, Option, None, Some}
 use Rattle.mpw_events.specs.History.{KeptDesk, IsHandled, state_of, max_events}
 use Rattle.mpw_events.specs.GoingOn.{GoesOnTo}
@@ -13,9 +13,9 @@ use Rattle.mpw_requests.specs.declared.run.RunRequest.TheVariants.{Run}
 use Rattle.mpw_laws.specs.RunLaws.{is_finished}
 use Rattle.mpw_serve.specs.Working.{HandsTile, HandsTiles, WorksTiles, WorksBehind, WorksCut, WorksOff, is_accepted}
 
--- ---- work that no want of memory ends
+-- ---- work that never runs out of memory
 
--- An event that was handed in was answered, and did not fail for want of memory.
+-- An event that was handed in was answered, and did not run out of memory.
 abbrev pub IsAnswered : Option Response → Type 0
 IsAnswered None = ⊥
 IsAnswered (Some response) = ⊤
@@ -46,19 +46,20 @@ CutAnswered d job d' (WorksCut.unkept a near cut) = IsAnswered cut.came
 CutAnswered d job d' (WorksCut.kept a near far cut done) =
     IsAnswered cut.came × DoneAnswered near a far done
 
--- No job and no event of the work failed for want of memory.
+-- No job and no event of the work ran out of memory.
 abbrev pub AllAnswered : (d d' : KeptDesk) → WorksOff d d' → Type 0
 AllAnswered d d' (WorksOff.uncalled call near handled without) = IsAnswered call
 AllAnswered d d' (WorksOff.called call job near far handled with cut) =
     IsAnswered call × CutAnswered near job far cut
 
--- The work is over: the run is finished, or the desk answers no event of a run any more, as it is closed or its history is full.
+-- The work is over: the run is finished, or the desk answers no event of a run any more, since it is closed
+-- or its history is full.
 pub data IsOver (d : KeptDesk) : Type 0 where
   finished : is_finished (state_of d.desk).run.phase ≡ true → IsOver d
   closed : (state_of d.desk).closed ≡ true → IsOver d
   full : nat_lt (length d.desk.history) max_events ≡ false → IsOver d
 
--- Behind a `run` that is accepted the work goes on until it is over, unless memory is wanting.
+-- After an accepted `run`, the work goes on until it is over, unless memory runs out.
 abbrev pub WorkEnds : Type 0
 WorkEnds =
     (connection : ℕ) (response : Response) (before d d' : KeptDesk)
@@ -67,7 +68,7 @@ WorkEnds =
 
 -- ---- what the work leads to
 
--- A desk that a run is worked off on goes on by calls, and its keeper has their changes in order.
+-- Executing a run adds calls to a desk's history, and its store writer has their changes in order.
 abbrev pub WorkGoesOn : Type 0
 WorkGoesOn = (request : Request) (response : Response) (d d' : KeptDesk)
     → WorksBehind request response d d' → GoesOnTo d d'

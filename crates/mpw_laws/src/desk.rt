@@ -1,5 +1,5 @@
-//! Laws of the desk, over every state, every event and every history. Each function calls at most the laws that its own rests on: its
-//! contract is the law.
+//! Laws of the desk, over every state, every event and every history. Each function calls at most the laws that its proof needs. Its contract
+//! is the law.
 ghost use Rattle.std.specs.Prelude.{◌≡◌, ◌≢◌, ◌∷◌, ◌++◌, [], ℕ, Bool, List, All, length, true, false, None};
 ghost use Rattle.mpw_geom.specs.Names.{contains_name};
 ghost use Rattle.mpw_rbac.specs.Policy.{authorized, is_user, permits, session_of};
@@ -68,25 +68,25 @@ use mpw_rbac_laws::{
     own_requests_need_no_permission, sets_are_told_where_they_are_tested,
 };
 
-/// In every state that calls lead to, each session is of a user who is authorized for each of its active roles.
+/// In every state that calls lead to, the user of each session is authorized for each of its active roles.
 pub fn every_state_keeps_authorization()
     ensures { (officer digest : List ℕ) (calls : List Call) → active_authorized (state_after (new_state officer digest) calls).policy ≡ true }
 {}
 
-/// In every state that calls lead to the policy is sound: every active role is authorized, the static sets hold for
-/// every user, and the dynamic ones for every session.
+/// In every state that calls lead to, the policy is sound: every active role is authorized, the static sets hold for every user, and the
+/// dynamic ones for every session.
 pub fn every_state_keeps_separation()
     ensures { (officer digest : List ℕ) (calls : List Call) → Sound (state_after (new_state officer digest) calls).policy }
 {}
 
-/// A login is denied alike where the user is unknown and where the token is another.
+/// A login with an unknown user and one with a wrong token are denied in the same way.
 pub fn unknown_users_are_denied_like_wrong_tokens()
     ensures unknown { (state : State) (connection : ℕ) (user digest : List ℕ) → session_of state.policy connection ≡ None → is_user state.policy user ≡ false → (outcome_of state connection (ask.Policy (Request.Open user digest))).response ≡ response.Told (Reply.Denied denial.Login) }
     ensures wrong { (state : State) (connection : ℕ) (user digest : List ℕ) → session_of state.policy connection ≡ None → is_login state.policy user digest ≡ false → (outcome_of state connection (ask.Policy (Request.Open user digest))).response ≡ response.Told (Reply.Denied denial.Login) }
 {}
 
-/// The step of a denial leaves the state as it was, and so does that of a refusal unless it tells that the change could not be
-/// kept: only the trail has the request.
+/// A denial leaves the state unchanged, but for the trail, which has the request. So does a refusal, unless it says that the change could
+/// not be stored.
 pub fn denials_and_refusals_change_nothing()
     ensures denied { (state : State) (event : Event) (kept : Bool) (why : Denial) → response_of state event kept ≡ response.Told (Reply.Denied why) → (step state event kept).state ≡ state }
     ensures refused { (state : State) (event : Event) (kept : Bool) (why : Code) → why ≢ code.Store → response_of state event kept ≡ response.Told (Reply.Refused why) → (step state event kept).state ≡ state }
@@ -97,22 +97,22 @@ pub fn denials_and_refusals_change_nothing()
     waivers_are_left_unless_a_request_is_accepted();
 }
 
-/// What the run doesn't keep leaves the state as it was: what is told as a stranger's, as double or as of an old run. So does
-/// a call to which no job is handed out.
+/// A result that the run doesn't accept leaves the state unchanged: its reply says that it is a stranger's, a duplicate, or of an old run.
+/// So does a call that gets no job.
 pub fn what_is_not_kept_leaves_the_run()
     ensures { (state : State) (event : Event) (kept : Bool) (reply : AnyRunReply) → leaves reply ≡ true → response_of state event kept ≡ run_response reply → (step state event kept).state ≡ state }
 {
     unkept_leaves_the_run();
 }
 
-/// A change that is kept counts as it was wanted; one that could not be kept closes the desk and changes nothing else.
+/// A change that is stored takes effect. A change that could not be stored closes the desk and changes nothing else.
 pub fn changes_count_once_they_are_kept()
     ensures kept { (state : State) (event : Event) → step state event true ≡ event_outcome state event }
     ensures unkept { (state : State) (event : Event) → (event_outcome state event).changes ≡ true → step state event false ≡ no_change (not_kept_response event) (record state { closed = true }) }
 {}
 
-/// A restart ends every session and takes a run that is checked back to where it is cut, and changes nothing else: with the
-/// sessions and the run of before put back all is as before.
+/// A restart ends every session, and takes a run whose tiles are being checked back to its cutting. It changes nothing else: with the
+/// earlier sessions and run put back, the state is the earlier one.
 pub fn a_restart_ends_every_session()
     ensures told { (state : State) (kept : Bool) → response_of state event.Restart kept ≡ response.Restarted }
     ensures ended { (state : State) (kept : Bool) (connection : ℕ) → session_of (after state event.Restart kept).policy connection ≡ None }
@@ -120,8 +120,8 @@ pub fn a_restart_ends_every_session()
     ensures rest { (state : State) (kept : Bool) → record (after state event.Restart kept) { policy = record (after state event.Restart kept).policy { sessions = state.policy.sessions }; run = state.run } ≡ state }
 {}
 
-/// Whatever the request, a line of its reply that tells of a cell, or shows a shape of one, is of a cell that the connection's
-/// session may read. Rows of the trail and lines of waivers are no part of this.
+/// Whatever the request, each line of its reply that names a cell, or shows a shape of one, is of a cell that the connection's session may
+/// read. Rows of the trail and lines of waivers are not part of this law.
 pub fn lines_are_of_readable_cells()
     ensures { (state : State) (connection : ℕ) (request : AnyRequest) (kept : Bool) (lines : List Listed) → response_of state (event.Ask connection request) kept ≡ response.Told (Reply.Ok lines) → All (IsOfReadable state.policy connection) lines }
 {
@@ -130,8 +130,8 @@ pub fn lines_are_of_readable_cells()
     lines_of_the_sign_off_are_of_readable_cells();
 }
 
-/// A denial of a permission, whatever the request, names one that the connection's session lacks. A denial of an
-/// activation names the role that was asked for, and the session's user is not authorized for it.
+/// Whatever the request, if a permission is denied, the connection's session lacks it. A denied activation names the requested role, for
+/// which the session's user is not authorized.
 pub fn denials_name_what_the_session_lacks()
     ensures permission { (state : State) (connection : ℕ) (request : AnyRequest) (kept : Bool) (operation : Operation) (object : Object) →
         response_of state (event.Ask connection request) kept ≡ response.Told (Reply.Denied (denial.Permission operation object)) →
@@ -146,21 +146,20 @@ pub fn denials_name_what_the_session_lacks()
     entering_denies_what_is_lacked();
 }
 
-/// In every state that calls lead to, the policy's tables name users and roles that are there, and hold no more than their
-/// limits.
+/// In every state that calls lead to, the policy's tables name users and roles that exist, and have no more rows than their limits allow.
 pub fn every_state_keeps_its_tables()
     ensures { (officer digest : List ℕ) (calls : List Call) → AreTablesSound (state_after (new_state officer digest) calls).policy }
 {
     each_request_keeps_the_tables();
 }
 
-/// Whatever the request, it is accepted only of a connection that has what the request needs: nothing for `open`, a session for what
-/// is asked of one's own, and else the permission that the table `need_of` names.
+/// Whatever the request, it is accepted only if the connection has what it needs: nothing for `open`, a session for a request about one's
+/// own session, else the permission in the table `need_of`.
 pub fn accepted_requests_had_what_they_need()
     ensures { (state : State) (connection : ℕ) (request : AnyRequest) (kept : Bool) (lines : List Listed) → response_of state (event.Ask connection request) kept ≡ response.Told (Reply.Ok lines) → Has state.policy connection (need_of request) }
 {}
 
-/// A denial for a set of separation of duty names the least set of its kind that the policy that was asked for would break.
+/// A denial for a set of separation of duty names the first set of its kind, in alphabetical order, that the requested policy would break.
 pub fn sets_are_denied_for_what_was_asked()
     ensures ssd { (state : State) (connection : ℕ) (request : AnyPolicyRequest) (kept : Bool) (name : List ℕ) → response_of state (event.Ask connection (ask.Policy request)) kept ≡ response.Told (Reply.Denied (denial.Ssd name)) → IsLeastStatic (requested_policy state.policy connection request) name }
     ensures dsd { (state : State) (connection : ℕ) (request : AnyPolicyRequest) (kept : Bool) (name : List ℕ) → response_of state (event.Ask connection (ask.Policy request)) kept ≡ response.Told (Reply.Denied (denial.Dsd name)) → IsLeastDynamic (requested_policy state.policy connection request) name }
@@ -169,7 +168,7 @@ pub fn sets_are_denied_for_what_was_asked()
     sets_are_told_where_they_are_tested();
 }
 
-/// `open`, `close`, `activate` and `drop` are never denied for want of a permission.
+/// `open`, `close`, `activate` and `drop` are never denied because a permission is missing.
 pub fn own_requests_are_never_denied_a_permission()
     ensures { (state : State) (connection : ℕ) (request : AnyPolicyRequest) (kept : Bool) (operation : Operation) (object : Object) →
         is_administration request ≡ false →
@@ -178,28 +177,27 @@ pub fn own_requests_are_never_denied_a_permission()
     own_requests_need_no_permission();
 }
 
-/// The trail after an event is that before it and, after a request, an entry of it: its user, and what its reply says first.
-/// So it has each request that is a call of the history, in order, and nothing else.
+/// The trail after an event is that before it, and after a request one more entry: its user, and the first line of its reply. So it has
+/// each request that is a call of the history, in order, and nothing else.
 pub fn the_trail_has_each_request()
     ensures { (state : State) (event : Event) (kept : Bool) → (after state event kept).trail ≡ state.trail ++ entries_of state.policy (after state event kept).policy event (response_of state event kept) }
 {}
 
-/// With a run that begins the waivers of the one before are gone, and a run that is finished begins with a place for each of
-/// its markers, and no waiver.
+/// When a run begins, the waivers of the run before are removed. When a run is finished, it has an entry for each of its markers, and no waiver.
 pub fn waivers_go_with_their_run()
     ensures begun { (state : State) (connection : ℕ) (kept : Bool) (lines : List Listed) → response_of state (event.Ask connection (ask.Run run.Run)) kept ≡ response.Told (Reply.Ok lines) → (after state (event.Ask connection (ask.Run run.Run)) kept).waivers ≡ [] }
     ensures finished { (state : State) (answer : FoundMarkers) (kept : Bool) → response_of state (event.Tile answer) kept ≡ run_response told.Finished → (after state (event.Tile answer) kept).waivers ≡ none_asked (book_size (after state (event.Tile answer) kept).run.phase) }
 {}
 
-/// In every state that calls lead to there is a place for a waiver of each marker of a run that is finished, and of no other.
+/// In every state that calls lead to, there is an entry for a waiver of each marker of a finished run, and no other entry.
 pub fn every_state_has_a_place_for_each_marker()
     ensures { (officer digest : List ℕ) (calls : List Call) → length (state_after (new_state officer digest) calls).waivers ≡ book_size (state_after (new_state officer digest) calls).run.phase }
 {
     places_are_left();
 }
 
-/// A waiver that is asked for or signed is of a marker that is shown in full to the session, and who signs neither asked for it
-/// nor submitted what the marker meets.
+/// A waiver that is asked for or signed is of a marker that is full for the session. Its signer neither asked for it nor submitted what the
+/// marker touches.
 pub fn waivers_are_signed_apart()
     ensures asked { (state : State) (connection : ℕ) (name : MarkerName) (kept : Bool) (lines : List Listed) → response_of state (event.Ask connection (ask.SignOff (sign.Waive name))) kept ≡ response.Told (Reply.Ok lines) →
         IsRightlyAsked state.policy state.run state.waivers connection name (after state (event.Ask connection (ask.SignOff (sign.Waive name))) kept).waivers }
@@ -210,8 +208,8 @@ pub fn waivers_are_signed_apart()
     waivers_are_of_shown_markers();
 }
 
-/// A user who is denied to sign as a submitter submitted what the marker meets, of the cell that is told and of none lesser; one
-/// who is denied as the asker asked for the waiver.
+/// A user who is denied to sign as a submitter submitted what the marker touches. The denial names its cell, the first one in alphabetical
+/// order. A user who is denied as the asker asked for the waiver.
 pub fn denials_to_sign_are_true()
     ensures submitter { (state : State) (connection : ℕ) (request : AnySignOffRequest) (kept : Bool) (cell : List ℕ) → response_of state (event.Ask connection (ask.SignOff request)) kept ≡ response.Told (Reply.Denied (denial.Submitter cell)) →
         (name : MarkerName) × (request ≡ sign.Sign name) × IsSubmitter state.policy state.run connection name cell }
@@ -222,7 +220,7 @@ pub fn denials_to_sign_are_true()
     denials_of_separation_are_true();
 }
 
-/// A run is told to be clean only where deck and placings are those that it looked at, and each of its markers is signed.
+/// The verdict of a run is `clean` only if the deck and the placings are those that it checked, and each of its markers has a signed waiver.
 pub fn clean_runs_are_signed_off()
     ensures { (state : State) (connection : ℕ) (kept : Bool) → response_of state (event.Ask connection (ask.SignOff sign.Verdict)) kept ≡ response.Told (Reply.Ok (stored line.Clean ∷ [])) → IsSignedOff state.wafer state.run state.waivers }
 {

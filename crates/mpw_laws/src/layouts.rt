@@ -1,32 +1,32 @@
-//! Laws of the requests over the shelf. Each function calls at most the laws that its own rests on: its contract is the law.
+//! Laws of the requests of the layouts. Each function calls at most the laws that its proof needs. Its contract is the law.
 ghost use Rattle.mpw_laws.specs.LayoutLaws.{LayoutsAreOfReadable, LayoutsDenyWhatIsLacked, NegativesLeaveTheShelf, ShapesAreNoReferences};
 
 use mpw_access::entering_denies_what_is_lacked;
 use mpw_hier::shelves_have_their_numbers;
 use mpw_walk::shapes_are_no_references;
 
-/// A denial of a permission names one that the connection's session lacks.
+/// If a permission is denied, the connection's session lacks it.
 pub fn denials_of_layouts_name_what_is_lacked()
     ensures { LayoutsDenyWhatIsLacked }
 {
     entering_denies_what_is_lacked();
 }
 
-/// A line of a reply that tells of a cell, or shows a shape of one, is of a cell that the connection's session may read.
+/// A line of a reply that names a cell, or shows a shape of one, is of a cell that the connection's session may read.
 pub fn lines_of_layouts_are_of_readable_cells()
     ensures { LayoutsAreOfReadable }
 {
     shelves_have_their_numbers();
 }
 
-/// Each line of a reply to `shapes` is of a boundary or of a path: arrays and other references are taken apart.
+/// Each line of a reply to `shapes` has a boundary or a path: arrays and other references are resolved.
 pub fn lines_of_shapes_are_no_references()
     ensures { ShapesAreNoReferences }
 {
     shapes_are_no_references();
 }
 
-/// A request that is denied or refused leaves the shelf as it was.
+/// A request that is denied or refused leaves the shelf unchanged.
 pub fn layouts_are_left_unless_a_request_is_accepted()
     ensures { NegativesLeaveTheShelf }
 {}

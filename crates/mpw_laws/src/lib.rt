@@ -1,8 +1,7 @@
-//! Laws of the desk that none of its calls rests on: what follows from the written rows of tests for every request, every
-//! state and every history.
+//! Laws of the desk that none of its calls needs: what follows from the written decision tables for every request, every state and every history.
 //!
-//! Each function does nothing: its contract is the law, and it speaks of the definitions alone. No program links this crate, so none
-//! waits for its proofs. A law that a call of the desk rests on stands with that call.
+//! Each function does nothing. Its contract is the law, and speaks of the definitions alone. No program links this crate, so no program
+//! waits for its proofs. A law that a call of the desk needs is in the crate of that call.
 #![tactic(auto)]
 
 mod checking;

@@ -1,4 +1,4 @@
-//! Laws of the requests that sign a run off. Each function calls at most the laws that its own rests on: its contract is the law.
+//! Laws of the sign-off requests. Each function calls at most the laws that its proof needs. Its contract is the law.
 ghost use Rattle.mpw_laws.specs.SignOffLaws.{AskedAreShown, AskersAreTold, CleanIsSignedOff, NegativesLeaveTheWaivers, PlacesAreLeft, SignOffLinesAreOfReadable, SignOffsDenyWhatIsLacked, SignedOffIsClean, SignersStandApart, SubmittersAreTold, ToldAreShown};
 
 use crate::waivers::{
@@ -8,7 +8,7 @@ use mpw_access::entering_denies_what_is_lacked;
 use mpw_markers::places_are_of_their_keys;
 use mpw_run::tests_are_exact;
 
-/// A waiver is signed by a user who neither asked for it nor submitted what its marker meets.
+/// A waiver is signed by a user who neither asked for it nor submitted what its marker touches.
 pub fn signers_stand_apart()
     ensures { SignersStandApart }
 {
@@ -16,8 +16,8 @@ pub fn signers_stand_apart()
     signers_are_apart();
 }
 
-/// A user who is denied as a submitter submitted a version that the marker meets, of the cell that is told and of none
-/// lesser; one who is denied as the asker asked for the waiver.
+/// A user who is denied as a submitter submitted a version that the marker touches. The denial names its cell, the first one in
+/// alphabetical order. A user who is denied as the asker asked for the waiver.
 pub fn denials_of_separation_are_true()
     ensures submitter { SubmittersAreTold }
     ensures asker { AskersAreTold }
@@ -26,24 +26,24 @@ pub fn denials_of_separation_are_true()
     denials_have_their_cause();
 }
 
-/// A denial of a permission names one that the connection's session lacks.
+/// If a permission is denied, the connection's session lacks it.
 pub fn denials_over_the_sign_off_name_what_is_lacked()
     ensures { SignOffsDenyWhatIsLacked }
 {
     entering_denies_what_is_lacked();
 }
 
-/// A request that is denied or refused leaves the waivers as they were.
+/// A request that is denied or refused leaves the waivers unchanged.
 pub fn waivers_are_left_unless_a_request_is_accepted()
     ensures { NegativesLeaveTheWaivers }
 {}
 
-/// A request leaves the number of places for waivers.
+/// A request leaves the number of entries for waivers unchanged.
 pub fn places_are_left()
     ensures { PlacesAreLeft }
 {}
 
-/// A marker that is waived, signed or listed with its waiver is shown in full to the session.
+/// A marker that is waived, signed or listed with its waiver is full for the session.
 pub fn waivers_are_of_shown_markers()
     ensures waived { AskedAreShown }
     ensures signed { SignersStandApart }
@@ -53,7 +53,7 @@ pub fn waivers_are_of_shown_markers()
     signers_stand_apart();
 }
 
-/// A run is told to be clean only where deck and placings are those that it looked at, and each marker has a signed waiver.
+/// The verdict of a run is `clean` only if the deck and the placings are those that it checked, and each marker has a signed waiver.
 pub fn clean_is_signed_off()
     ensures { CleanIsSignedOff }
 {
@@ -61,7 +61,7 @@ pub fn clean_is_signed_off()
     none_unsigned_where_all_are_signed();
 }
 
-/// Where they are those and each marker has a signed waiver, who may be told is told so.
+/// If they are those and each marker has a signed waiver, the verdict for a session with the permission is `clean`.
 pub fn signed_off_is_clean()
     ensures { SignedOffIsClean }
 {
@@ -69,7 +69,7 @@ pub fn signed_off_is_clean()
     none_unsigned_where_all_are_signed();
 }
 
-/// What is listed of waivers names only cells that the connection's session may read.
+/// The lines of `waivers` name only cells that the connection's session may read.
 pub fn lines_of_the_sign_off_are_of_readable_cells()
     ensures { SignOffLinesAreOfReadable }
 {}

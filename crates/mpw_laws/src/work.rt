@@ -1,19 +1,18 @@
-//! Laws of working a run off. Each function calls the laws that its own rests on: its contract is the law.
+//! Laws of executing a run. Each function calls the laws that its proof needs. Its contract is the law.
 ghost use Rattle.mpw_laws.specs.WorkLaws.{WorkEnds, WorkGoesOn};
 
 use mpw_events::keepers_have_the_changes_in_order;
 use mpw_run::tests_are_exact;
 
-/// The work after an accepted `run` goes on until the run is finished, or the desk answers no event of a run any more,
-/// unless memory is wanting.
+/// After an accepted `run`, the work goes on until the run is finished, or the desk answers no event of a run any more, unless memory runs out.
 pub fn work_ends()
     ensures { WorkEnds }
 {
     tests_are_exact();
 }
 
-/// A desk on which a run is worked off goes on by calls, and a keeper whose list is known has just their changes behind
-/// those before, in order.
+/// Executing a run adds calls to the desk's history, and nothing else. A store writer whose list is known has exactly their changes, in order, after the
+/// earlier ones.
 pub fn work_goes_on()
     ensures { WorkGoesOn }
 {

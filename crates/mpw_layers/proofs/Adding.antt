@@ -89,7 +89,7 @@ module _ (rules : List Rule) (s : Submission) (before : List (List Item)) (earli
       (with_items rules ls (placed_items r (below r.name)))
       ∙ sym (items_append rules ls (placed_items r (below r.name)) (shown_below below es))
 
--- the layers of a node are those that its structure shows
+-- the layers of a node are those of its structure
 pub layers_tell : (rules : List Rule) (outer : List (List Layer))
     → StepTells [] (gathered rules) outer (node_layers rules outer)
 layers_tell rules outer s before earlier own es cs read lists children =
@@ -98,7 +98,7 @@ layers_tell rules outer s before earlier own es cs read lists children =
     ∙ ap (λ ns. with_items rules ns below) (sym (own_add rules (length before) es []))
     ∙ sym (items_append rules [] (own_items (length before) es) below)
 
--- the last value is the one that is taken away
+-- the last value is the one that is removed
 pub last_taken : {V : Type 0} (values : List V) (len n : ℕ) (taken : Option V) (value told : V)
     → length values ≡ len → length values ≡ n → taken ≡ Some value
     → ((d : V) → 0 < len → taken ≡ Some (slice_index_or values (len - 1) d))

@@ -103,7 +103,7 @@ module _ (layer : Layer) (s : Submission) (before : List (List Item)) (earlier :
       one more
       ∙ ap told (sym sum))
 
--- the number of a node is how many shapes its structure shows
+-- the number of a node is the number of its structure's shapes
 pub numbers_tell : (layer : Layer) (outer : List ℕ)
     → StepTells 0 (told_on layer) outer (node_number layer outer)
 numbers_tell layer outer s before earlier own es cs are numbers children =

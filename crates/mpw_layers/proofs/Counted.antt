@@ -42,7 +42,7 @@ count_told layer law ss n o nodes is shown p from from_is copied library library
     (node_number layer outer) (numbers_tell layer outer) law ss n first o nodes is shown p from
     from_is copied library library_is numbers made)
 
--- the numbers of roots are those of what they show
+-- the numbers of roots are those of their content
 pub roots_told : (law : NamesAreShown) (ss : List Submission) (layer : Layer) (numbers : List ℕ)
     → AreCounts ss layer (length ss) numbers → (roots : List Root)
     → told (sum_by (root_number numbers) roots) ≡ told_on layer (flat_roots ss roots)

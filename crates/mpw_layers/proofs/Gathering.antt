@@ -1,4 +1,4 @@
--- Layers that are gathered, at most 64: what is folded in again adds nothing, and a list may be gathered first and then folded in.
+-- Layers that are collected, at most 64: adding a list again adds nothing, and a list may be collected first and then added.
 use Rattle.std.proofs.Common.{◌≡◌, ℕ, ◌<◌, ◌≤◌, ◌||◌, not, nat_lt, Bool, true, false, cond, List, [], ◌∷◌, ◌++◌, length, map, refl, sym, ap, subst, ◌∙◌, arith}
 use Rattle.std.specs.Cmp.{IsEquivalence}
 use Rattle.std.specs.List.{flat_map, list_any, IsDistinct}
@@ -17,7 +17,7 @@ use Rattle.mpw_hier.specs.Items.{Item, placed_item}
 use Rattle.mpw_layers.specs.Unnamed.{is_named, with_layer, with_shape, with_items}
 use Rattle.mpw_layers.specs.Internal.Gathered.{with_layers}
 
--- ---- layers that are one
+-- ---- layers that are the same
 
 same_fields : (a b : Layer) → a.layer ≡ b.layer → a.datatype ≡ b.datatype → a ≡ b
 same_fields a b e f =
@@ -133,7 +133,7 @@ module _ (rules : List Rule) where
   kept_all ls [] l h = h
   kept_all ls (m ∷ ms) l h = kept_all (with_layer rules ls m) ms l (kept ls l m h)
 
-  -- each that was folded in is settled
+  -- each layer that was added is settled
   member : (ls ms : List Layer) (l : Layer) → list_any (same_layer l) ms ≡ true
       → settled (with_layers rules ls ms) l ≡ true
   member ls [] l h = absurd cc
@@ -161,12 +161,12 @@ module _ (rules : List Rule) where
       go true b e = refl
       go false b e = e
 
-  -- folding in again adds nothing
+  -- adding again adds nothing
   again : (ls ms : List Layer)
       → with_layers rules (with_layers rules ls ms) ms ≡ with_layers rules ls ms
   again ls ms = idle (with_layers rules ls ms) ms (member ls ms)
 
-  -- ---- gathered first
+  -- ---- collected first
 
   -- a list of layers that no rule names, each once
   record IsGathered (ms : List Layer) : Type 0 where
@@ -204,7 +204,7 @@ module _ (rules : List Rule) where
       which k false e true f q r = ap (is_named rules) (same k l f) ∙ r
       which k false e false f q r = absurd cc
 
-  -- a full list that is folded in fills the other
+  -- a full list that is added fills the other
   full : (ls ms : List Layer) → IsGathered ms → nat_lt (length ms) 64 ≡ false
       → nat_lt (length (with_layers rules ls ms)) 64 ≡ false
   unfolding settled
@@ -279,7 +279,7 @@ module _ (rules : List Rule) where
       join ls (with_shape rules ms x.element) xs (shape_gathered ms x.element g)
       ∙ ap (λ ns. with_items rules ns xs) (shape_step ls ms x.element g)
 
-  -- a flat list may be gathered first
+  -- a flat list may be collected first
   pub gathered_first : (ls : List Layer) (xs : List Item)
       → with_layers rules ls (with_items rules [] xs) ≡ with_items rules ls xs
   gathered_first ls xs = join ls [] xs none_gathered

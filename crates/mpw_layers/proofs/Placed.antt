@@ -1,4 +1,4 @@
--- How many of the shapes that are placed are on a layer.
+-- How many of the placed shapes are on a layer.
 use Rattle.std.proofs.Common.{◌≡◌, ℕ, ◌+◌, ◌*◌, List, [], ◌∷◌, ◌++◌, length, map, refl, ap, sym, ◌∙◌, arith, length-append}
 use Rattle.std.specs.List.{flat_map, range_with_len, sum_by}
 use Rattle.std.proofs.lemmas.List.{length-map}
@@ -30,7 +30,7 @@ pub append_on : (layer : Layer) (xs ys : List Item)
 unfolding layer_items
 append_on layer xs ys = sum_by-append (one_of layer) xs ys
 
--- ---- placed shapes are on the layers on which they were
+-- ---- placing doesn't change the layer of shapes
 
 pub placed_on : (layer : Layer) (t : Placing) (xs : List Item)
     → layer_items layer (map (placed_item t) xs) ≡ layer_items layer xs

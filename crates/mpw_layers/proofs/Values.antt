@@ -1,4 +1,4 @@
--- The values of nodes, where each is what some function tells of the flat list of its structure.
+-- The values of nodes, each of which is a function of the flat list of its structure.
 use Rattle.std.proofs.Common.{◌≡◌, ℕ, zero, suc, ◌+◌, ◌-◌, ◌<◌, ◌≤◌, ◌⊎◌, inl, inr, List, [], ◌∷◌, ◌++◌, length, get_or, take, Option, Some, refl, sym, ap, subst, ◌∙◌, arith}
 use Rattle.std.proofs.lemmas.List.Elements.{All-get_or}
 use Rattle.std.specs.Prelude.{All, slice_get, slice_index_or, option_copied, IfSome}
@@ -43,7 +43,7 @@ pub get_last : {X : Type 0} (xs : List X) (x : X) → slice_get (xs ++ x ∷ [])
 get_last [] x = refl
 get_last (y ∷ xs) x = get_last xs x
 
--- a submission shows what its top does
+-- the content of a submission is that of its top
 pub flat_is : (law : NamesAreShown) (ss : List Submission) (n : ℕ) (s : Submission)
     → slice_get ss n ≡ Some s → flat ss n ≡ flat_of (flats (take n ss)) s
 unfolding flats
@@ -97,7 +97,7 @@ past_end [] n d h = refl
 past_end (x ∷ xs) zero d h = absurd (omega (arith, h))
 past_end (x ∷ xs) (suc n) d h = past_end xs n d (omega (arith, h))
 
--- those of all submissions tell of any number, also of one behind the last
+-- the values of all submissions have this form for any number, even one after the last
 pub any_value : {V : Type 0} (nothing : V) (tell : List Item → V) → tell [] ≡ nothing
     → (law : NamesAreShown) (ss : List Submission) (values : List V)
     → AreOfFirst nothing tell ss (length ss) values → (n : ℕ)
@@ -108,7 +108,7 @@ any_value nothing tell none law ss values w n = elim (cases_lt n (length ss)) [
       ∙ ap tell (sym (past_end (flats ss) n [] (omega (arith, law.many ss, le))))
 ]
 
--- ---- what the values tell
+-- ---- the meaning of the values
 
 -- the elements of a structure of a library were read
 elements_are : (library : List Structure) (place : ℕ) (structure : Structure) → IsLibrary library
@@ -121,13 +121,13 @@ elements_are library place structure read is =
     (All-get_or IsStructure library place structure within read).elements
 
 module _ {V : Type 0} (nothing : V) (tell : List Item → V) (outer : List V) where
-  -- the value of each target is what its name shows
+  -- the value of each target is that of its name's content
   abbrev pub AreOfTargets : Submission → List (List Item) → List Node → List V → Type 0
   AreOfTargets s before earlier own =
       (name : List ℕ) (target : Target) → IsTarget s (length before) earlier name target
       → target_value nothing own outer target ≡ tell (structure_items before s name)
 
-  -- then the step tells what the structure shows
+  -- then the step gives the value of the structure's content
   abbrev pub StepTells : (List Element → List V → List Child → V) → Type 0
   StepTells step =
       (s : Submission) (before : List (List Item)) (earlier : List Node) (own : List V)
@@ -149,7 +149,7 @@ module _ {V : Type 0} (nothing : V) (tell : List Item → V) (outer : List V) wh
     long : length before ≡ n
     long = omega (arith, law.many (take n ss), length-take n ss, slice_get_within ss n s is)
 
-    -- the first nodes tell what their structures show, by any names
+    -- the first nodes have the values of their structures, by any names
     abbrev AreTold : ℕ → Type 0
     AreTold many = (k : ℕ) (node : Node) (name : List ℕ) → k < many → slice_get nodes k ≡ Some node
         → place_of s.library name ≡ Some node.structure
@@ -218,7 +218,7 @@ module _ {V : Type 0} (nothing : V) (tell : List Item → V) (outer : List V) wh
           node_told made k (subst AreTold e (nodes_told made many)) node name at named
     ]
 
-    -- the last value is that of what the submission shows
+    -- the last value is that of the submission's content
     pub last_told : AreValues step s.library nodes (length nodes) values
         → slice_get values (length nodes - 1) ≡ Some (tell (flat ss n))
     last_told made =
@@ -230,7 +230,7 @@ from_is : (o : Option (Bor Submission)) (from : Bor Submission) (p : Option Subm
     (s : Submission) → o ≡ Some from → option_copied o ≡ p → p ≡ Some s → s ≡ from.now
 from_is o from p s is copied at = one p s from.now at (sym copied ∙ ap option_copied is)
 
--- the same of what a shelf gives
+-- the same for what a shelf returns
 pub top_value : {V : Type 0} (nothing : V) (tell : List Item → V) (outer : List V)
     (step : List Element → List V → List Child → V)
     → StepTells nothing tell outer step → (law : NamesAreShown) (ss : List Submission) (n : ℕ)

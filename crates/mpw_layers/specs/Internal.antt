@@ -1,4 +1,4 @@
--- What private functions and proofs alone need: no public contract speaks of it.
+-- Definitions for private functions and proofs. No public contract refers to them.
 pub mod Values
 pub mod Counts
 pub mod Gathered

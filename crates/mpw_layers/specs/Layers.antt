@@ -1,4 +1,4 @@
--- Which shapes are on a layer, and how many of those that roots show.
+-- Which shapes are on a layer, and how many flat shapes of roots are.
 use Rattle.std.specs.Prelude.{ℕ, ◌-◌, ◌^◌, min, Bool, false, List}
 use Rattle.std.specs.List.{count_by, list_any}
 use Rattle.mpw_geom.specs.declared.plane.Layer.{Layer}
@@ -20,10 +20,10 @@ is_on layer (Reference reference) = false
 unfoldable pub layer_items : Layer → List Item → ℕ
 layer_items layer items = count_by (λ (i : Item). is_on layer i.element) items
 
--- How many that roots show, up to the greatest number of 64 bits.
+-- How many flat shapes of roots are, up to the greatest number of 64 bits.
 abbrev pub layer_count : List Submission → List Root → Layer → ℕ
 layer_count ss roots layer = min (layer_items layer (flat_roots ss roots)) (2 ^ 64 - 1)
 
--- Roots show a shape on the layer.
+-- Roots have a flat shape on the layer.
 unfoldable pub shows : List Submission → List Root → Layer → Bool
 shows ss roots layer = list_any (λ (i : Item). is_on layer i.element) (flat_roots ss roots)

@@ -23,7 +23,7 @@ names layer (Enclosing one other) = same_layer one layer || same_layer other lay
 abbrev pub is_named : List Rule → Layer → Bool
 is_named rules layer = list_any (λ rule. names layer rule.check) rules
 
--- With a layer that no rule names, if it isn't there; there are at most 64.
+-- The list with a layer, if no rule names it and it isn't there; there are at most 64.
 abbrev pub with_layer : List Rule → List Layer → Layer → List Layer
 with_layer rules layers layer =
     if is_named rules layer || list_any (same_layer layer) layers then layers
@@ -40,6 +40,6 @@ abbrev pub with_items : List Rule → List Layer → List Item → List Layer
 with_items rules layers items =
     fold (λ (ls : List Layer) (i : Item). with_shape rules ls i.element) layers items
 
--- Those of the shapes that roots show.
+-- The layers of the roots' flat shapes that no rule names.
 unfoldable pub unnamed_layers : List Submission → List Root → List Rule → List Layer
 unnamed_layers ss roots rules = with_items rules [] (flat_roots ss roots)

@@ -1,4 +1,4 @@
-//! How many shapes on a layer roots show, from the numbers of their submissions.
+//! Counts the flat shapes of roots on a layer, from the counts of their submissions.
 
 ghost use Rattle.std.specs.Prelude.{◌≡◌, ◌<◌, ◌≤◌, ◌^◌, length, slice_index, IfOk};
 ghost use Rattle.std.specs.List.{sum_by};
@@ -14,11 +14,11 @@ use mpw_hier::Shelf;
 use mpw_walk::Root;
 use std::alloc::{AllocError, Global};
 
-/// The number of a submission's shapes on a layer, from those of the submissions before it. One pass over its nodes, their elements and
-/// their children, and memory for a number each node.
+/// The number of a submission's flat shapes on a layer, from those of the submissions before it. Cost: one pass over its nodes, their elements and
+/// their children, and memory for one number for each node.
 ///
 /// # Errors
-/// Want of memory.
+/// Out of memory.
 fn submission_count(
     alloc: Global,
     shelf: &Shelf,
@@ -46,10 +46,10 @@ pub(crate) fn many(shelf: &Shelf) -> usize
     shelf.submissions().len()
 }
 
-/// The number of each submission's shapes on a layer.
+/// The number of each submission's flat shapes on a layer.
 ///
 /// # Errors
-/// Want of memory.
+/// Out of memory.
 fn submission_counts(alloc: Global, shelf: &Shelf, layer: Layer) -> Result<Vec<usize>, AllocError>
     ensures { IfOk result (λ counts. AreCounts shelf.now layer (length shelf.now) counts.items) }
 {
@@ -62,7 +62,7 @@ fn submission_counts(alloc: Global, shelf: &Shelf, layer: Layer) -> Result<Vec<u
     Ok(counts)
 }
 
-/// The numbers of the roots' submissions together.
+/// The sum of the numbers of the roots' submissions.
 fn roots_number(counts: &[usize], roots: &[Root]) -> usize
     ensures { result ≡ told (sum_by (root_number counts.now) roots.now) }
 {
@@ -73,13 +73,13 @@ fn roots_number(counts: &[usize], roots: &[Root]) -> usize
     number
 }
 
-/// How many shapes on a layer roots show, up to 2^64 - 1. A root whose submission the shelf doesn't have shows none.
+/// How many flat shapes of roots are on a layer, up to 2^64 - 1. A root whose submission isn't on the shelf has none.
 ///
-/// One pass over the roots, and over the nodes of all submissions of the shelf, with their elements and children, whatever the number of
-/// instances and of levels. Memory for a number each submission, and for one each node of one submission at a time.
+/// Cost: one pass over the roots, and over the nodes of all submissions of the shelf, with their elements and children, whatever the number of
+/// instances and levels. Memory: one number for each submission, and one for each node of one submission at a time.
 ///
 /// # Errors
-/// Want of memory.
+/// Out of memory.
 pub fn layer_count(
     alloc: Global,
     shelf: &Shelf,
@@ -93,10 +93,10 @@ pub fn layer_count(
     Ok(roots_number(&counts, roots))
 }
 
-/// Whether roots show a shape on a layer. As [`layer_count`], of which it takes as long and as much memory.
+/// Whether roots have a flat shape on a layer. The cost and the memory are those of [`layer_count`].
 ///
 /// # Errors
-/// Want of memory.
+/// Out of memory.
 pub fn shows(alloc: Global, shelf: &Shelf, roots: &[Root], layer: Layer) -> Result<bool, AllocError>
     ensures { IfOk result (λ shown. shown ≡ shows shelf.now roots.now layer) }
 {

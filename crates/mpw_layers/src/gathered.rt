@@ -1,5 +1,5 @@
-//! The layers that no rule names of what the structure of a node shows, from those of its targets. Folding in a list again adds nothing, so
-//! those of a target stand for all instances of it.
+//! Collects the layers of a node's flat shapes that no rule names, from those of its targets. Adding a list again adds nothing, so
+//! the list of a target serves for all its instances.
 
 ghost use Rattle.std.specs.Prelude.{◌≡◌, [], fold, length, slice_index_or, IfOk};
 ghost use Rattle.mpw_layers.specs.Internal.Values.{AreValues, target_value};
@@ -20,7 +20,7 @@ struct Below<'a> {
     outer: &'a [Layers],
 }
 
-/// The list at a place; none where there is none.
+/// The list at an index; empty if there is none.
 pub fn list_at(lists: &[Layers], place: usize) -> &[Layer]
     ensures { result.now ≡ slice_index_or lists.now place [] }
 {
@@ -43,7 +43,7 @@ fn target_list<'a>(below: Below<'a>, target: Target) -> &'a [Layer]
 /// Adds the layers of children.
 ///
 /// # Errors
-/// Want of memory.
+/// Out of memory.
 fn add_children(
     layers: &mut Layers,
     rules: &[Rule],
@@ -58,10 +58,10 @@ fn add_children(
     Ok(())
 }
 
-/// The layers of a node with these elements. One pass over its elements and its children, for each of which it goes over 64 layers at most.
+/// The layers of a node with these elements. Cost: one pass over its elements and its children, each with a pass over at most 64 layers.
 ///
 /// # Errors
-/// Want of memory.
+/// Out of memory.
 fn node_list(
     alloc: Global,
     rules: &[Rule],
@@ -77,11 +77,11 @@ fn node_list(
     Ok(layers)
 }
 
-/// The layers of a submission's nodes, from those of the submissions before it. One pass over the nodes, their elements and their
-/// children, and memory for 64 layers at most each node.
+/// The layers of a submission's nodes, from those of the submissions before it. Cost: one pass over the nodes, their elements and their
+/// children, and memory for at most 64 layers for each node.
 ///
 /// # Errors
-/// Want of memory.
+/// Out of memory.
 pub fn node_lists(
     alloc: Global,
     rules: &[Rule],

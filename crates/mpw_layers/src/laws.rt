@@ -1,11 +1,11 @@
-//! Laws of the definitions alone. The function does nothing: its contract is the law.
+//! Laws about the definitions. The function does nothing; its contract is the law.
 
 ghost use Rattle.mpw_seen.specs.Internal.Shown.{NamesAreShown};
 
 use mpw_hier::{names_list_their_targets, names_show_their_targets};
 use std::marker::Model;
 
-/// A shape of a flat list, which laws of lists of any kind are called with. There is no value of it.
+/// A shape of a flat list, for which laws of lists of any kind are called. No value of this type exists.
 #[derive(Drop)]
 struct Shown;
 
@@ -18,8 +18,8 @@ impl Model for Shown {
     ghost view = { λ _. some_item };
 }
 
-/// What a name shows to a submission is what its structure does, or the top of the submission to which it is bound; and what
-/// a submission shows is what its top does.
+/// The content of a name, for a submission, is that of its structure, or that of the top of the submission to which it is bound. The content
+/// of a submission is that of its top.
 pub fn names_are_shown()
     ensures { NamesAreShown }
 {

@@ -7,7 +7,7 @@ ghost use Rattle.mpw_layers.specs.Layers.{is_on};
 use mpw_geom::Layer;
 use mpw_structures::Element;
 
-/// Whether two layers are one.
+/// Whether two layers are the same.
 pub fn same_layer(one: Layer, other: Layer) -> bool
     ensures { result ≡ same_layer one other }
 {

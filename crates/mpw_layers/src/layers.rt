@@ -17,7 +17,7 @@ use std::marker::Model;
 /// The most layers of a list.
 const MAX_LAYERS: usize = 64;
 
-/// Layers in order, which contracts see as that list.
+/// Layers in order. Contracts see them as a list.
 pub struct Layers {
     items: Vec<Layer>,
 }
@@ -38,7 +38,7 @@ impl Model for Layers {
     ghost view = { λ layers. layers.items.items };
 }
 
-/// Whether a layer is one of these.
+/// Whether the list has the layer.
 fn is_there(layers: &[Layer], layer: Layer) -> bool
     ensures { result ≡ list_any (same_layer layer) layers.now }
 {
@@ -51,7 +51,7 @@ fn is_there(layers: &[Layer], layer: Layer) -> bool
 }
 
 impl Layers {
-    /// The list without layers. It takes no memory.
+    /// The empty list. Takes no memory.
     pub(crate) fn new(alloc: Global) -> Layers
         ensures { result ≡ [] }
     {
@@ -67,11 +67,11 @@ impl Layers {
         self.items.as_slice()
     }
 
-    /// Adds a layer that no rule names, if it isn't there and there are fewer than 64. One pass over the layers, and over the rules
-    /// where it isn't there.
+    /// Adds a layer if no rule names it, it isn't there, and there are fewer than 64. Cost: one pass over the layers, and over the rules
+    /// if it isn't there.
     ///
     /// # Errors
-    /// Want of memory.
+    /// Out of memory.
     pub(crate) fn add(&mut self, rules: &[Rule], layer: Layer) -> Result<(), AllocError>
         ensures { IfOk result (λ _. self.new ≡ with_layer rules.now self.old layer) }
     {
@@ -87,10 +87,10 @@ impl Layers {
         Ok(())
     }
 
-    /// Adds the layer of a shape so. A reference has none.
+    /// Adds the layer of a shape in the same way. A reference has none.
     ///
     /// # Errors
-    /// Want of memory.
+    /// Out of memory.
     fn add_shape(&mut self, rules: &[Rule], element: &Element) -> Result<(), AllocError>
         ensures { IfOk result (λ _. self.new ≡ with_shape rules.now self.old element.now) }
     {
@@ -101,10 +101,10 @@ impl Layers {
         }
     }
 
-    /// Adds the layers of elements so, one behind another.
+    /// Adds the layers of elements in the same way, one after another.
     ///
     /// # Errors
-    /// Want of memory.
+    /// Out of memory.
     pub(crate) fn add_shapes(
         &mut self,
         rules: &[Rule],
@@ -118,10 +118,10 @@ impl Layers {
         Ok(())
     }
 
-    /// Adds other layers so, one behind another.
+    /// Adds other layers in the same way, one after another.
     ///
     /// # Errors
-    /// Want of memory.
+    /// Out of memory.
     pub(crate) fn add_all(&mut self, rules: &[Rule], layers: &[Layer]) -> Result<(), AllocError>
         ensures { IfOk result (λ _. self.new ≡ with_layers rules.now self.old layers.now) }
     {

@@ -1,8 +1,8 @@
-//! What layers the shapes of placed submissions are on, without going over their flat list.
+//! Finds the layers of placed submissions' shapes, without making their flat list.
 //!
-//! A structure shows its own shapes, and what each of its references places as often as the reference has instances. So
-//! [`layer_count`] and [`unnamed_layers`] go over the nodes of each submission once, each behind those that it places:
-//! instances and levels cost nothing.
+//! The content of a structure is its own shapes, and the content of each reference's target as often as the reference has instances. So
+//! [`layer_count`] and [`unnamed_layers`] visit the nodes of each submission once, each after those that it places. Instances and
+//! levels cost nothing.
 #![tactic(auto)]
 
 mod count;

@@ -1,4 +1,4 @@
-//! Which layers rules name.
+//! Decides which layers rules name.
 
 ghost use Rattle.std.specs.Prelude.{◌≡◌};
 ghost use Rattle.mpw_layers.specs.Unnamed.{is_named, names};

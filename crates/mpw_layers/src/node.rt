@@ -1,4 +1,4 @@
-//! How many shapes on a layer the structure of a node shows, from the numbers of its targets. It stops at the greatest number of 64 bits.
+//! Counts the flat shapes of a node on a layer, from the counts of its targets. A count stops at the greatest number of 64 bits.
 
 ghost use Rattle.std.specs.Prelude.{◌≡◌, ◌+◌, length, slice_get, slice_index, IfOk};
 ghost use Rattle.std.specs.List.{sum_by};
@@ -12,7 +12,7 @@ use mpw_hier::{Child, Node, Target};
 use mpw_structures::{Element, Structure};
 use std::alloc::{AllocError, Global};
 
-/// The number at a place, or 0 where there is none.
+/// The number at an index, or 0 if there is none.
 pub fn number_at(numbers: &[usize], place: usize) -> usize
     ensures { result ≡ slice_index numbers.now place }
 {
@@ -32,7 +32,7 @@ fn target_number(own: &[usize], outer: &[usize], target: Target) -> usize
     }
 }
 
-/// The number of a child: that of its target, once for each instance.
+/// The number of a child: that of its target, times its instances.
 fn child_number(elements: &[Element], own: &[usize], outer: &[usize], child: Child) -> usize
     ensures { result ≡ told (child_number elements.now own.now outer.now child) }
 {
@@ -47,7 +47,7 @@ fn child_number(elements: &[Element], own: &[usize], outer: &[usize], child: Chi
     }
 }
 
-/// One for a shape on a layer, and none for another element.
+/// 1 for a shape on a layer, and 0 for another element.
 fn one_if(element: &Element, layer: Layer) -> usize
     ensures { result ≡ told (one_if layer element.now) }
 {
@@ -65,8 +65,8 @@ fn own_number(elements: &[Element], layer: Layer) -> usize
     number
 }
 
-/// The number of a node with these elements: its own shapes on a layer, and those of its children, by the numbers of the nodes before it
-/// and of the submissions before its own. One pass over its elements and its children.
+/// The number of a node with these elements: its own shapes on the layer, plus those of its children. The numbers of the nodes before it
+/// and of the submissions before its own are given. One pass over its elements and its children.
 fn node_number(
     elements: &[Element],
     own: &[usize],
@@ -83,7 +83,7 @@ fn node_number(
     number
 }
 
-/// The elements of the structure at a place; none where there is none.
+/// The elements of the structure at an index; empty if there is none.
 pub fn elements_at(structures: &[Structure], place: usize) -> &[Element]
     ensures { result.now ≡ elements_of (slice_get structures.now place) }
 {
@@ -93,11 +93,11 @@ pub fn elements_at(structures: &[Structure], place: usize) -> &[Element]
     }
 }
 
-/// The numbers of a submission's nodes, from those of the submissions before it. One pass over the nodes, their elements and their
-/// children, and memory for a number each node.
+/// The numbers of a submission's nodes, from those of the submissions before it. Cost: one pass over the nodes, their elements and their
+/// children, and memory for one number for each node.
 ///
 /// # Errors
-/// Want of memory.
+/// Out of memory.
 pub fn node_numbers(
     alloc: Global,
     structures: &[Structure],

@@ -1,4 +1,4 @@
-//! The layers that no rule names of what roots show, from those of their submissions.
+//! Finds the layers of roots' flat shapes that no rule names, from those of their submissions.
 
 ghost use Rattle.std.specs.Prelude.{◌≡◌, ◌<◌, [], fold, length, IfOk};
 ghost use Rattle.mpw_hier.specs.Values.{flat};
@@ -14,11 +14,11 @@ use mpw_hier::Shelf;
 use mpw_walk::Root;
 use std::alloc::{AllocError, Global};
 
-/// The layers of a submission, from those of the submissions before it. One pass over its nodes, their elements and their children, and
-/// memory for 64 layers at most each node.
+/// The layers of a submission, from those of the submissions before it. Cost: one pass over its nodes, their elements and their children, and
+/// memory for at most 64 layers for each node.
 ///
 /// # Errors
-/// Want of memory.
+/// Out of memory.
 fn submission_list(
     alloc: Global,
     shelf: &Shelf,
@@ -40,7 +40,7 @@ fn submission_list(
 /// The layers of each submission.
 ///
 /// # Errors
-/// Want of memory.
+/// Out of memory.
 fn submission_lists(alloc: Global, shelf: &Shelf, rules: &[Rule]) -> Result<Vec<Layers>, AllocError>
     ensures { IfOk result (λ lists. AreGathered shelf.now rules.now (length shelf.now) lists.items) }
 {
@@ -56,7 +56,7 @@ fn submission_lists(alloc: Global, shelf: &Shelf, rules: &[Rule]) -> Result<Vec<
 /// Adds the layers of the roots' submissions.
 ///
 /// # Errors
-/// Want of memory.
+/// Out of memory.
 fn add_roots(
     layers: &mut Layers,
     rules: &[Rule],
@@ -71,15 +71,15 @@ fn add_roots(
     Ok(())
 }
 
-/// The layers of the shapes that roots show and that no rule names, in the order in which they come in the flat list, the first 64. A root
-/// whose submission the shelf doesn't have shows none.
+/// The layers of roots' flat shapes that no rule names: the first 64, in the order in which they come in the flat list. A root
+/// whose submission isn't on the shelf has none.
 ///
-/// One pass over the roots, and over the nodes of all submissions of the shelf, with their elements and children, whatever the number of
-/// instances and of levels. For each element it goes over up to 64 layers and the rules, and for each child and each root so for up to 64
-/// layers. Memory for up to 64 layers each submission, and as much each node of one submission at a time.
+/// Cost: one pass over the roots, and over the nodes of all submissions of the shelf, with their elements and children, whatever the number of
+/// instances and levels. Each element takes a pass over up to 64 layers and the rules, and each child and each root takes that for up to 64
+/// layers. Memory: up to 64 layers for each submission, and as much for each node of one submission at a time.
 ///
 /// # Errors
-/// Want of memory.
+/// Out of memory.
 pub fn unnamed_layers(
     alloc: Global,
     shelf: &Shelf,

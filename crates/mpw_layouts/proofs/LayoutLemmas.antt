@@ -1,4 +1,4 @@
--- The parts of a row as the shelf tells them.
+-- The parts of a decision table, in terms of the shelf.
 use Rattle.std.proofs.Common.{◌≡◌, ℕ, ◌^◌, Bool, true, false, List, [], ◌∷◌, ◌++◌, length, Option, Some, None, Result, Ok, Err, refl, sym, ap, ◌∙◌}
 use Rattle.std.specs.Prelude.{slice_get, ◌↔◌}
 use Rattle.mpw_structures.specs.declared.structures.Structure.{Structure}

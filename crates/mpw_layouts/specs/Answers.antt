@@ -1,10 +1,10 @@
--- What functions of the rows over the shelf answer.
+-- The answers of the functions of the layouts' decision tables.
 use Rattle.std.specs.Prelude.{◌≡◌, List, Option, None, Some, is_some}
 use Rattle.mpw_hier.specs.declared.submission.Submission.{Submission}
 use Rattle.mpw_layouts.specs.declared.answer.LayoutAnswer.{LayoutAnswer}
 use Rattle.mpw_layouts.specs.Layouts.{Outcome}
 
--- The shelf behind an answer: the next one, or the one before.
+-- The shelf after an answer: the new one, or the one before.
 abbrev pub shelf_after : List Submission → Option (List Submission) → List Submission
 shelf_after shelf None = shelf
 shelf_after shelf (Some next) = next

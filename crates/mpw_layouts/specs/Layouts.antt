@@ -1,4 +1,4 @@
--- The requests over the shelf: each with its tests in order, and what it gives where all pass.
+-- The requests of the layouts: each with its tests in order, and its result if all pass.
 use Rattle.std.specs.Prelude.{ℕ, ◌^◌, Bool, true, false, not, List, [], ◌∷◌, ◌++◌, map, is_some, slice_get, Option, None, Some, Result, Ok, Err, if◌then◌else◌}
 use Rattle.std.specs.List.{flat_map}
 use Rattle.mpw_geom.specs.Names.{by_name}
@@ -35,12 +35,12 @@ use Rattle.mpw_replies.specs.declared.row.Ending.TheVariants as ending
 
 -- ---- tests
 
--- the library that a text is of
+-- the library in a text
 abbrev pub read : Result (List Structure) ReadFault → Result (List Structure) Ending
 read (Ok library) = Ok library
 read (Err fault) = Err (ending.Refused (code.Read fault))
 
--- the names outside the library that the top shows
+-- the names outside the library that the top refers to
 abbrev pub outside : List Structure → Name → Result (List Name) Ending
 outside library top =
     decided
@@ -60,7 +60,7 @@ abbrev pub all_bindings : Option (List Binding) → Result (List Binding) Ending
 all_bindings None = Err (ending.Refused code.NoCell)
 all_bindings (Some bindings) = Ok bindings
 
--- the limits, of which that on shapes is the desk's 2^20, and then the submission with its version
+-- the limits (that of shapes is the desk's 2^20), and then the submission with its version
 unfoldable pub within_limits : List Submission → Submission → Result Submission Ending
 within_limits shelf s =
     decided
@@ -94,7 +94,7 @@ submitted_library policy shelf connection cell top library = do
   bindings ← all_bindings (bound_to shelf names)
   within_limits shelf (unnumbered_submission cell (user_of policy connection) library top bindings)
 
--- the row of `submit`: the submission that a text makes
+-- the decision table of `submit`: the submission of a text
 unfoldable pub submit_row : Policy → List Submission → ℕ → Name → Name → List ℕ
     → Result Submission Ending
 submit_row policy shelf connection cell top text = do
@@ -104,7 +104,7 @@ submit_row policy shelf connection cell top text = do
 
 -- ---- cells
 
--- the cells that have a submission, by name
+-- the cells that have a submission, in alphabetical order
 abbrev pub cells_of : List Submission → List Name
 cells_of shelf = by_name (map (λ s. s.cell) shelf)
 
@@ -127,7 +127,7 @@ readable_line policy shelf connection cell =
     then cell_line (present_submission shelf cell)
     else []
 
--- the row of `cells`
+-- the decision table of `cells`
 abbrev pub cells : Policy → List Submission → ℕ → Result (List Listed) Ending
 cells policy shelf connection = decided (in_session policy connection ∷ [])
     (map stored (flat_map (readable_line policy shelf connection) (cells_of shelf)))
@@ -144,16 +144,17 @@ abbrev pub readable_shape : Policy → List Submission → ℕ → Item → List
 readable_shape policy shelf connection item =
     line_if (may_read policy connection) (slice_get shelf item.origin) item
 
--- the row of `shapes`: the shapes of the cell's present submission that come from cells that the session may read
+-- the decision table of `shapes`: the shapes of the cell's present submission that come from cells that the
+-- session may read
 unfoldable pub shapes : Policy → List Submission → ℕ → Name → Result (List Listed) Ending
 shapes policy shelf connection cell = do
   entered ← permitted policy connection Read (object.Cell cell)
   number ← present_number (present shelf cell)
   Ok (flat_map (readable_shape policy shelf connection) (flat shelf number))
 
--- ---- what comes of a request
+-- ---- the outcome of a request
 
--- A reply with the shelf that it leaves, and whether that is a change, which has to be kept.
+-- A reply with the shelf after it, and whether that is a change, which must be stored.
 pub record Outcome : Type 0 where
   pub reply : Reply
   pub shelf : List Submission
@@ -162,7 +163,7 @@ pub record Outcome : Type 0 where
 abbrev pub no_change : Reply → List Submission → Outcome
 no_change told shelf = record { reply = told; shelf = shelf; changes = false }
 
--- What is submitted goes last on the shelf, and its version is told.
+-- A submission is added at the end of the shelf, and the reply has its version.
 abbrev pub submit_outcome : List Submission → Result Submission Ending → Outcome
 submit_outcome shelf (Ok s) = record {
   reply = reply.Ok (stored (line.Version s.version) ∷ []);
@@ -174,7 +175,7 @@ submit_outcome shelf (Err ending) = no_change (ended_by ending) shelf
 abbrev pub listing_outcome : List Submission → Result (List Listed) Ending → Outcome
 listing_outcome shelf row = no_change (listing_reply row) shelf
 
--- Each request by its row.
+-- Each request by its decision table.
 abbrev pub outcome_of : Policy → List Submission → ℕ → LayoutRequest → Outcome
 outcome_of policy shelf connection (ask.Submit cell top text) =
     submit_outcome shelf (submit_row policy shelf connection cell top text)

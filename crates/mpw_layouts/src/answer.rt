@@ -1,4 +1,4 @@
-//! The answers to requests over the shelf.
+//! The answers to requests of the layouts.
 ghost use Rattle.std.specs.Prelude.{◌≡◌, List, Result, None, IfOk, IfErr};
 ghost use Rattle.mpw_hier.specs.declared.submission.Submission.{Submission};
 ghost use Rattle.mpw_layouts.specs.Answers.{Gives};
@@ -15,23 +15,23 @@ use mpw_replies::{Fault, Line, Lines, Reply, listing_reply};
 use mpw_requests::LayoutRequest;
 use std::alloc::{AllocError, Global};
 
-/// The reply to a request over the shelf, and the shelf that it leaves where that is another.
+/// The reply to a request of the layouts, and the new shelf if it changes.
 #[derive(Drop)]
 pub struct LayoutAnswer {
-    /// What the request is answered.
+    /// The reply to the request.
     pub reply: Reply,
-    /// The shelf with the new submission; none where it stays as it is.
+    /// The shelf with the new submission, or none if it is unchanged.
     pub next: Option<Shelf>,
 }
 
-/// A reply that leaves the shelf.
+/// A reply that leaves the shelf unchanged.
 fn no_change(reply: Reply) -> LayoutAnswer
     ensures { (result.reply ≡ reply) × (result.next ≡ None) }
 {
     LayoutAnswer { reply, next: None }
 }
 
-/// The answer to what submits.
+/// The answer to a request that submits.
 fn submission(alloc: Global, made: Result<Shelved, Fault>) -> Result<LayoutAnswer, AllocError>
     ensures { (shelf : List Submission) (row : Result Submission AnyEnding) → IfOk made (λ next. IsShelved shelf row next.shelf next.version) → IfErr made (λ fault. Told fault row) → IfOk result (λ answer. Gives shelf (submit_outcome shelf row) answer) }
 {
@@ -46,18 +46,18 @@ fn submission(alloc: Global, made: Result<Shelved, Fault>) -> Result<LayoutAnswe
     }
 }
 
-/// The answer to what lists.
+/// The answer to a request that lists.
 fn listing(made: Result<Lines, Fault>) -> Result<LayoutAnswer, AllocError>
     ensures { (shelf : List Submission) (row : Result (List Listed) AnyEnding) → Answers (λ lines. lines) made row → IfOk result (λ answer. Gives shelf (listing_outcome shelf row) answer) }
 {
     Ok(no_change(listing_reply(made)?))
 }
 
-/// The answer to a request over the shelf. A submission takes its library's size, with a search for each name, and the
-/// number of submissions on the shelf, and so does `cells`; `shapes` takes the turns of a walk too.
+/// The answer to a request of the layouts. Cost of a submission: its library's size, a search for each name, and the number of submissions
+/// on the shelf. `cells` costs that number. `shapes` costs it too, and the turns of a walk.
 ///
 /// # Errors
-/// Where there is no room for it.
+/// Out of memory.
 pub fn answer_request(
     alloc: Global,
     policy: &Policy,

@@ -1,6 +1,6 @@
-//! The requests over the shelf of submissions: `submit`, `cells` and `shapes`.
+//! The requests of the layouts: `submit`, `cells` and `shapes`.
 //!
-//! [`answer_request`] gives the reply to such a request, and the shelf that it leaves, made aside from the desk's own.
+//! [`answer_request`] gives the reply to such a request, and the new shelf. It doesn't change the desk's own.
 #![tactic(auto)]
 
 mod answer;

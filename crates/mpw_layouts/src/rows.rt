@@ -1,6 +1,6 @@
-//! The rows of `submit`, `cells` and `shapes`.
+//! The decision tables of `submit`, `cells` and `shapes`.
 //!
-//! Each part of a row is a function that gives its value, or what ends the row, or tells want of memory.
+//! Each part of a table is a function. It returns its value, or the test that failed, or out of memory.
 ghost use Rattle.std.specs.Prelude.{◌≡◌, ◌<◌, ◌++◌, slice_get, length, map, IfOk, IfErr, OnOk, Some};
 ghost use Rattle.std.specs.List.{flat_map};
 ghost use Rattle.mpw_library.specs.Grammar.{library_of};
@@ -31,7 +31,7 @@ use mpw_replies::{Code, Denial, Ending, Fault, Line, Lines};
 use mpw_structures::Library;
 use std::alloc::{AllocError, Global};
 
-/// A fault of the shelf as what ends a row.
+/// The fault of a decision table for a fault of the shelf.
 fn fault_of(fault: HierFault) -> Fault
     ensures { result ≡ fault_of fault }
 {
@@ -47,7 +47,7 @@ fn fault_of(fault: HierFault) -> Fault
     }
 }
 
-/// The library that a text is of.
+/// The library in a text.
 fn read(alloc: Global, text: &LibraryText) -> Result<Library, Fault>
     ensures read { Answers (λ library. library) result (row.read (library_of text.now)) }
     ensures shape { IfOk result IsLibrary }
@@ -59,7 +59,7 @@ fn read(alloc: Global, text: &LibraryText) -> Result<Library, Fault>
     }
 }
 
-/// What the top of the library reaches, with the names outside the library.
+/// The structures that the top of the library reaches, with the names outside the library.
 fn outside(alloc: Global, library: &Library, top: &Name) -> Result<Outline, Fault>
     ensures outside { Answers (λ outline. outline.names) result (row.outside library.now top.now) }
     ensures outline { IfOk result (IsOutline library.now top.now) }
@@ -71,7 +71,7 @@ fn outside(alloc: Global, library: &Library, top: &Name) -> Result<Outline, Faul
     }
 }
 
-/// Whether each cell may be used, the first that may not told.
+/// Whether each cell may be used. The denial names the first that may not.
 fn usable(policy: &Policy, connection: u32, cells: &[Name]) -> Result<(), Fault>
     ensures { Answers (λ x. x) result (row.usable policy.now connection cells.now) }
 {
@@ -96,17 +96,17 @@ fn bind(alloc: Global, shelf: &Shelf, names: &[Name]) -> Result<Bindings, Fault>
     }
 }
 
-/// A shelf with the version of the submission that came last.
+/// A shelf with the version of the last submission.
 #[derive(Drop)]
 pub(crate) struct Shelved {
     pub(crate) shelf: Shelf,
     pub(crate) version: u32,
 }
 
-/// The most flat shapes that a submission on the desk may show, 2^20. (A shelf by itself takes more.)
+/// The most flat shapes of a submission on the desk, 2^20. (The shelf itself allows more.)
 pub const MAX_SHAPES: u64 = 1 << 20;
 
-/// The shelf with one more submission, if that keeps the limits.
+/// The shelf with one more submission, if that is within the limits.
 #[tactic(auto, unfolding(crate::specs::Layouts::within_limits))]
 fn keep(
     alloc: Global,
@@ -131,7 +131,7 @@ fn keep(
     }
 }
 
-/// The version of a submission; 0 where there is none of that number.
+/// The version of a submission, or 0 if there is none of that number.
 fn version_of(shelf: &Shelf, number: u32) -> u32
     ensures { (s : SubmissionTold) → slice_get shelf.now number ≡ Some s → result ≡ s.version }
 {
@@ -141,7 +141,7 @@ fn version_of(shelf: &Shelf, number: u32) -> u32
     }
 }
 
-/// What a submitter offers: a library, with the structure of it that the cell shows.
+/// What a submitter offers: a library, with the structure that is the cell's top.
 #[derive(Drop)]
 struct Offer {
     cell: Name,
@@ -150,7 +150,7 @@ struct Offer {
     top: Name,
 }
 
-/// The shelf with what is offered, bound to the present submissions of the cells that it uses.
+/// The shelf with the offered library, bound to the present submissions of the cells that it uses.
 #[tactic(auto, unfolding(crate::specs::Layouts::submitted_library))]
 fn submit_library(
     alloc: Global,
@@ -184,8 +184,7 @@ fn submit_library(
     keep(alloc, shelf, submission, &outline)
 }
 
-/// The shelf with the submission that a text makes. It takes the library's size, with a search for each name, and
-/// the number of submissions, which are shared.
+/// The shelf with the submission of a text. Cost: the library's size, a search for each name, and the number of submissions, which are shared.
 #[tactic(auto, unfolding(crate::specs::Layouts::submit_row))]
 pub(crate) fn submit(
     alloc: Global,
@@ -267,7 +266,7 @@ fn cell_lines(
     Lines::from_vec(alloc, lines)
 }
 
-/// The lines of `cells`: a sort of the submissions' cells, and a look-up for each.
+/// The lines of `cells`. Cost: a sort of the submissions' cells, and a look-up for each.
 pub(crate) fn cells(
     alloc: Global,
     policy: &Policy,
@@ -295,7 +294,7 @@ fn present_number(shelf: &Shelf, cell: &Name) -> Result<u32, Fault>
     }
 }
 
-/// The lines of `shapes`: a look-up for each submission on the shelf, and the turns of a walk over the submission's shapes.
+/// The lines of `shapes`. Cost: a look-up for each submission on the shelf, and the turns of a walk over the submission's shapes.
 #[tactic(auto, unfolding(crate::specs::Layouts::shapes))]
 pub(crate) fn shapes(
     alloc: Global,

@@ -10,11 +10,11 @@ use mpw_rbac::Policy;
 use mpw_replies::ShapeListing;
 use std::alloc::{AllocError, Global};
 
-/// The listing of a submission, as the connection's session may see it: one look-up for each submission on the shelf, and a pass
-/// over the structures of those that this one reaches.
+/// The listing of a submission, as the connection's session may see it. Cost: one look-up for each submission on the shelf, and a pass over
+/// the structures of those that this one reaches.
 ///
 /// # Errors
-/// Where there is no room.
+/// Out of memory.
 pub(crate) fn shapes_of(
     alloc: Global,
     policy: &Policy,

@@ -1,4 +1,4 @@
--- Names that no structure before has.
+-- Names that no earlier structure has.
 use Rattle.std.proofs.Common.{◌≡◌, ℕ, ◌+◌, Bool, true, false, cond, List, [], ◌∷◌, ◌++◌, Option, Some, None, refl}
 use Rattle.std.specs.List.{AllByRecursion}
 use Rattle.mpw_geom.specs.Names.{name_eq}

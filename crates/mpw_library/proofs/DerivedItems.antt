@@ -1,4 +1,4 @@
--- Elements are read exactly where the records derive them.
+-- Elements are read exactly if the records derive them.
 use Rattle.std.proofs.Common.{◌≡◌, ℕ, zero, suc, ◌<◌, Bool, true, false, cond, eqb, List, [], ◌∷◌, ◌++◌, length, Option, Some, None, Ok, Err, refl, sym, ap, subst, ◌∙◌, inl, inr, arith, append_assoc, length-append}
 use Rattle.std.proofs.lemmas.Bool.{eqb-true}
 use Rattle.std.proofs.lemmas.List.{append-nil}
@@ -40,7 +40,7 @@ next_is_complete kind r rest e = rw (demanded_complete kind r e) refl
 
 -- ---- elements
 
--- what stands next in a structure
+-- the next item of a structure
 data ItemIn (unit : ℕ) (all : List RecordOutcome) : Item × List RecordOutcome → Type 0 where
   ends : {end : RawRecord} {rest : List RecordOutcome} → all ≡ Ok end ∷ rest → end.kind ≡ ENDSTR
       → ItemIn unit all (items.End, rest)
@@ -73,7 +73,7 @@ item_sound unit (Ok r ∷ all) x e =
       ]
     ]
 
--- the elements of some records up to ENDSTR, behind others
+-- the elements of some records up to ENDSTR, after others
 abbrev pub ElementsIn : ℕ → List Element → List RecordOutcome → List Element × List RecordOutcome
     → Type 0
 ElementsIn unit before all x = ManyIn ENDSTR (DerivesElements unit) before all x

@@ -1,4 +1,4 @@
--- A library is read exactly where its records derive it.
+-- A library is read exactly if its records derive it.
 use Rattle.std.proofs.Common.{◌≡◌, ℕ, zero, suc, ◌+◌, Bool, true, false, eqb, ◌||◌, ◌&&◌, not, List, [], ◌∷◌, ◌++◌, length, map, drop, Ok, Err, refl, sym, ap, subst, ◌∙◌, inl, inr}
 use Rattle.std.proofs.lemmas.Bool.{eqb-true}
 use Rattle.mpw_structures.specs.declared.structures.Structure.{Structure}
@@ -16,7 +16,7 @@ use Rattle.mpw_library.proofs.DerivedItems.{next_is_sound, next_is_complete}
 
 -- ---- the head
 
--- what is passed over in search of a record of one type, where another may not stand
+-- what is skipped in search of a record of one type, where a record of another type is not allowed
 record PassesOver (passed : ℕ → Bool) (wanted unwanted : ℕ) : Type 0 where
   over : (k : ℕ) → eqb k wanted ≡ false → (eqb k unwanted || ends_head k) ≡ false → passed k ≡ true
   not_wanted : (k : ℕ) → passed k ≡ true → eqb k wanted ≡ false
@@ -135,7 +135,7 @@ head_complete {to_unit = us} a b u rest =
 
 -- ---- the library
 
--- the records of a library, and what stands behind ENDLIB
+-- the records of a library, and what comes after ENDLIB
 pub record LibraryIn (all : List RecordOutcome) (x : List Structure × List RecordOutcome) :
     Type 0 where
   pub before_end : List RawRecord
@@ -219,7 +219,7 @@ not_empty : (rs : List RawRecord) (end : RawRecord) (rest : List RecordOutcome)
 not_empty [] end rest e = cc
 not_empty (r ∷ rs) end rest e = cc
 
--- nothing is read behind ENDLIB
+-- nothing is read after ENDLIB
 last_record : (most : ℕ) (text : List ℕ) (offset : ℕ) (rs : List RawRecord) (end : RawRecord)
     (rest : List RecordOutcome) → end.kind ≡ ENDLIB
     → outcomes most text offset ≡ records_then rs (Ok end ∷ rest) → rest ≡ []

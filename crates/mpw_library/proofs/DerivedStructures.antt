@@ -1,4 +1,4 @@
--- Elements and structures are read exactly where the records derive them.
+-- Elements and structures are read exactly if the records derive them.
 use Rattle.std.proofs.Common.{◌≡◌, ℕ, zero, suc, ◌<◌, false, cond, eqb, List, [], ◌∷◌, ◌++◌, length, Option, Some, None, is_some, Ok, Err, refl, sym, ap, subst, ◌∙◌, inl, inr, arith, append_assoc, length-append}
 use Rattle.std.proofs.lemmas.Bool.{eqb-true}
 use Rattle.std.proofs.lemmas.List.{append-nil}
@@ -25,7 +25,7 @@ untaken_is : (place : Option ℕ) (r : RawRecord) (x : Unit {0}) → untaken pla
 untaken_is None r x e = refl
 untaken_is (Some place) r x e = absurd cc
 
--- the records of a structure behind BGNSTR, under a name that no structure before has
+-- the records of a structure after BGNSTR, with a name that no earlier structure has
 record StructureIn (unit : ℕ) (before : List Structure) (all : List RecordOutcome)
     (x : Structure × List RecordOutcome) : Type 0 where
   strname : RawRecord
@@ -68,7 +68,7 @@ structure_sound unit before all x e =
       absent = untaken_is (place_of before n.0) a.0.0 u.0 u.1;
     })
 
--- what stands next in a library
+-- the next item of a library
 data NextIn (unit : ℕ) (before : List Structure) (all : List RecordOutcome) : Option Structure
     × List RecordOutcome → Type 0 where
   ends : {end : RawRecord} {rest : List RecordOutcome} → all ≡ Ok end ∷ rest → end.kind ≡ ENDLIB
@@ -112,7 +112,7 @@ next_sound unit before (Ok r ∷ all) x e =
           (begun unit before r all s.0 g.0 (structure_sound unit before all s.0 s.1))
     ]
 
--- the structures of some records up to ENDLIB, behind others
+-- the structures of some records up to ENDLIB, after others
 pub record StructuresIn (unit : ℕ) (before : List Structure) (all : List RecordOutcome)
     (x : List Structure × List RecordOutcome) : Type 0 where
   pub in_order : ManyIn ENDLIB (DerivesStructures unit) before all x

@@ -1,11 +1,11 @@
--- Things that are derived one behind another, up to a record that ends them.
+-- Items that are derived one after another, up to a record that ends them.
 use Rattle.std.proofs.Common.{◌≡◌, ℕ, List, [], ◌∷◌, ◌++◌, Ok, sym, ◌∙◌, append_assoc}
 use Rattle.std.proofs.lemmas.List.{append-nil}
 use Rattle.mpw_records.specs.Records.{RawRecord, RecordOutcome}
 use Rattle.mpw_elements.specs.Derivation.{records_then}
 use Rattle.mpw_elements.proofs.DerivedFields.{parts_both}
 
--- the things of some records up to one of a type, behind others
+-- the items of some records up to one of a type, after others
 pub record ManyIn {A : Type 0} (kind : ℕ) (derives : List RawRecord → List A → Type 0)
     (before : List A) (all : List RecordOutcome) (x : List A × List RecordOutcome) : Type 0 where
   pub records : List RawRecord

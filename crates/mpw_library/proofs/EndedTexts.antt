@@ -1,4 +1,4 @@
--- The records of a text end with ENDLIB, or with a fault that is not of their order.
+-- The records of a text end with ENDLIB, or with a fault other than their order.
 use Rattle.std.proofs.Common.{◌≡◌, ℕ, zero, suc, ◌+◌, ◌-◌, ◌%◌, ◌<◌, ◌≤◌, Bool, true, false, cond, eqb, ltb, leb, ◌||◌, ◌&&◌, not, List, [], ◌∷◌, length, drop, Option, Some, None, refl, sym, ap, subst, ◌∙◌, arith, length-drop}
 use Rattle.std.specs.Prelude.{slice_index}
 use Rattle.mpw_records.specs.declared.fault.Code.{Code}
@@ -58,7 +58,7 @@ first_other bytes =
     (other_if (ltb (length bytes) (told_length bytes)) _ _ short_other
     (data_other (slice_index bytes 2) (slice_index bytes 3) (told_length bytes - 4))))
 
--- the records of a text end with ENDLIB, or with a fault that is not of their order
+-- the records of a text end with ENDLIB, or with a fault other than their order
 pub outcomes_ended : (most : ℕ) (text : List ℕ) (offset : ℕ) → offset ≤ length text
     → length text < most + offset → IsEnded (outcomes most text offset)
 unfolding outcomes

@@ -1,4 +1,4 @@
--- Readers that look at a record, and refuse it where it has no place.
+-- Readers that read a record, and refuse it if it isn't allowed in its position.
 use Rattle.std.proofs.Common.{◌≡◌, ℕ, Bool, true, false, cond, eqb, List, [], ◌∷◌, ◌++◌, Ok, Err, refl, sym, ap, subst, ◌∙◌, inl, inr}
 use Rattle.std.proofs.lemmas.Bool.{eqb-true}
 use Rattle.mpw_records.specs.declared.fault.Code.TheVariants.{Unexpected}
@@ -11,7 +11,7 @@ use Rattle.mpw_elements.proofs.DerivedFields.{bind_ok, demanded_sound, demanded_
 use Rattle.mpw_library.specs.Fronts.{is_formed}
 use Rattle.mpw_library.proofs.Refusals.{unexpected_at, IsEnded, Completes, Refuses, Reads, Local, bind_err, done_local, done_completes, goes_on_by}
 
--- ---- what a reader does behind a record
+-- ---- what a reader does after a record
 
 pub cons_reads : {V : Type 0} (P Q : List RecordOutcome → Reading V) (r : RawRecord)
     (all : List RecordOutcome)
@@ -72,7 +72,7 @@ module _ {V : Type 0} {Good : V → Type 0} where
         refuses = refuses;
       }
 
-  -- two readers that do the same behind a record
+  -- two readers that do the same after a record
   pub as_refuses : (P Q : List RecordOutcome → Reading V) (r : RawRecord) (all : List RecordOutcome)
       (offset : ℕ)
       → ((os : List RecordOutcome) → P (Ok r ∷ os) ≡ Q (Ok r ∷ os)) → Completes P Good []
@@ -107,19 +107,19 @@ module _ {V : Type 0} {Good : V → Type 0} where
             refuses = λ rest. alike (records_then bs (Ok q.refused ∷ rest)) ∙ refuses rest;
           }
 
--- ---- readers of a record that is at hand
+-- ---- readers of a record that was read ahead
 
 abbrev held_fault : ReadFault
 held_fault = unexpected_at 0
 
--- a reader that is handed the first record
+-- a reader that gets the first record
 abbrev pub held : {V : Type 0} → (RawRecord → List RecordOutcome → Reading V) → List RecordOutcome
     → Reading V
 held K [] = Err held_fault
 held K (Err f ∷ all) = Err f
 held K (Ok r ∷ all) = K r all
 
--- a reader of a record at hand refuses where nothing goes on, and can begin with a record of that
+-- a reader of a record that was read ahead refuses it if nothing continues, and can begin with a record of that
 -- type
 pub record Ahead {V : Type 0} (first : ℕ) (K : RawRecord → List RecordOutcome → Reading V)
     (Good : V → Type 0) : Type 0 where
@@ -218,7 +218,7 @@ module _ {V : Type 0} (start : ℕ) (K : RawRecord → List RecordOutcome → Re
     pub fielded_local : Local fielded Good
     fielded_local = record { reads = fielded_reads; fails = fielded_fails }
 
--- ---- a record that must be of a type
+-- ---- a record that must have a type
 
 demanded_err : (kind : ℕ) (r : RawRecord) (f : ReadFault) → demanded kind r ≡ Err f
     → (demanded kind r ≡ Err (fault_at Unexpected r)) × (fault_at Unexpected r ≡ f)
@@ -241,7 +241,7 @@ module _ {V : Type 0} (kind : ℕ) (Q : RawRecord → List RecordOutcome → Rea
   demands_same r h os = rw (demanded_complete kind r h) refl
 
   module _ {Good : V → Type 0} where
-    -- it can begin with a record of that type with which its reader goes on
+    -- it can begin with a record of that type with which its reader continues
     pub demanding_ahead : (c : RawRecord) → c.kind ≡ kind → is_formed c ≡ true
         → eqb kind ENDLIB ≡ false → ((d : RawRecord) → Local (Q d) Good) → Completes (Q c) Good []
         → Ahead kind (demanding kind Q) Good
@@ -287,7 +287,7 @@ pub record IsSample (kind : ℕ) (c : RawRecord) : Type 0 where
   pub inner : eqb kind ENDLIB ≡ false
   pub kept : is_skipped kind ≡ false
 
--- the next record of an element, which must be of a type
+-- the next record of an element, which must have a type
 module _ (start kind : ℕ) (c : RawRecord) (s : IsSample kind c) where
   expected_ahead : Ahead kind (demanding kind (λ d rs. Ok (d, rs))) (λ d. d ≡ c)
   expected_ahead =

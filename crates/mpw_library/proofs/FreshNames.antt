@@ -23,7 +23,7 @@ is_letter b = eqb b 65 || eqb b 66
 abbrev is_absent : List ℕ → List (List ℕ) → Bool
 is_absent w names = list_all (λ n. not (pointwise nat_eq n w)) names
 
--- what stands behind a letter in the names that begin with it
+-- what comes after a letter in the names that begin with it
 abbrev tails : ℕ → List (List ℕ) → List (List ℕ)
 tails a [] = []
 tails a ([] ∷ names) = tails a names
@@ -48,7 +48,7 @@ and_both : (a b : Bool) → (a && b) ≡ true → (a ≡ true) × (b ≡ true)
 and_both true b e = (refl, e)
 and_both false b e = absurd cc
 
--- a word behind a letter is none of the names where it is none of what stands behind that letter
+-- a word after a letter is none of the names if it is none of what comes after that letter
 absent_more : (a : ℕ) (w : List ℕ) (names : List (List ℕ)) → is_absent w (tails a names) ≡ true
     → is_absent (a ∷ w) names ≡ true
 absent_more a w [] h = refl
@@ -70,7 +70,7 @@ absent_more a w ((b ∷ bs) ∷ names) h = go (eqb b a) refl (λ k. absent_more 
         ∙ h in
         rw e (more k)
 
--- a word of so many letters that is none of the names
+-- a word of k letters that is none of the names
 record Word (k : ℕ) (names : List (List ℕ)) : Type 0 where
   word : List ℕ
   long : length word ≡ k

@@ -1,4 +1,4 @@
--- An element, and elements up to ENDSTR, refuse at the first record with which nothing goes on.
+-- An element, and elements up to ENDSTR, refuse at the first record with which nothing continues.
 use Rattle.std.proofs.Common.{◌≡◌, ℕ, ◌≤◌, Bool, true, false, eqb, List, [], ◌∷◌, ◌++◌, Option, Some, None, Ok, Err, refl, sym, ap, ◌∙◌}
 use Rattle.std.proofs.lemmas.Bool.{eqb-true}
 use Rattle.mpw_structures.specs.declared.element.Element.{Element}
@@ -88,7 +88,7 @@ module _ (start : ℕ) where
     begin = ignored_completes;
   }
 
--- ---- an element behind its first record
+-- ---- an element after its first record
 
 -- a reader that does the same as another
 as_whole : {V : Type 0} (P Q : List RecordOutcome → Reading V)

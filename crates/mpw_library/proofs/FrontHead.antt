@@ -1,5 +1,5 @@
--- What stands before the structures of a library refuses at the first record with which nothing
--- goes on.
+-- What comes before the structures of a library refuses at the first record with which nothing
+-- continues.
 use Rattle.std.proofs.Common.{◌≡◌, ℕ, zero, suc, ◌+◌, ◌≤◌, Bool, true, false, cond, eqb, ◌||◌, List, [], ◌∷◌, drop, Option, Some, None, Ok, Err, refl, sym, ap, ◌∙◌, arith}
 use Rattle.std.specs.List.{find, range_with_len}
 use Rattle.std.proofs.lemmas.Bool.{eqb-true}

@@ -1,4 +1,4 @@
--- Elements up to ENDSTR refuse at the first record with which nothing goes on.
+-- Elements up to ENDSTR refuse at the first record with which nothing continues.
 use Rattle.std.proofs.Common.{◌≡◌, ℕ, zero, suc, ◌≤◌, Bool, true, false, cond, eqb, List, [], ◌∷◌, ◌++◌, length, Option, Ok, Err, refl, sym, ap, subst, ◌∙◌, inl, inr, arith}
 use Rattle.std.proofs.lemmas.Bool.{eqb-true}
 use Rattle.mpw_structures.specs.declared.element.Element.{Element}
@@ -25,7 +25,7 @@ use Rattle.mpw_library.proofs.FrontLoops.{Loop, end_completes, loop_fails, lengt
 use Rattle.mpw_library.proofs.FrontElements.{ElementAt, element_at, mapped}
 use Rattle.mpw_library.proofs.Samples.{sample}
 
--- ---- what stands next in a structure
+-- ---- the next item of a structure
 
 abbrev pub end_of_structure : RawRecord
 end_of_structure = sample ENDSTR 0 []

@@ -35,7 +35,7 @@ same_records (x ∷ xs) (y ∷ ys) e =
     ap (λ (r : RawRecord). r ∷ xs) first
     ∙ ap (λ (rs : List RawRecord). y ∷ rs) (same_records xs ys others)
 
--- an opening, and structures up to ENDLIB behind it, are a library's records
+-- an opening, and structures up to ENDLIB after it, are a library's records
 finished : (front : List RawRecord) (unit : ℕ)
     → ((rest : List RecordOutcome) → opening (records_then front rest) ≡ Ok (unit, rest))
     → (tail : List RawRecord) (ss : List Structure)
@@ -174,7 +174,7 @@ code_is f code e = ap of e
     of : Code → ReadFault
     of c = record { code = c; offset = f.offset }
 
--- what reading tells
+-- the first unexpected record that reading reports
 pub first_told : (text : List ℕ) (result : Result (List Structure) ReadError) → length text < 2 ^ 64
     → GivesValue (λ ss. ss) result (library_of text) → IfErr result (IsToldFirst text)
 first_told text (Ok ss) few e = tt

@@ -1,4 +1,4 @@
--- A loop over things that a reader reads refuses at the first record with which nothing goes on.
+-- A loop over items that a reader reads refuses at the first record with which nothing continues.
 use Rattle.std.proofs.Common.{◌≡◌, ℕ, zero, suc, ◌+◌, ◌<◌, ◌≤◌, Bool, true, false, cond, List, [], ◌∷◌, ◌++◌, length, Ok, Err, refl, sym, ap, subst, ◌∙◌, inl, inr, arith}
 use Rattle.std.specs.List.{list_all}
 use Rattle.mpw_records.specs.declared.fault.Code.TheVariants.{Unexpected}
@@ -31,7 +31,7 @@ pub record Loop {S I : Type 0} (step : S → List RecordOutcome → Reading I) (
   pub is_last : is_end last ≡ true
   pub ends : (s : S) (rest : List RecordOutcome) → step s (Ok ending ∷ rest) ≡ Ok (last, rest)
 
--- records go on to the end of the loop
+-- records continue to the end of the loop
 pub record LoopCompletes {S : Type 0} (loop : ℕ → S → List RecordOutcome → Reading S) (s : S)
     (before : List RawRecord) : Type 0 where
   pub behind : List RawRecord
@@ -132,7 +132,7 @@ module _ {S I : Type 0} (step : S → List RecordOutcome → Reading I) (is_end 
       reads (suc most) rest le =
           last_is most s (Ok l.ending ∷ rest) rest l.last (l.ends s rest) l.is_last
 
-  -- a step that goes on, and the end where the loop has none yet
+  -- a step that continues, and the end if the loop has none yet
   step_completes : (s : S) (before : List RawRecord) → Completes (step s) Any before
       → LoopCompletes loop s before
   step_completes s before c = go (is_end c.value) refl
@@ -210,7 +210,7 @@ module _ {S I : Type 0} (step : S → List RecordOutcome → Reading I) (is_end 
           (λ (t : Reading I). t
           >>= λ i. cond (is_end i.0) (Ok (s, i.1)) (loop most (next s i.0) i.1)) (r.refuses rest)
 
-  -- what fails behind a step
+  -- what fails after a step
   later_refuses : (s : S) (all : List RecordOutcome) (offset : ℕ) (i : I × List RecordOutcome)
       → is_end i.0 ≡ false → Reads (step s) all i → LoopRefuses loop (next s i.0) i.1 offset
       → LoopRefuses loop s all offset
@@ -263,7 +263,7 @@ module _ {S I : Type 0} (step : S → List RecordOutcome → Reading I) (is_end 
           (subst (λ (os : List RecordOutcome). length os ≤ most) same le)
           (λ m k. q.refuses m rest k)
 
-  -- where each step of a state that holds refuses rightly, the loop does
+  -- if each step of a valid state refuses correctly, the loop does
   module _ (Holds : S → ℕ → Type 0)
       (onward : (s : S) (i : I) (m n : ℕ) → is_end i ≡ false → m < n → Holds s n
       → Holds (next s i) m)

@@ -1,4 +1,4 @@
--- References refuse at the first record with which nothing goes on.
+-- References refuse at the first record with which nothing continues.
 use Rattle.std.proofs.Common.{◌≡◌, ℕ, Bool, true, false, eqb, List, Option, Some, None, Result, Ok, Err, refl}
 use Rattle.mpw_geom.specs.declared.plane.Point.{Point}
 use Rattle.mpw_geom.specs.declared.plane.Orient.{Orient}
@@ -76,7 +76,7 @@ module _ {X : Type 0} (start : ℕ) (K : Orient → RawRecord → List RecordOut
   abbrev magnified_at : Bool → RawRecord → List RecordOutcome → Reading X
   magnified_at m = opting start MAG magnification_of tt (λ (u : Unit {0}). angle_at m)
 
-  -- what stands behind STRANS
+  -- what comes after STRANS
   abbrev turned : RawRecord → List RecordOutcome → Reading X
   turned r os = mirrored_of r >>= λ m. fielded start (magnified_at m) os
 
@@ -146,7 +146,7 @@ module _ {X : Type 0} (start : ℕ) (K : Orient → RawRecord → List RecordOut
 
 -- ---- references
 
--- a name, an orientation, and what stands behind them
+-- a name, an orientation, and what comes after them
 module _ (start kind : ℕ)
     (at : List ℕ → Orient → RawRecord → List RecordOutcome → Reading Reference)
     (not_flags : eqb kind STRANS ≡ false) (not_mag : eqb kind MAG ≡ false)

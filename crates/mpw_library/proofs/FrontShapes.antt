@@ -1,4 +1,4 @@
--- Boundaries and paths refuse at the first record with which nothing goes on.
+-- Boundaries and paths refuse at the first record with which nothing continues.
 use Rattle.std.proofs.Common.{◌≡◌, ℕ, ◌≤◌, Bool, true, false, cond, ℤ, pos, List, [], Result, Ok, Err, refl, ap}
 use Rattle.mpw_geom.specs.declared.plane.Point.{Point}
 use Rattle.mpw_structures.specs.declared.element.Boundary.{Boundary}
@@ -35,7 +35,7 @@ then_whole P Q p q = record {
 }
 
 module _ (start kind : ℕ) (c : RawRecord) (s : IsSample kind c) {X : Type 0} where
-  -- a record of a type, and what stands behind it
+  -- a record of a type, and what comes after it
   pub expected_then : (Q : RawRecord → List RecordOutcome → Reading X)
       → ((d : RawRecord) → Local (Q d) Any) → Completes (Q c) Any []
       → Whole (λ all. expected start kind all >>= λ x. Q x.0 x.1)
@@ -49,7 +49,7 @@ module _ (start kind : ℕ) (c : RawRecord) (s : IsSample kind c) {X : Type 0} w
       go : (d : RawRecord) → d ≡ c → Completes (Q d) Any []
       go d e = rw e begin
 
-  -- and a test of what it tells
+  -- and a test of its value
   pub expected_tested : {W : Type 0} (t : RawRecord → Result W ReadFault) (w : W)
       (Q : RawRecord → W → List RecordOutcome → Reading X)
       → ((d : RawRecord) → IsOfValue (t d)) → t c ≡ Ok w
@@ -60,7 +60,7 @@ module _ (start kind : ℕ) (c : RawRecord) (s : IsSample kind c) {X : Type 0} w
       (λ d. tested_local (Q d) (t d) (own d) (λ w h. (q d w h).local))
       (tested_completes (Q c) (t c) w e (q c w e).begin)
 
--- a record at hand, a test of what it tells, and what stands behind it
+-- a record that was read ahead, a test of its value, and what comes after it
 pub demanded_tested : (kind : ℕ) (c : RawRecord) → IsSample kind c
     → {W X : Type 0} (t : RawRecord → Result W ReadFault) (w : W)
     (Q : RawRecord → W → List RecordOutcome → Reading X)

@@ -1,4 +1,4 @@
--- Structures up to ENDLIB refuse at the first record with which nothing goes on.
+-- Structures up to ENDLIB refuse at the first record with which nothing continues.
 use Rattle.std.proofs.Common.{◌≡◌, ℕ, ◌+◌, ◌<◌, ◌≤◌, Bool, true, false, cond, eqb, not, List, [], ◌∷◌, ◌++◌, length, Option, Some, None, is_some, Ok, Err, refl, sym, ap, ◌∙◌, arith, length-append}
 use Rattle.mpw_structures.specs.declared.element.Element.{Element}
 use Rattle.mpw_structures.specs.declared.structures.Structure.{Structure}
@@ -126,7 +126,7 @@ module _ (unit : ℕ) (some : 1 ≤ unit) (ss : List Structure) where
           begin = then_completes (next_is STRNAME) named_body [] c (same_name c.value c.good);
         }
 
--- ---- what stands next in a library
+-- ---- the next item of a library
 
 abbrev bgnstr : RawRecord
 bgnstr = sample BGNSTR 2 []
@@ -260,7 +260,7 @@ module _ (unit : ℕ) where
   few_more ss None m n k lt le = omega (arith, lt, le, length-append ss [])
   few_more ss (Some s) m n k lt le = omega (arith, lt, le, length-append ss (s ∷ []))
 
-  -- where names are left for as many structures as there are records
+  -- if names are left for as many structures as there are records
   pub structures_fail_at : 1 ≤ unit → (most : ℕ)
       → ((ss : List Structure) → length ss ≤ most → Fresh ss)
       → (ss : List Structure) (all : List RecordOutcome) (offset : ℕ)

@@ -1,4 +1,4 @@
--- A record that may be absent, and the readers of what stands behind it.
+-- An optional record, and the readers of what comes after it.
 use Rattle.std.proofs.Common.{◌≡◌, ℕ, Bool, true, false, eqb, List, [], ◌∷◌, Result, Ok, Err, refl, sym, ap, ◌∙◌}
 use Rattle.std.proofs.lemmas.Bool.{eqb-true}
 use Rattle.mpw_records.specs.declared.fault.ReadFault.{ReadFault}
@@ -9,7 +9,7 @@ use Rattle.mpw_elements.specs.Derivation.{records_then}
 use Rattle.mpw_library.proofs.Refusals.{unexpected_at, IsEnded, Completes, Refuses, Reads, Local, IsOfValue, tested_local, goes_on_by}
 use Rattle.mpw_library.proofs.Fields.{as_reads, cons_refuses, as_refuses, cons_completes, held, Ahead, fielded, fielded_local}
 
--- a reader that does one thing at a record of a type, and another at any other
+-- a reader that continues in one way at a record of a type, and in another way at any other record
 module _ {X : Type 0} {Good : X → Type 0} (kind first : ℕ)
     (O K valued : RawRecord → List RecordOutcome → Reading X)
     (present : (r : RawRecord) → eqb r.kind kind ≡ true → (os : List RecordOutcome)
@@ -74,7 +74,7 @@ opting start kind value default K r rs =
 
 module _ {V X : Type 0} (start kind : ℕ) (value : RawRecord → Result V ReadFault) (default : V)
     (K : V → RawRecord → List RecordOutcome → Reading X) where
-  -- what stands behind it
+  -- what comes after it
   abbrev valued : RawRecord → List RecordOutcome → Reading X
   valued r os = value r >>= λ v. fielded start (K v) os
 

@@ -1,4 +1,4 @@
--- Readers that refuse at the first record with which nothing goes on, and how they follow each
+-- Readers that refuse at the first record with which nothing continues, and how they follow each
 -- other.
 use Rattle.std.proofs.Common.{◌≡◌, ℕ, true, false, eqb, List, [], ◌∷◌, ◌++◌, Result, Ok, Err, refl, sym, ap, subst, ◌∙◌, inl, inr}
 use Rattle.std.specs.Prelude.{◌⊎◌}
@@ -16,13 +16,13 @@ use Rattle.mpw_library.specs.Fronts.{is_formed}
 abbrev pub unexpected_at : ℕ → ReadFault
 unexpected_at offset = record { code = Unexpected; offset = offset }
 
--- records up to ENDLIB, or up to a fault that is not of their order
+-- records up to ENDLIB, or up to a fault other than their order
 abbrev pub IsEnded : List RecordOutcome → Type 0
 IsEnded [] = ⊥
 IsEnded (Err f ∷ all) = f.code ≡ Unexpected → ⊥
 IsEnded (Ok r ∷ all) = eqb r.kind ENDLIB ≡ false → IsEnded all
 
--- records go on to what a reader reads
+-- records continue to what a reader reads
 pub record Completes {V : Type 0} (P : List RecordOutcome → Reading V) (Good : V → Type 0)
     (before : List RawRecord) : Type 0 where
   pub behind : List RawRecord
@@ -32,7 +32,7 @@ pub record Completes {V : Type 0} (P : List RecordOutcome → Reading V) (Good :
   pub reads : (rest : List RecordOutcome)
       → P (records_then (before ++ behind) rest) ≡ Ok (value, rest)
 
--- a reader refuses a record, whatever stands behind it, and what stands before it goes on
+-- a reader refuses a record, whatever comes after it, and what comes before it continues
 pub record Refuses {V : Type 0} (P : List RecordOutcome → Reading V) (Good : V → Type 0)
     (all : List RecordOutcome) (offset : ℕ) : Type 0 where
   pub before : List RawRecord
@@ -44,7 +44,7 @@ pub record Refuses {V : Type 0} (P : List RecordOutcome → Reading V) (Good : V
   pub refuses : (rest : List RecordOutcome)
       → P (records_then before (Ok refused ∷ rest)) ≡ Err (fault_at Unexpected refused)
 
--- a reader reads these records, whatever stands behind them
+-- a reader reads these records, whatever comes after them
 pub record Reads {V : Type 0} (P : List RecordOutcome → Reading V) (all : List RecordOutcome)
     (x : V × List RecordOutcome) : Type 0 where
   pub records : List RawRecord
@@ -52,7 +52,7 @@ pub record Reads {V : Type 0} (P : List RecordOutcome → Reading V) (all : List
   pub same : (rest : List RecordOutcome) → P (records_then records rest) ≡ Ok (x.0, rest)
   pub ended : IsEnded all → IsEnded x.1
 
--- the same records go on with another reader
+-- the same records continue with another reader
 pub goes_on_by : {V : Type 0} {P Q : List RecordOutcome → Reading V} {Good Best : V → Type 0}
     {front before : List RawRecord} (c : Completes P Good front) → Best c.value
     → ((rest : List RecordOutcome) → Q (records_then (before ++ c.behind) rest) ≡ Ok (c.value, rest))
@@ -109,11 +109,11 @@ pub bind_err : {A B : Type 0} (r : Result A ReadFault) (f : A → Result B ReadF
 bind_err (Ok x) f d e = inr (x, refl, e)
 bind_err {A = A} {B = B} (Err g) f d e = inl (fault_is {A = B} {B = A} g d e)
 
--- a test of a value whose fault is never that of a record's place
+-- a test of a value whose fault is never that of a record's position
 abbrev pub IsOfValue : {W : Type 0} → Result W ReadFault → Type 0
 IsOfValue t = (offset : ℕ) → t ≡ Err (unexpected_at offset) → ⊥
 
--- ---- one reader behind another
+-- ---- one reader after another
 
 pub both_formed : (xs ys : List RawRecord) → list_all is_formed xs ≡ true
     → list_all is_formed ys ≡ true → list_all is_formed (xs ++ ys) ≡ true

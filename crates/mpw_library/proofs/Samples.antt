@@ -138,7 +138,7 @@ colrow_counts = refl
 zero_part : (n : ℕ) → part_of n (pos 0) ≡ Some (int_div (pos 0) (pos n))
 zero_part n = rw (zero-mod n) refl
 
--- a grid of any counts, all of whose places are the origin
+-- a grid with any counts, whose points are all the origin
 pub corner_grid : (unit columns rows : ℕ) → (g : Grid) × (grid_of unit columns rows corner ≡ Ok g)
 unfolding grid_of
 corner_grid unit columns rows = (

@@ -1,4 +1,4 @@
--- A library by cases (GDSII Stream, "Stream syntax"): of which structures a list of records is the text, from HEADER to ENDLIB.
+-- A library by cases (GDSII Stream, "Stream syntax"): which structures a list of records is, from HEADER to ENDLIB.
 use Rattle.std.specs.Prelude.{◌≡◌, ◌↔◌, ℕ, ◌&&◌, ◌==◌, not, Bool, true, false, List, [], ◌∷◌, ◌++◌, map, Some, None, Ok}
 use Rattle.std.specs.List.{AllByRecursion}
 use Rattle.mpw_geom.specs.Names.{name_eq}
@@ -10,7 +10,7 @@ use Rattle.mpw_elements.specs.Values.{name_of}
 use Rattle.mpw_elements.specs.Derivation.{Behind, DerivesElement}
 use Rattle.mpw_library.specs.Grammar.{unit_of, ends_head, is_between, library_of}
 
--- {element}, with the records that may stand between them. TEXT and NODE give no element.
+-- {element}, with the records that are allowed between them. TEXT and NODE give no element.
 pub data DerivesElements (unit : ℕ) : List RawRecord → List Element → Type 0 where
   none : DerivesElements unit [] []
   between : {r : RawRecord} {rs : List RawRecord} {es : List Element} → is_between r.kind ≡ true
@@ -39,11 +39,11 @@ pub data DerivesStructures (unit : ℕ) : List RawRecord → List Structure → 
       → DerivesStructure unit front s → DerivesStructures unit rs ss
       → DerivesStructures unit (front ++ rs) (s ∷ ss)
 
--- What may stand in the head beside LIBNAME and UNITS: any record but HEADER, BGNLIB, BGNSTR and ENDLIB.
+-- What is allowed in the head in addition to LIBNAME and UNITS: any record but HEADER, BGNLIB, BGNSTR and ENDLIB.
 abbrev pub is_aside : ℕ → Bool
 is_aside kind = not (kind == LIBNAME) && not (kind == UNITS) && not (ends_head kind)
 
--- No structure has the name of one before it.
+-- No structure has the name of an earlier one.
 abbrev pub HaveNamesApart : List Structure → Type 0
 HaveNamesApart [] = Unit {0}
 HaveNamesApart (s ∷ ss) = AllByRecursion (λ t. name_eq s.name t.name ≡ false) ss × HaveNamesApart ss
@@ -60,13 +60,13 @@ pub data DerivesLibrary : List RawRecord → List Structure → Type 0 where
       → end.kind ≡ ENDLIB
       → DerivesLibrary (header ∷ begin ∷ to_name ++ to_units ++ rs ++ end ∷ []) ss
 
--- The records of the text up to ENDLIB are all without fault, and they derive the structures.
+-- The records of the text up to ENDLIB have no fault, and they derive the structures.
 pub record IsTextOf (text : List ℕ) (ss : List Structure) : Type 0 where
   pub records : List RawRecord
   pub whole : outcomes_of text ≡ map (λ r. Ok r) records
   pub derived : DerivesLibrary records ss
 
--- Reading a text gives structures exactly where it is a text of them.
+-- Reading a text gives structures exactly if it is a text of them.
 abbrev pub LibrariesAreDerived : Type 0
 LibrariesAreDerived =
     (text : List ℕ) (ss : List Structure) → library_of text ≡ Ok ss ↔ IsTextOf text ss

@@ -14,7 +14,7 @@ use Rattle.mpw_elements.specs.Grammar.{element}
 use Rattle.mpw_library.specs.declared.read.Item.{Item}
 use Rattle.mpw_library.specs.declared.read.Item.TheVariants as items
 
--- What a text that ends without ENDLIB and without a fault would be. No text does.
+-- The fault of a text that ends without ENDLIB and without a fault. No text does.
 abbrev pub gone : ReadFault
 gone = record { code = Short; offset = 0 }
 
@@ -24,7 +24,7 @@ next_record [] = Err gone
 next_record (Err f ∷ rs) = Err f
 next_record (Ok r ∷ rs) = Ok (r, rs)
 
--- The next record, which must be of this type.
+-- The next record, which must have this type.
 unfoldable pub next_is : ℕ → List RecordOutcome → Reading RawRecord
 next_is kind rs = do
   next ← next_record rs
@@ -41,11 +41,11 @@ unit_or_fault None r = Err (fault_at BadUnit r)
 unfoldable pub unit_of : RawRecord → Result ℕ ReadFault
 unit_of r = unit_or_fault (nanometres (real_value (drop 8 r.bytes))) r
 
--- The records that can't stand in the head.
+-- The records that aren't allowed in the head.
 abbrev pub ends_head : ℕ → Bool
 ends_head kind = (kind == HEADER) || (kind == BGNLIB) || (kind == BGNSTR) || (kind == ENDLIB)
 
--- The first record of the wanted type in the head, behind none of the unwanted one.
+-- The first record of the wanted type in the head. None of the unwanted type may come before it.
 unfoldable pub up_to : (wanted unwanted : ℕ) → List RecordOutcome → Reading RawRecord
 up_to wanted unwanted [] = Err gone
 up_to wanted unwanted (Err f ∷ rs) = Err f
@@ -64,7 +64,7 @@ head rs = do
 
 -- ---- structures
 
--- PROPATTR, PROPVALUE and type 34 hex may stand between elements, and say nothing.
+-- PROPATTR, PROPVALUE and type 34 hex are allowed between elements, and have no meaning for the layout.
 abbrev pub is_between : ℕ → Bool
 is_between kind = (kind == PROPATTR) || (kind == PROPVALUE) || (kind == STRCLASS)
 
@@ -72,7 +72,7 @@ abbrev pub item_of : Option Element → Item
 item_of (Some e) = items.Placed e
 item_of None = items.Other
 
--- What stands next in a structure: its end, an element, or what says nothing.
+-- The next item of a structure: its end, an element, or something without meaning for the layout.
 unfoldable pub item : ℕ → List RecordOutcome → Reading Item
 item unit rs = do
   next ← next_record rs
@@ -92,7 +92,7 @@ placed items.End = []
 placed items.Other = []
 placed (items.Placed e) = e ∷ []
 
--- The elements up to ENDSTR, behind those that were read, in at most so many items.
+-- The elements up to ENDSTR, after those that were read, in at most the given number of items.
 unfoldable pub elements_behind : ℕ → ℕ → List Element → List RecordOutcome → Reading (List Element)
 elements_behind zero unit es rs = Err gone
 elements_behind (suc most) unit es rs = do
@@ -103,12 +103,12 @@ elements_behind (suc most) unit es rs = do
 abbrev pub all_elements : ℕ → List RecordOutcome → Reading (List Element)
 all_elements unit rs = elements_behind (length rs) unit [] rs
 
--- A name that no structure before has.
+-- A name that no earlier structure has.
 abbrev pub untaken : Option ℕ → RawRecord → Result (Unit {0}) ReadFault
 untaken None r = Ok tt
 untaken (Some place) r = Err (fault_at DoubleName r)
 
--- STRNAME element* ENDSTR, behind other structures.
+-- STRNAME element* ENDSTR, after other structures.
 unfoldable pub structure : ℕ → List Structure → List RecordOutcome → Reading Structure
 structure unit ss rs = do
   strname ← next_is STRNAME rs
@@ -131,7 +131,7 @@ abbrev pub added : Option Structure → List Structure
 added None = []
 added (Some s) = s ∷ []
 
--- The structures up to ENDLIB, with those that were read before, at most so many more.
+-- The structures up to ENDLIB, with those that were read before. The given number limits how many more are read.
 unfoldable pub structures_behind : ℕ → ℕ → List Structure → List RecordOutcome
     → Reading (List Structure)
 structures_behind zero unit ss rs = Err gone
@@ -153,6 +153,6 @@ library rs = do
   structures ← all_structures unit.0 unit.1
   Ok structures.0
 
--- The structures of a text, or its first fault. What stands behind ENDLIB is no part of it.
+-- The structures of a text, or its first fault. What comes after ENDLIB is no part of it.
 abbrev pub library_of : List ℕ → Result (List Structure) ReadFault
 library_of text = library (outcomes_of text)

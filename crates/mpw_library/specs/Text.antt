@@ -1,4 +1,4 @@
--- A text with what reading it gives.
+-- A text with the result of reading it.
 use Rattle.std.specs.Prelude.{◌≡◌, ℕ, List, Result, IfOk}
 use Rattle.mpw_structures.specs.declared.structures.Structure.{Structure}
 use Rattle.mpw_structures.specs.Library.{IsLibrary}

@@ -1,20 +1,19 @@
-//! Laws of the definitions alone. Each function has an empty body: its contract is the laws.
+//! Laws about the definitions. Each function has an empty body; its contract is the law.
 
 ghost use Rattle.mpw_library.specs.Derivation.{LibrariesAreDerived, OneDerivation};
 ghost use Rattle.mpw_library.specs.Fronts.{UnexpectedIsFirst};
 
-/// Reading a text gives the structures that the Stream syntax derives from its records up to ENDLIB, all of them without
-/// fault, and it gives none where the syntax derives none. The same records never derive two libraries. The reading that
-/// `read_library` does is the definition that computes, and the syntax is the relation by cases, a case for each
-/// production.
+/// Reading a text gives the structures that the Stream syntax derives from its records up to ENDLIB, which all have no
+/// fault. It gives none if the syntax derives none. The same records never derive two libraries. The reading of
+/// `read_library` is a definition that computes. The syntax is a relation by cases, with one case for each production.
 pub fn libraries_are_derived()
     ensures derived { LibrariesAreDerived }
     ensures once { OneDerivation }
 {}
 
-/// Where reading a text of less than 2^64 bytes tells an unexpected record, the records before it are
-/// the front of some library's records, and with it of none's: the offset told is that of the first
-/// record with which no text goes on. This is said by the syntax, the relation by cases.
+/// If reading a text of less than 2^64 bytes reports an unexpected record, then the records before it are the front of some
+/// library's records, and with it they are the front of none. So the reported offset is that of the first record with which
+/// no library's records can continue. The syntax, the relation by cases, says this.
 pub fn unexpected_is_first()
     ensures { UnexpectedIsFirst }
 {}

@@ -1,6 +1,6 @@
-//! Reading a whole GDSII library: its structures, each with its elements, in nm.
+//! Reads a whole GDSII library: its structures, each with its elements, in nm.
 //!
-//! `read_library(alloc, bytes)` reads a text from front to end once. It answers a `Library` of `mpw_structures`, or the
+//! `read_library(alloc, bytes)` reads a text once from front to end. It returns a `Library` of `mpw_structures`, or the
 //! first fault by offset.
 #![tactic(auto)]
 

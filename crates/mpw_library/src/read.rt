@@ -1,4 +1,4 @@
-//! Reading a whole text.
+//! Reads a whole text.
 
 ghost use Rattle.std.specs.Prelude.{◌≡◌, ◌<◌, ◌≤◌, ◌==◌, ◌||◌, None, length, IsTrue, OnOk, IfOk, IfErr, IfSome, All};
 ghost use Rattle.mpw_structures.specs.Element.{IsElement};
@@ -18,12 +18,12 @@ use mpw_structures::{Element, Elements, Library, SharedText, Storage, Structure,
 use std::alloc::Global;
 use std::sync::Arc;
 
-/// What stands next in a structure.
+/// The next item of a structure.
 #[derive(Drop)]
 pub enum Item {
     /// ENDSTR.
     End,
-    /// What says nothing of the layout.
+    /// Something without meaning for the layout.
     Other,
     /// An element.
     Placed(Element),
@@ -45,7 +45,7 @@ fn next_record<'a>(records: &mut Records<'a>) -> Result<Record<'a>, ReadError>
     }
 }
 
-/// The next record, which must be of a type.
+/// The next record, which must have the given type.
 #[tactic(auto, unfolding(crate::specs::Grammar::next_is))]
 fn next_is<'a>(records: &mut Records<'a>, kind: u8) -> Result<Record<'a>, ReadError>
     ensures record { GivesReading raw result records.new (next_is kind records.old) }
@@ -84,7 +84,7 @@ fn is_refused(kind: u8, unwanted: u8) -> bool
     kind == unwanted || ends_head(kind)
 }
 
-/// The first record of the wanted type in the head, behind none of the unwanted one.
+/// The first record of type `wanted` in the head. None of type `unwanted` may come before it.
 fn up_to<'a>(records: &mut Records<'a>, wanted: u8, unwanted: u8) -> Result<Record<'a>, ReadError>
     ensures record { GivesReading raw result records.new (up_to wanted unwanted records.old) }
     ensures least { IfOk result (λ r. least_size wanted ≤ length r.bytes.now) }
@@ -120,7 +120,7 @@ fn is_between(kind: u8) -> bool
     matches!(kind, kind::PROPATTR | kind::PROPVALUE | kind::STRCLASS)
 }
 
-/// What stands next in a structure.
+/// The next item of a structure.
 #[tactic(auto, unfolding(crate::specs::Grammar::item))]
 fn next_item(storage: Storage<'_>, records: &mut Records<'_>, unit: u16) -> Result<Item, ReadError>
     requires { unit ≤ 1000 }
@@ -163,7 +163,7 @@ fn read_elements(
     }
 }
 
-/// STRNAME and the elements up to ENDSTR, behind other structures.
+/// STRNAME and the elements up to ENDSTR, after other structures.
 #[tactic(auto, unfolding(crate::specs::Grammar::structure))]
 fn read_structure(
     storage: Storage<'_>,
@@ -186,7 +186,7 @@ fn read_structure(
     Ok(Structure { name, elements })
 }
 
-/// BGNSTR and a structure, or none at ENDLIB.
+/// BGNSTR and a structure, or `None` at ENDLIB.
 #[tactic(auto, unfolding(crate::specs::Grammar::next_structure))]
 fn next_structure(
     storage: Storage<'_>,
@@ -244,16 +244,15 @@ fn read_whole(alloc: Global, text: &Arc<Vec<u8>>) -> Result<Library, ReadError>
     Ok(Library::new(alloc, structures)?)
 }
 
-/// Reads a library from a text of GDSII Stream release 6, with coordinates in nm whatever the
-/// database unit is. What stands behind ENDLIB is no part of it. The points of its elements stay in the text, which the library
-/// shares.
+/// Reads a library from a text of GDSII Stream release 6. Coordinates are in nm, whatever the database unit is. What comes after
+/// ENDLIB is no part of the library. The points of its elements stay in the text, which the library shares.
 ///
-/// One pass over the text; it takes memory for the structures, their elements and the index of their
-/// names: 32 bytes for a boundary, whatever its points.
+/// One pass over the text. Memory: for the structures, their elements and the index of their names.
+/// A boundary takes 32 bytes, however many points it has.
 ///
 /// # Errors
-/// The first fault by offset, with the first code in the order of the tests; or want of memory. An
-/// unexpected record is told by the offset of the first record with which no text goes on.
+/// The first fault by offset, with the first code in the order of the tests; or out of memory. The offset of an
+/// unexpected record is that of the first record with which no library's records can continue.
 pub fn read_shared(alloc: Global, text: &Arc<Vec<u8>>) -> Result<Library, ReadError>
     ensures library { GivesValue (λ library. library) result (library_of text.now.value.items) }
     ensures derived { IfOk result (IsTextOf text.now.value.items) }
@@ -263,10 +262,10 @@ pub fn read_shared(alloc: Global, text: &Arc<Vec<u8>>) -> Result<Library, ReadEr
     read_whole(alloc, text)
 }
 
-/// The same of a text that stays another's: it is copied once.
+/// Reads a library from a text that the caller keeps. The text is copied once.
 ///
 /// # Errors
-/// As [`read_shared`].
+/// The same as those of [`read_shared`].
 pub fn read_library(alloc: Global, bytes: &[u8]) -> Result<Library, ReadError>
     ensures library { GivesValue (λ library. library) result (library_of bytes.now) }
     ensures derived { IfOk result (IsTextOf bytes.now) }

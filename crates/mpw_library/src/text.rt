@@ -13,8 +13,8 @@ use std::alloc::{AllocError, Global};
 use std::marker::Model;
 use std::sync::Arc;
 
-/// The bytes of a text, with what reading them gave: a library, or the first fault. Contracts see the
-/// bytes. Copies share both; [`LibraryText::alone`] has the bytes alone.
+/// The bytes of a text, with the result of reading them: a library, or the first fault. Contracts see the
+/// bytes. Copies share both; [`LibraryText::alone`] has only the bytes.
 pub struct LibraryText {
     bytes: Arc<Vec<u8>>,
     outcome: Option<Result<Library, ReadFault>>,
@@ -43,7 +43,7 @@ impl LibraryText {
     /// The text of these bytes. They are read once, here.
     ///
     /// # Errors
-    /// Want of memory, for the library or for what is shared.
+    /// Out of memory, for the library or for what is shared.
     pub fn read(alloc: Global, bytes: Vec<u8>) -> Result<LibraryText, AllocError>
         ensures { IfOk result (λ text. text ≡ bytes.items) }
     {
@@ -66,10 +66,10 @@ impl LibraryText {
         self.bytes.as_slice()
     }
 
-    /// The library that the text is of: in constant time, or read again where the bytes stand alone.
+    /// The library of the text: in constant time, or read again if only the bytes are stored.
     ///
     /// # Errors
-    /// The first fault by offset, or want of memory.
+    /// The first fault by offset, or out of memory.
     pub fn library(&self, alloc: Global) -> Result<Library, ReadError>
         ensures library { GivesValue (λ library. library) result (library_of self.now) }
         ensures shape { IfOk result IsLibrary }
@@ -80,10 +80,10 @@ impl LibraryText {
         }
     }
 
-    /// The same text, in constant time and without further memory, with its bytes alone: what reading them gave can go.
+    /// The same text, in constant time and without more memory, with only its bytes. The result of reading them can be freed.
     ///
     /// # Errors
-    /// Where no more copies can be counted.
+    /// If no more copies can be counted.
     pub fn alone(&self) -> Result<LibraryText, AllocError>
         ensures { IfOk result (λ text. text ≡ self.now) }
     {
@@ -93,10 +93,10 @@ impl LibraryText {
         })
     }
 
-    /// The same text, in constant time and without further memory.
+    /// The same text, in constant time and without more memory.
     ///
     /// # Errors
-    /// Where no more copies can be counted.
+    /// If no more copies can be counted.
     pub fn copy(&self) -> Result<LibraryText, AllocError>
         ensures { IfOk result (λ text. text ≡ self.now) }
     {
@@ -107,7 +107,7 @@ impl LibraryText {
     }
 }
 
-/// What reading gave.
+/// The result of reading.
 fn library_in(outcome: &Result<Library, ReadFault>) -> Result<Library, ReadError>
     ensures { GivesValue (λ library. library) result outcome.now }
 {
@@ -117,7 +117,7 @@ fn library_in(outcome: &Result<Library, ReadFault>) -> Result<Library, ReadError
     }
 }
 
-/// What reading gave, shared.
+/// The result of reading, shared.
 fn copy_outcome(
     outcome: &Option<Result<Library, ReadFault>>,
 ) -> Result<Option<Result<Library, ReadFault>>, AllocError>

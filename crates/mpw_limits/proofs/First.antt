@@ -10,7 +10,7 @@ use Rattle.mpw_report.specs.Content.{of_rule, AgreeFirst}
 use Rattle.mpw_report.proofs.First.{texts_same}
 use Rattle.mpw_limits.specs.Limits.{Limited, line_text, listed_of, listed_count, rule_lines, limited_text, with_markers, FirstMarkersAreListed}
 
--- Numbers that are the same for each have the same sum.
+-- Numbers that are equal for each entry have the same sum.
 sums_same : {X : Type 0} (f g : X → ℕ) (xs : List X) → ((x : X) → f x ≡ g x)
     → sum_by f xs ≡ sum_by g xs
 sums_same f g [] same = refl

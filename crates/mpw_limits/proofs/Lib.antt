@@ -1,3 +1,3 @@
--- The lemmas of limited listings.
+-- The lemmas about limited listings.
 mod First
 mod Rows

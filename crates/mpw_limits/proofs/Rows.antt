@@ -1,4 +1,4 @@
--- Texts and sums of rows, one behind another.
+-- Texts and sums of rows, one after another.
 use Rattle.std.proofs.Common.{◌≡◌, ℕ, ◌+◌, ◌<◌, ◌≤◌, List, [], ◌∷◌, ◌++◌, length, get_or, take, sym, ap, ◌∙◌, append_assoc, append-nil, arith}
 use Rattle.std.specs.Prelude.{sum_by}
 use Rattle.std.specs.List.{flat_map, enumerate_from}
@@ -12,7 +12,7 @@ behind_all f [] x = simp append-nil
 behind_all f (y ∷ xs) x =
     ap (λ t. f y ++ t) (behind_all f xs x) ∙ sym (append_assoc (f y) (flat_map f xs) (f x))
 
--- The row at a place.
+-- The row at an index.
 row_is : {X : Type 0} (xs : List X) (i : ℕ) (d : X) → i < length xs
     → get_or (enumerate_from 0 xs) i (i, d) ≡ (i, get_or xs i d)
 row_is xs i d h =
@@ -35,7 +35,7 @@ pub rows_all : {X : Type 0} (f : ℕ × X → List ℕ) (xs : List X) (i : ℕ) 
 rows_all f xs i h =
     ap (flat_map f) (take_all i (enumerate_from 0 xs) (omega (arith, h, length-enumerate_from 0 xs)))
 
--- The same of a sum.
+-- The same for a sum.
 pub sum_more : {X : Type 0} (f : ℕ × X → ℕ) (xs : List X) (i : ℕ) (d : X) → i < length xs
     → sum_by f (take (i + 1) (enumerate_from 0 xs))
     ≡ sum_by f (take i (enumerate_from 0 xs)) + f (i, get_or xs i d)

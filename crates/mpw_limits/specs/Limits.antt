@@ -1,4 +1,4 @@
--- The first markers of each rule, as many as a limit allows, and the text of their listing.
+-- The first markers of each rule, up to a limit, and the text of their listing.
 use Rattle.std.specs.Prelude.{◌≡◌, ℕ, ◌-◌, ◌^◌, ◌++◌, List, [], ◌∷◌, codes, length, min, take, sum_by}
 use Rattle.std.specs.List.{concat, enumerate_from, flat_map}
 use Rattle.std.specs.Fmt.{decimal}
@@ -9,7 +9,7 @@ use Rattle.mpw_report.specs.Content.{of_rule, AgreeFirst}
 use Rattle.mpw_wire.specs.Keys.{key_text, spot_of}
 use Rattle.mpw_limits.specs.declared.listing.Limited as declared
 
--- The structure's name, the rules, the markers, and how many of a rule are listed at most.
+-- The structure's name, the rules, the markers, and the most markers of a rule that are listed.
 pub record Limited : Type 0 where
   pub top : List ℕ
   pub rules : List Rule
@@ -24,15 +24,15 @@ unfoldable pub line_text : List ℕ → Rule → Marker → List ℕ
 line_text top rule m =
     key_text rule.name (spot_of (key_of m)) ++ concat (codes " " ∷ top ∷ codes "\n" ∷ [])
 
--- How many there are of the rule with that place in the deck.
+-- How many there are of the rule at that index in the deck.
 abbrev pub count_of : List Marker → ℕ → ℕ
 count_of markers place = length (of_rule markers place)
 
--- The lines of the first of a rule, in their order.
+-- The lines of the first markers of a rule, in their order.
 abbrev pub rule_lines : Limited → ℕ × Rule → List ℕ
 rule_lines l row = flat_map (line_text l.top row.1) (take l.limit (of_rule l.markers row.0))
 
--- How many of a rule are listed.
+-- How many markers of a rule are listed.
 abbrev pub listed_of : Limited → ℕ × Rule → ℕ
 listed_of l row = min l.limit (count_of l.markers row.0)
 
@@ -53,7 +53,7 @@ abbrev pub with_markers : Limited → List Marker → Limited
 with_markers l markers =
     record { top = l.top; rules = l.rules; markers = markers; limit = l.limit }
 
--- The first markers of each rule, as many as the limit, have the same listing as all.
+-- The first markers of each rule, up to the limit, have the same listing as all markers.
 abbrev pub FirstMarkersAreListed : Type 0
 FirstMarkersAreListed =
     (l : Limited) (first : List Marker) → AgreeFirst l.limit first l.markers

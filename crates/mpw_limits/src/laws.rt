@@ -1,7 +1,7 @@
-//! A law over the definitions.
+//! A law about the definitions.
 ghost use Rattle.mpw_limits.specs.Limits.{FirstMarkersAreListed};
 
-/// The first markers of each rule, as many as the limit, have the same listing as all.
+/// The first markers of each rule, up to the limit, have the same listing as all markers.
 pub fn first_markers_are_listed()
     ensures { FirstMarkersAreListed }
 {}

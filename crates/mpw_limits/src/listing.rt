@@ -1,4 +1,4 @@
-//! The listing.
+//! Writes the listing.
 ghost use Rattle.std.specs.Prelude.{◌≡◌};
 ghost use Rattle.std.specs.List.{enumerate_from, flat_map};
 ghost use Rattle.mpw_limits.specs.Limits.{head_text, limited_of, limited_text, listed_count, listed_of, rule_lines};
@@ -20,13 +20,13 @@ pub struct Limited<'a> {
     pub top: &'a Name,
     /// The rules.
     pub rules: &'a [Rule],
-    /// The markers. One whose rule isn't there has no line.
+    /// The markers. A marker whose rule isn't among the rules has no line.
     pub markers: &'a [Marker],
-    /// How many of a rule are listed at most: the first ones.
+    /// The most markers of a rule that are listed: the first ones.
     pub limit: usize,
 }
 
-/// How many of the rule with that place are listed.
+/// How many markers of the rule at index `place` are listed.
 fn listed_of(listing: &Limited<'_>, place: usize, rule: &Rule) -> usize
     ensures { result ≡ listed_of (limited_of listing.now) (place, rule.now) }
 {
@@ -58,7 +58,7 @@ fn put_head<W: Write>(writer: &mut W, count: usize) -> io::Result<()>
     put(writer, &["OK ", Buffer::new().format(count), "\n"])
 }
 
-/// Writes the lines of the first markers of the rule with that place, in their order.
+/// Writes the lines of the first markers of the rule at index `place`, in their order.
 fn put_rule_lines<W: Write>(
     writer: &mut W,
     listing: &Limited<'_>,
@@ -89,12 +89,12 @@ fn put_lines<W: Write>(writer: &mut W, listing: &Limited<'_>) -> io::Result<()>
     Ok(())
 }
 
-/// Writes the first markers of each rule, as many as the limit allows, as a desk lists markers: `OK` with how many are listed, and then a line
-/// each, by the rules' order, with the marker's key and the structure's name. So the first markers of each rule have the same listing as
-/// all ([`first_markers_are_listed`](crate::first_markers_are_listed)). It takes no memory, and for each rule two passes over the markers.
+/// Writes the first markers of each rule, up to the limit, as a desk lists markers: `OK` with how many are listed, and then one line for
+/// each, in the rules' order, with the marker's key and the structure's name. So the first markers of each rule have the same listing as all
+/// ([`first_markers_are_listed`](crate::first_markers_are_listed)). It takes no memory, and for each rule two passes over the markers.
 ///
 /// # Errors
-/// The writer's; it then holds a part of the text.
+/// Those of the writer, which then has a part of the text.
 #[tactic(auto, unfolding(crate::specs::Limits::limited_text))]
 pub fn write_limited<W: Write>(writer: &mut W, listing: &Limited<'_>) -> io::Result<()>
     ensures { Adds W.contents writer.old writer.new result (limited_text (limited_of listing.now)) }

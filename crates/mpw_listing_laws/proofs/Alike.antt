@@ -1,4 +1,4 @@
--- Desks answer connections with one view alike, whatever their numbers.
+-- Desks answer connections with the same view identically, whatever their numbers.
 use Rattle.std.proofs.Common.{◌≡◌, ◌∙◌, ℕ, Bool, true, false, ◌&&◌, ◌||◌, not, List, [], ◌∷◌, ◌++◌, length, nat_lt, refl, sym, ap, subst}
 use Rattle.std.specs.Prelude.{if◌then◌else◌}
 use Rattle.mpw_replies.specs.declared.entry.Entry.{Entry}
@@ -52,7 +52,7 @@ from_same here there trail a b v = record {
       };
 }
 
--- ---- requests, one behind the other
+-- ---- requests, one after another
 
 record MovedBehind (here there : ℕ) (trail : List Entry) (s : State) (requests : List Asked) :
     Type 0 where
@@ -90,7 +90,7 @@ state_after-append : (s : State) (first more : List Call)
 state_after-append s [] more = refl
 state_after-append s (c ∷ cs) more = state_after-append (after s c.event c.kept) cs more
 
--- what changes nothing is the same step whether it counts as kept or not
+-- an event that changes nothing has the same step whether it counts as stored or not
 step_normal : (s : State) (e : Event) (kept : Bool)
     → step s e (kept || not (event_outcome s e).changes) ≡ step s e kept
 unfolding step

@@ -30,7 +30,7 @@ use Rattle.mpw_listing_laws.proofs.MarkerLines.{HaveRules, book_told}
 
 -- ---- what a desk that lists was asked in
 
--- a request that a desk accepts is answered by the step
+-- a request that a desk accepts has the answer of the step
 pub accepted_by_step : (desk : Desk) (changes : Option (List KeptChange)) (failures connection : ℕ)
     (request : Request) (lines : List Listed) (left : KeptDesk)
     → IsHandled (kept_desk desk changes failures) (event.Ask connection request)
@@ -55,7 +55,7 @@ accepted_by_step desk changes failures connection request lines left (kept, came
     by false false told = absurd cc
     by false true told = told
 
--- ---- the row
+-- ---- the decision table
 
 ended : (why : Ending) (lines : List Listed)
     → response.Told (ended_by why) ≡ response.Told (reply.Ok lines) → ⊥

@@ -1,4 +1,5 @@
--- The lines of a book tell of just the markers that a session may read, and count those that it may read in part.
+-- The lines of a book are those of exactly the markers that a session may read, and the counts of those that
+-- it may read in part.
 use Rattle.std.proofs.Common.{◌≡◌, ◌∙◌, ℕ, suc, ◌+◌, Bool, true, false, ◌&&◌, cond, List, [], ◌∷◌, ◌++◌, length, filter, Option, None, Some, option_map, refl, sym, ap, subst, arith}
 use Rattle.std.specs.Prelude.{◌==◌, slice_get, Contains}
 use Rattle.std.specs.Option.{option_to_list}
@@ -24,7 +25,7 @@ abbrev pub HaveRules : Sight → Type 0
 HaveRules v = (place : ℕ) (m : Marker) → slice_get v.book place ≡ Some m
     → (rule : Rule) × (slice_get v.rules m.rule ≡ Some rule)
 
--- ---- markers that are shown in full
+-- ---- full markers
 
 abbrev named : Sight → Marker → Option Rule → Option Listed
 named v m o = option_map (λ (rule : Rule). marker rule.name (key_of m) (met_cells v.shelf m.met)) o
@@ -59,7 +60,7 @@ lines_shown v n (m ∷ book) =
     ap (λ ls. ls ++ full_lines v.rules v.shelf (seen_of v) book) (as_full v n m)
     ∙ ap (λ ls. option_to_list (shown_line v n m) ++ ls) (lines_shown v (n + 1) book)
 
--- what a line that is there tells
+-- what holds of a line that is there
 record IsShownLine (v : Sight) (m : Marker) (line : Listed) : Type 0 where
   readable : IsReadable v m
   rule : Rule
@@ -141,7 +142,7 @@ shown_told v rules =
         (told_from (shown_line v) 0 v.book)
     a = given (shown_line v) 0 v.book
 
--- ---- markers of a rule that are masked
+-- ---- masked markers of a rule
 
 abbrev is_counted : Sight → ℕ → Marker → Bool
 is_counted v rule m = (m.rule == rule) && is_masked (seen_of v) m

@@ -1,4 +1,4 @@
--- What a desk answers at another connection, step by step.
+-- The answers of a desk at another connection, step by step.
 use Rattle.std.proofs.Common.{◌≡◌, ◌∙◌, ℕ, Bool, true, false, ◌&&◌, not, List, Result, Ok, Err, refl, sym, ap}
 use Rattle.std.specs.Prelude.{if◌then◌else◌}
 use Rattle.std.proofs.lemmas.Bool.{true≢false}
@@ -111,7 +111,7 @@ pub response_moved : (here there : ℕ) (trail : List Entry) (s : State) (reques
 response_moved here there trail s request kept is =
     ap (λ (o : Outcome). o.response) (step_moved here there trail s request kept is)
 
--- but for the trail
+-- except for the trail
 pub after_moved : (here there : ℕ) (trail : List Entry) (s : State) (request : Request)
     (kept : Bool) → is_of_view request ≡ true
     → after (moved here there trail s) (event.Ask here request) kept

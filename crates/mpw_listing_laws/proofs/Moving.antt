@@ -1,4 +1,4 @@
--- A desk on which a session sits at another connection answers there what it answered here.
+-- If a session is at another connection of a desk, the desk answers there what it answered here.
 use Rattle.std.proofs.Common.{◌≡◌, ◌∙◌, ℕ, Bool, false, List, [], ◌∷◌, map, Option, None, Some, Result, Ok, is_some, refl, ap}
 use Rattle.std.specs.Prelude.{◌==◌, if◌then◌else◌, option_map, slice_get}
 use Rattle.std.proofs.lemmas.Bool.{eq-eqb}
@@ -64,7 +64,7 @@ found_alone here None = refl
 found_alone here (Some session) =
     ap (λ (b : Bool). if b then Some session else None) (eq-eqb here here refl)
 
--- the policy, and the desk, with the session of a connection alone, at another
+-- the policy, and the desk, with only the session of a connection, at another
 abbrev pub policy_at : ℕ → ℕ → Policy → Policy
 policy_at here there policy =
     record policy { sessions = alone_at here (session_of policy there) }
@@ -181,7 +181,7 @@ book_moved here there policy waivers (Finished f) =
     ∙ ap (λ (user : Name). book_by waivers f (permits policy there) user)
     (user_moved here there policy)
 
--- ---- rows
+-- ---- decision tables
 
 abbrev entered : Bool → Result (Unit {0}) Ending
 entered b = let test : Bool × Ending = (b, ending.Denied denial.Session) in decided (test ∷ []) tt

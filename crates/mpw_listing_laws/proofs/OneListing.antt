@@ -15,7 +15,7 @@ use Rattle.mpw_roles.specs.Hierarchy.{Name}
 use Rattle.mpw_replies.specs.Listing.{Listed, marker, masked}
 use Rattle.mpw_listing_laws.specs.Markers.{Sight, Meets, ArePlaces, AreSoMany, TellOf, IsReadableAt, NamesMarkerAt, IsMaskedAt, HasMasked, CountsMasked, OneListing}
 
--- ---- places
+-- ---- indexes
 
 places_one : (P : ℕ → Type 0) (xs ys : List ℕ) → ArePlaces P xs → ArePlaces P ys → xs ≡ ys
 places_one P xs ys f g =

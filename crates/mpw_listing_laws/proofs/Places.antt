@@ -1,4 +1,4 @@
--- Lines of the places of a list, one by one.
+-- Lines of the indexes of a list, one by one.
 use Rattle.std.proofs.Common.{◌≡◌, ◌∙◌, ℕ, zero, suc, ◌+◌, ◌<◌, ◌≤◌, List, [], ◌∷◌, ◌++◌, length, get_or, Option, None, Some, refl, sym, ap, subst, inl, inr, arith}
 use Rattle.std.specs.Prelude.{slice_get, AllPairs, Contains}
 use Rattle.std.specs.Option.{option_to_list}
@@ -8,7 +8,7 @@ use Rattle.std.proofs.lemmas.Option.{same_Some, none-some, slice_get_past}
 use Rattle.mpw_markers.proofs.Unique.{cons_cases, Contains-head, Contains-tail}
 use Rattle.mpw_replies.specs.Listing.{Listed}
 
--- the lines that the elements of a list give, each by its place, counted from a number on; and those places
+-- the lines that the elements of a list give, each by its index, counted from a number on; and those indexes
 abbrev pub told_from : {X : Type 0} → (ℕ → X → Option Listed) → ℕ → List X → List Listed
 told_from g n [] = []
 told_from g n (x ∷ xs) = option_to_list (g n x) ++ told_from g (n + 1) xs
@@ -21,7 +21,7 @@ abbrev pub places_from : {X : Type 0} → (ℕ → X → Option Listed) → ℕ 
 places_from g n [] = []
 places_from g n (x ∷ xs) = place_if (g n x) n ++ places_from g (n + 1) xs
 
--- the element of that place gives the line
+-- the element at that index gives the line
 pub record Gives {X : Type 0} (g : ℕ → X → Option Listed) (n : ℕ) (xs : List X) (place : ℕ)
     (line : Listed) : Type 0 where
   pub i : ℕ
@@ -30,7 +30,7 @@ pub record Gives {X : Type 0} (g : ℕ → X → Option Listed) (n : ℕ) (xs : 
   pub at : slice_get xs i ≡ Some x
   pub told : g place x ≡ Some line
 
--- just those places give lines
+-- exactly those indexes give lines
 pub record AreGiven {X : Type 0} (g : ℕ → X → Option Listed) (n : ℕ) (xs : List X)
     (places : List ℕ) (lines : List Listed) : Type 0 where
   pub above : (p : ℕ) → Contains places p → n ≤ p
@@ -51,7 +51,7 @@ later g n x xs p line h = record {
   told = h.told;
 }
 
--- the line is that of the first element, or of one behind it
+-- the line is that of the first element, or of one after it
 split : {X : Type 0} (g : ℕ → X → Option Listed) (n : ℕ) (x : X) (xs : List X) (p : ℕ)
     (line : Listed) → Gives g n (x ∷ xs) p line → (P : Type 0)
     → (p ≡ n → g n x ≡ Some line → P) → (Gives g (n + 1) xs p line → P) → P

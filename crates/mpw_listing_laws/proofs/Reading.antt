@@ -1,4 +1,4 @@
--- Which markers a session may read, by the tests of a listing; and the cells that a marker meets.
+-- Which markers a session may read, by the tests of a listing; and the cells that a marker touches.
 use Rattle.std.proofs.Common.{◌≡◌, ◌∙◌, ℕ, Bool, true, false, not, cond, List, [], ◌∷◌, map, Option, None, Some, option_map, refl, sym, ap, subst, inl, inr, ◌⊎◌, arith}
 use Rattle.std.specs.Prelude.{slice_get, filter, AllPairs, Contains, ◌↔◌}
 use Rattle.std.specs.List.{list_all, list_any}
@@ -133,7 +133,7 @@ half_masked v m h =
     by true e = absurd (h.not_all (full_reads v m e))
     by false e = refl
 
--- ---- the cells that a marker meets
+-- ---- the cells that a marker touches
 
 in_names : (names : List Name) (name : Name) → contains_name names name ≡ true
     → Contains names name

@@ -1,4 +1,4 @@
--- What an accepted `markers` tells: each marker that is shown in full, and how many markers of a rule are masked.
+-- What an accepted `markers` shows: each full marker, and the count of each rule's masked markers.
 use Rattle.std.specs.Prelude.{◌≡◌, ◌↔◌, ◌<◌, ℕ, true, List, ◌++◌, length, slice_get, AllPairs, Contains, Option, Some}
 use Rattle.std.specs.declared.cmp.Ordering.TheVariants.{Less}
 use Rattle.mpw_geom.specs.Names.{name_cmp}
@@ -21,7 +21,7 @@ use Rattle.mpw_events.specs.declared.event.Response.TheVariants as response
 use Rattle.mpw_events.specs.declared.keeper.KeptChange.{KeptChange}
 use Rattle.mpw_events.specs.History.{Desk, KeptDesk, IsHandled, kept_desk, state_of}
 
--- What a session sees by: its policy and connection, the run's rules, its shelf and its book.
+-- What decides what a session sees: its policy and connection, the run's rules, its shelf and its book.
 pub record Sight : Type 0 where
   pub policy : Policy
   pub connection : ℕ
@@ -31,7 +31,7 @@ pub record Sight : Type 0 where
 
 -- ---- which markers
 
--- The marker meets a submission of that cell.
+-- The marker touches a submission of that cell.
 pub record Meets (shelf : List Submission) (m : Marker) (cell : Name) : Type 0 where
   pub number : ℕ
   pub submission : Submission
@@ -45,7 +45,7 @@ pub record MayRead (v : Sight) (number : ℕ) : Type 0 where
   pub is : slice_get v.shelf number ≡ Some submission
   pub permitted : permits v.policy v.connection Read (object.Cell submission.cell) ≡ true
 
--- It may read the cells of all submissions that the marker meets.
+-- It may read the cells of all submissions that the marker touches.
 abbrev pub IsReadable : Sight → Marker → Type 0
 IsReadable v m = (number : ℕ) → Contains m.met number → MayRead v number
 
@@ -56,20 +56,20 @@ pub record IsHalfReadable (v : Sight) (m : Marker) : Type 0 where
   pub readable : MayRead v number
   pub not_all : IsReadable v m → ⊥
 
--- ---- places of a list
+-- ---- indexes of a list
 
--- These are just the places that P holds of, in order, each once.
+-- These are exactly the indexes that P holds of, in order, each once.
 pub record ArePlaces (P : ℕ → Type 0) (places : List ℕ) : Type 0 where
   pub ascending : AllPairs (λ a b. a < b) places
   pub exact : (place : ℕ) → Contains places place ↔ P place
 
--- So many places are there.
+-- P holds of that many indexes.
 pub record AreSoMany (P : ℕ → Type 0) (number : ℕ) : Type 0 where
   pub places : List ℕ
   pub are : ArePlaces P places
   pub many : length places ≡ number
 
--- The lines tell, one each and in order, of just the places that P holds of.
+-- There is one line, in order, for exactly each of the indexes that P holds of.
 pub record TellOf (P : ℕ → Type 0) (tells : ℕ → Listed → Type 0) (lines : List Listed) :
     Type 0 where
   pub places : List ℕ
@@ -80,14 +80,14 @@ pub record TellOf (P : ℕ → Type 0) (tells : ℕ → Listed → Type 0) (line
 
 -- ---- lines of markers
 
--- At that place of the book stands a marker that the session may read.
+-- The book has at that index a marker that the session may read.
 pub record IsReadableAt (v : Sight) (place : ℕ) : Type 0 where
   pub marker : Marker
   pub at : slice_get v.book place ≡ Some marker
   pub readable : IsReadable v marker
 
--- The line is of the marker there: it names the rule, the marker's key, and just the cells that the marker meets, by name, each
--- once.
+-- The line is that of the marker there: it has the rule's name, the marker's key, and exactly the cells that
+-- the marker touches, in alphabetical order, each once.
 pub record NamesMarkerAt (v : Sight) (place : ℕ) (line : Listed) : Type 0 where
   pub own : Marker
   pub at : slice_get v.book place ≡ Some own
@@ -100,7 +100,7 @@ pub record NamesMarkerAt (v : Sight) (place : ℕ) (line : Listed) : Type 0 wher
 
 -- ---- lines of rules
 
--- At that place of the book stands a marker of the rule, of which the session may read some cells and not all.
+-- The book has at that index a marker of the rule, of which the session may read some cells and not all.
 pub record IsMaskedAt (v : Sight) (rule place : ℕ) : Type 0 where
   pub marker : Marker
   pub at : slice_get v.book place ≡ Some marker
@@ -114,7 +114,7 @@ pub record HasMasked (v : Sight) (rule : ℕ) : Type 0 where
   pub place : ℕ
   pub one : IsMaskedAt v rule place
 
--- The line names the rule there, and tells how many such markers it has.
+-- The line has the rule's name, and the count of its markers of this kind.
 pub record CountsMasked (v : Sight) (rule : ℕ) (line : Listed) : Type 0 where
   pub own : Rule
   pub at : slice_get v.rules rule ≡ Some own
@@ -124,8 +124,8 @@ pub record CountsMasked (v : Sight) (rule : ℕ) (line : Listed) : Type 0 where
 
 -- ---- the listing
 
--- First a line of each marker that the session may read, in the book's order; then one of each rule with markers that it may read in part,
--- in the deck's order. There are no others.
+-- First a line for each marker that the session may read, in the book's order; then one for each rule with
+-- markers that it may read in part, in the deck's order. There are no others.
 pub record AreTold (v : Sight) (lines : List Listed) : Type 0 where
   pub full : List Listed
   pub numbers : List Listed
@@ -142,13 +142,13 @@ sight_of desk connection f = record {
   book = f.book;
 }
 
--- A run is finished, and the lines are so.
+-- A run is finished, and these are the lines.
 pub record TellsItsBook (desk : Desk) (connection : ℕ) (lines : List Listed) : Type 0 where
   pub checked : Checked
   pub finished : (state_of desk).run.phase ≡ Finished checked
   pub told : AreTold (sight_of desk connection checked) lines
 
--- Whoever asks a desk: an accepted `markers` tells so.
+-- Whoever asks a desk: an accepted `markers` has these lines.
 abbrev pub MarkersAreTold : Desk → Type 0
 MarkersAreTold desk =
     (changes : Option (List KeptChange)) (failures connection : ℕ) (lines : List Listed)

@@ -1,4 +1,4 @@
--- Views without numbers: what sessions of any two connections are told depends on their views alone.
+-- Views without connection numbers: what sessions of any two connections learn depends on their views alone.
 use Rattle.std.specs.Prelude.{◌≡◌, ℕ, true, false, List, [], ◌∷◌, length, nat_lt, is_some}
 use Rattle.mpw_roles.specs.Hierarchy.{Name}
 use Rattle.mpw_permissions.specs.declared.permission.Object.{Object}
@@ -20,8 +20,8 @@ pub record Seat : Type 0 where
   pub connection : ℕ
   pub state : State
 
--- Whatever an operation and an object are, they are granted to the acting roles of both sessions or of neither; of each cell that
--- may be read, of the run and of its book both see the same.
+-- Any operation on any object is granted to the acting roles of both sessions or of neither; of each cell
+-- that may be read, of the run and of its book both see the same.
 pub record SeeTheSame (a b : Seat) : Type 0 where
   pub grants : (operation : Operation) (object : Object)
       → permits a.state.policy a.connection operation object
@@ -33,7 +33,8 @@ pub record SeeTheSame (a b : Seat) : Type 0 where
   pub book : book_view a.state.policy a.connection a.state.waivers a.state.run.phase
       ≡ book_view b.state.policy b.connection b.state.waivers b.state.run.phase
 
--- Both or neither have a session, of the same user with the same roles, and where there is one, it sees the same.
+-- Both or neither have a session, of the same user with the same roles, and if there is one, it sees the
+-- same.
 pub record HaveOneView (a b : Seat) : Type 0 where
   pub identity : identity_view a.state.policy a.connection
       ≡ identity_view b.state.policy b.connection
@@ -42,15 +43,15 @@ pub record HaveOneView (a b : Seat) : Type 0 where
 abbrev pub seat : ℕ → KeptDesk → Seat
 seat connection d = record { connection = connection; state = state_of d.desk }
 
--- ---- requests, one behind the other
+-- ---- requests, one after another
 
 -- The desk is not closed, and its history has room.
 pub record IsOpen (desk : Desk) : Type 0 where
   pub closed : (state_of desk).closed ≡ false
   pub room : nat_lt (length desk.history) max_events ≡ true
 
--- A connection's requests are handled by a desk, each of an open desk, and each with its answer. Of each request it is said whether what
--- it changes was kept.
+-- A desk handles a connection's requests, each while it is open, and each with its answer. Each request has
+-- whether its change was stored.
 pub data Handles (connection : ℕ) : KeptDesk → List Asked → List Response → KeptDesk → Type 0 where
   none : (d : KeptDesk) → Handles connection d [] [] d
   next : (d near far : KeptDesk) (asked : Asked) (rest : List Asked) (told : Response)
@@ -61,14 +62,14 @@ pub data Handles (connection : ℕ) : KeptDesk → List Asked → List Response 
 
 -- ---- the law
 
--- What two desks answer, and what the connections see behind it.
+-- The answers of two desks, and what the connections see after them.
 pub record AnswerAlike (here there : ℕ) (a b : KeptDesk) (answers others : List Response) :
     Type 0 where
   pub answers_same : answers ≡ others
   pub view : HaveOneView (seat here a) (seat there b)
 
--- Two desks handle requests of connections whose sessions have one view alike, whatever the connections' numbers, where what each request
--- changes is kept by both or by neither.
+-- Two desks answer requests of connections whose sessions have the same view identically, whatever the
+-- connections' numbers, if both or neither store the change of each request.
 abbrev pub AnswerOneViewAlike : Desk → Desk → Type 0
 AnswerOneViewAlike first second =
     (here there : ℕ) (a b a' b' : KeptDesk) (requests : List Asked) (answers others : List Response)

@@ -1,7 +1,7 @@
-//! Laws of listings and views that none of the desk's calls rests on: what an accepted `markers` tells of a book, and that sessions with
-//! one view are answered alike, whatever the numbers of their connections.
+//! Laws of listings and views that none of the desk's calls needs: what an accepted `markers` shows of a book, and that sessions with the
+//! same view get the same answers, whatever the numbers of their connections.
 //!
-//! The functions do nothing: their contracts are the laws. No program links this crate.
+//! The functions do nothing. Their contracts are the laws. No program links this crate.
 #![tactic(auto)]
 
 mod markers;

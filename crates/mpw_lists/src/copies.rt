@@ -1,12 +1,12 @@
-//! Copies with room for one more.
+//! Copies of lists with room for one more item.
 ghost use Rattle.std.specs.Prelude.{◌≡◌, IfOk};
 
 use std::alloc::{AllocError, Global};
 
-/// The same items, with room for one more: what a clone of each costs.
+/// The same items, with room for one more. Cost: that of cloning each item.
 ///
 /// # Errors
-/// Where there is no room.
+/// Out of memory.
 pub fn roomy_copy<T: Clone + Drop>(alloc: Global, items: &[T]) -> Result<Vec<T>, AllocError>
     requires { (item copy : T) → T.is_clone item copy → copy ≡ item }
     ensures { IfOk result (λ copy. copy.items ≡ items.now) }

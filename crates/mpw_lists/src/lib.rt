@@ -1,8 +1,9 @@
 //! Values and lists that copies share, and comparison by value.
 //!
-//! A [`Shared`] is a value whose copies share it, and contracts see that value; a [`SharedList`] is a vector whose copies share
-//! it, and contracts see the list of its items. Items that can be compared are [`Same`], and [`are_same`] compares slices of
-//! them. [`roomy_copy`] copies a list to which an item more is to be added.
+//! - The copies of a [`Shared`] value share it. Contracts see that value. The copies of a [`SharedList`] share its vector. Contracts
+//!   see the list of its items.
+//! - Items that can be compared are [`Same`]. [`are_same`] compares slices of them.
+//! - [`roomy_copy`] copies a list and leaves room for one more item.
 #![tactic(auto)]
 
 mod copies;

@@ -1,4 +1,4 @@
-//! A list whose copies share it.
+//! A list that its copies share.
 
 ghost use Rattle.std.specs.Prelude.{◌≡◌, ◌↔◌, IfOk, IsTrue};
 
@@ -7,7 +7,7 @@ use std::alloc::{AllocError, Global};
 use std::marker::Model;
 use std::sync::Arc;
 
-/// Items in order, which contracts see as that list. Copies share them.
+/// Items in order. Contracts see them as a list. Copies share memory.
 pub struct SharedList<T> {
     items: Arc<Vec<T>>,
 }
@@ -31,7 +31,7 @@ impl<T: Drop> SharedList<T> {
     /// The items of a vector, in its order. Constant time.
     ///
     /// # Errors
-    /// Where there is no memory for the count of the list's copies.
+    /// Out of memory (for the count of the list's copies).
     pub fn from_vec(alloc: Global, items: Vec<T>) -> Result<SharedList<T>, AllocError>
         ensures { IfOk result (λ list. list ≡ items.items) }
     {
@@ -47,10 +47,10 @@ impl<T: Drop> SharedList<T> {
         self.items.as_slice()
     }
 
-    /// The same list, in constant time and without further memory.
+    /// The same list, in constant time and without more memory.
     ///
     /// # Errors
-    /// Where no more copies can be counted.
+    /// If no more copies can be counted.
     pub fn copy(&self) -> Result<SharedList<T>, AllocError>
         ensures { IfOk result (λ list. list ≡ self.now) }
     {
@@ -59,7 +59,7 @@ impl<T: Drop> SharedList<T> {
         })
     }
 
-    /// Whether the lists have the same items, in order, by value. It stops at the first difference, and takes no memory.
+    /// Whether the lists have the same items in the same order, by value. Stops at the first difference, and takes no memory.
     pub fn is_same(&self, other: &SharedList<T>) -> bool
     where
         T: Same,

@@ -1,4 +1,4 @@
-//! A value whose copies share it.
+//! A value that its copies share.
 
 ghost use Rattle.std.specs.Prelude.{◌≡◌, IfOk};
 
@@ -25,10 +25,10 @@ impl<T> Model for Shared<T> {
 }
 
 impl<T: Drop> Shared<T> {
-    /// The value, to be shared. One allocation.
+    /// Stores the value so that copies can share it. One allocation.
     ///
     /// # Errors
-    /// Where there is no room for it.
+    /// Out of memory.
     pub fn new(alloc: Global, item: T) -> Result<Shared<T>, AllocError>
         ensures { IfOk result (λ shared. shared ≡ item) }
     {
@@ -43,10 +43,10 @@ impl<T: Drop> Shared<T> {
         &self.item
     }
 
-    /// The same value, in constant time and without further memory.
+    /// The same value, in constant time and without more memory.
     ///
     /// # Errors
-    /// Where no more copies can be counted.
+    /// If no more copies can be counted.
     pub fn copy(&self) -> Result<Shared<T>, AllocError>
         ensures { IfOk result (λ shared. shared ≡ self.now) }
     {

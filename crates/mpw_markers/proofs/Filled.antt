@@ -1,4 +1,4 @@
--- Answers in their places.
+-- Answers at their indices.
 use Rattle.std.proofs.Common.{◌≡◌, ℕ, ◌+◌, ◌<◌, ◌≤◌, pos, List, [], ◌∷◌, ◌++◌, length, get_or, take, ◌⊎◌, inl, inr, refl, sym, subst, ap, ◌∙◌, arith, get_or-set_same, get_or-set_other}
 use Rattle.std.specs.Prelude.{Contains, All, ◌↔◌, slice_set}
 use Rattle.std.specs.List.Sorted.{IsPermutation}
@@ -169,7 +169,7 @@ all_answers rectangles boxes items old new h are count f = record {
 
 -- ---- the items
 
--- the items so far, of the boxes before a place
+-- the items so far, of the boxes before an index
 pub record AreItemsBefore (boxes : List Box2) (n : ℕ) (items : List Item) : Type 0 where
   pub complete : (k : ℕ) → k < n → (i : Item) × Contains items i × (i.place ≡ k)
   pub sound : (i : Item) → Contains items i
@@ -300,7 +300,7 @@ pub within_all : (items : List Item) (n : ℕ) (hull : Box2) → length items �
 within_all items n hull l h i c =
     h i (subst (λ (xs : List Item). Contains xs i) (sym (take_all n items l)) c)
 
--- a part of the items, in as many places
+-- a part of the items, with as many answers
 pub can_part : (n m : ℕ) (items part : List Item) → m ≡ n
     → ((i : Item) → Contains part i → Contains items i) → CanBeFilled n items → CanBeFilled m part
 can_part n m items part e in' can i c = let s = can i (in' i c) in (omega (arith, s.0), s.1)

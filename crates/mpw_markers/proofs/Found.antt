@@ -1,4 +1,4 @@
--- The place of a key in a book, by a binary search.
+-- The index of a key in a book, by a binary search.
 use Rattle.std.proofs.Common.{◌≡◌, ◌==◌, ◌&&◌, ℕ, ◌+◌, ◌<◌, ℤ, ◌<ℤ◌, Bool, true, false, cond, nat_lt, Some, None, Ok, Err, Option, Result, List, length, get_or, slice_get, inl, inr, refl, sym, subst, ap, ◌∙◌, true≢false, Decides, arith}
 use Rattle.std.specs.Prelude.{Contains, ◌↔◌}
 use Rattle.std.specs.List.Sorted.{IsBinarySearchResult, IsSortedBy}
@@ -51,7 +51,7 @@ same_key k l e f g =
 abbrev where_is : Marker → Place
 where_is m = place_of (key_of m)
 
--- keys whose places compare alike are one
+-- keys whose positions compare as equal are equal
 key_tied : (k l : Key) → place_cmp (place_of k) (place_of l) ≡ Equal → k ≡ l
 key_tied k l e =
     let rest = then_second (line_place_cmp (line_place (line_of_key k))
@@ -87,7 +87,7 @@ sorted book h k d low high =
     ap is_lt (place_total.antisymm (where_is (get_or book (k + 1) d)) (where_is (get_or book k d))
     ∙ ap ordering_reverse less)
 
--- what the search answers, by the clause of its call
+-- the result of the search, by the clause of its call
 abbrev AnswersBy : List Marker → Place → Result ℕ ℕ → Type 0
 AnswersBy xs p r = IsBinarySearchResult (λ (y : Marker). place_cmp (where_is y) p) xs r
 
@@ -99,7 +99,7 @@ pub search_is : {F : Type 0} {g : Mut F (Bor Marker × Unit {0}) Place} {f : F} 
 search_is {g = g} {f = f} xs p r h calls =
     h where_is (always_returns_same g (λ a s. s ≡ place_of (key_of a.0.now)) f calls)
 
--- ---- keys, and the first place of one
+-- ---- keys, and the first index of one
 
 axes : (a b : Axis) → Decides (axis_eq a b) (a ≡ b)
 axes V V = (λ e. refl, λ e. refl)
@@ -155,7 +155,7 @@ other_key k l apart = go (key_eq k l) refl
 abbrev has_key : Key → Marker → Bool
 has_key key m = key_eq (key_of m) key
 
--- the first place is the given one
+-- the first index is the given one
 placed : (book : List Marker) (key : Key) (i : ℕ) → i < length book
     → position_or_len (has_key key) book ≡ i → place_in book key ≡ Some i
 placed book key i l e = ap (λ n. cond (nat_lt n (length book)) (Some n) None) e
@@ -173,7 +173,7 @@ unplaced book key e = ap (λ n. cond (nat_lt n (length book)) (Some n) None) e
         go true e = absurd (omega (arith, (Decides-ltb n n).0 e))
         go false e = refl
 
--- what stands at a key's place has the key
+-- the marker at a key's index has the key
 pub place_is : (book : List Marker) (key : Key) (i : ℕ) → place_in book key ≡ Some i
     → (m : Marker) × (slice_get book i ≡ Some m) × (key_of m ≡ key)
 place_is book key i e =
@@ -277,7 +277,7 @@ place_none book xs key p i e h f answer =
         other_key (key_of m) key (λ is. none_there book xs key p i e h f answer m
         (k, l, get_or_from_slice_get book k m m (slice_get-get_or book k no_marker l)) is)
 
--- ---- the marker at the place
+-- ---- the marker at the index
 
 pub found_some : (book : List Marker) (key : Key) (place : ℕ) (o : Option Marker) → IsBook book
     → place_in book key ≡ Some place → o ≡ slice_get book place → (m : Marker)

@@ -19,7 +19,7 @@ flat_map_next f xs i x l is =
     flat_map_more f [] (take i xs) x
     ∙ ap (flat_map f) (ap (λ y. take i xs ++ y ∷ []) is ∙ sym (take_more xs i x l))
 
--- what a list of lists, one after another, has
+-- the entries of a list of lists, one after another
 pub in_flat_map : {X Y : Type 0} (f : X → List Y) (xs : List X) (y : Y) → Contains (flat_map f xs) y
     → (x : X) × Contains xs x × Contains (f x) y
 in_flat_map f [] y c = absurd (omega (arith, c.1))
@@ -41,7 +41,7 @@ pub listed : (lists : List (List Marker)) (m : Marker) → Contains (flat_map (�
 listed lists m =
     (in_flat_map (λ list. list) lists m, λ p. from_part (λ list. list) lists p.0 m p.1 p.2)
 
--- what the list of all of them has, put in order
+-- the entries of all lists, sorted
 pub same_parts : (lists : List (List Marker)) (all ordered seen : List Marker)
     → all ≡ flat_map (λ list. list) lists → IsPermutation all ordered → seen ≡ ordered
     → (m : Marker) → Contains seen m ↔ IsListed lists m

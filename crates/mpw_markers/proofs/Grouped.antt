@@ -1,4 +1,4 @@
--- The run of the first markers, as one marker after another is looked at.
+-- The run of the first markers, as marker after marker is read.
 use Rattle.std.proofs.Common.{◌≡◌, ℕ, ◌+◌, ◌<◌, ◌≤◌, ◌≤ℤ◌, ◌<ℤ◌, List, [], ◌∷◌, ◌++◌, length, get_or, take, drop, inl, inr, refl, sym, subst, ap, ◌∙◌, arith}
 use Rattle.std.specs.Prelude.{Contains, All}
 use Rattle.std.proofs.lemmas.Int.{ints, clamps, by_lt_z}
@@ -13,7 +13,7 @@ use Rattle.mpw_markers.specs.Internal.Runs.{bare, lengthened, IsRunOf, IsFirstRu
 use Rattle.mpw_markers.proofs.Order.{line_before, behind, StandsBefore-begins}
 use Rattle.mpw_markers.proofs.Unique.{Contains-tail}
 
--- the run of the markers before a place, which begins no later than those from there on
+-- the run of the markers before an index, which begins no later than those from there on
 pub record Reaches (markers : List Marker) (count : ℕ) (key : Key) : Type 0 where
   pub run : IsRunOf (take count markers) key
   pub begins : (m : Marker) → Contains (drop count markers) m → BeginsFirst (bare key) m
@@ -62,7 +62,7 @@ Reaches-start markers d l f o = record {
     only = subst (λ (ys : List Marker). Contains ys (get_or markers 0 d)) (sym one)
         (Contains-push [] (get_or markers 0 d))
 
--- a marker that goes on with the run is taken into it
+-- a marker that continues the run is added to it
 pub Reaches-more : (markers : List Marker) (count : ℕ) (key : Key) (d : Marker)
     → Reaches markers count key → count < length markers → IsFilled (get_or markers count d)
     → line_of_key key ≡ line_of (get_or markers count d) → (get_or markers count d).y0 ≤ℤ key.y1
@@ -109,7 +109,7 @@ Reaches-more markers count key d h l f e g = record {
     starts = from_begins (bare key) (get_or markers count d)
         (h.begins (get_or markers count d) (here markers count d l)) e
 
--- the first marker that does not go on with it, and those behind, stand behind the run
+-- the first marker that doesn't continue it, and those after it, come after the run
 pub IsFirstRun-stop : (markers : List Marker) (count : ℕ) (key : Key) (d : Marker)
     → Reaches markers count key → 1 ≤ count → count < length markers → AreInOrder markers
     → ((line_of_key key ≡ line_of (get_or markers count d)) → key.y1 <ℤ (get_or markers count d).y0)
@@ -128,7 +128,7 @@ IsFirstRun-stop markers count key d h s l o u = record {
     stands (inl p) = inl p
     stands (inr p) = inr (p.0, u p.0)
 
--- the same where the code's element is equal to the list's
+-- the same if the code's element is equal to the list's
 pub started : (markers : List Marker) (first : Marker) (key : Key) → first ≡ get_or markers 0 first
     → key ≡ key_of first → 1 ≤ length markers → All IsFilled markers → AreInOrder markers
     → Reaches markers 1 key
@@ -153,7 +153,7 @@ stopped markers count key m h s l is o u =
     IsFirstRun-stop markers count key m h s l o
     (λ e. subst (λ (x : Marker). key.y1 <ℤ x.y0) is (u (e ∙ sym (ap line_of is))))
 
--- where no marker stands behind the run, it is made of all
+-- if no marker comes after the run, it is formed by all
 pub all_reached : (markers : List Marker) (count : ℕ) (key : Key) → Reaches markers count key
     → 1 ≤ length markers → length markers ≤ count → IsFirstRun markers (length markers) key
 all_reached markers count key h s l = record {

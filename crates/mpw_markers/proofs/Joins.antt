@@ -16,7 +16,7 @@ use Rattle.mpw_markers.specs.Internal.Runs.{AddsRun}
 use Rattle.mpw_markers.proofs.Order.{apart, StandsBefore-begins}
 use Rattle.mpw_markers.proofs.Marked.{All-from_contained}
 
--- parts that are alike
+-- equivalent parts
 pub IsJoined-same : (P Q : Marker → Type 0) (book : List Marker) → ((m : Marker) → P m ↔ Q m)
     → IsJoined P book → IsJoined Q book
 IsJoined-same P Q book same h = record {
@@ -31,7 +31,7 @@ IsJoined-same P Q book same h = record {
   );
 }
 
--- the marker has just the rows of the parts, which it holds, and meets what they meet
+-- the marker has exactly the rows of the parts, which lie in it, and touches what they touch
 record IsRunFor (part : Marker → Type 0) (r : Marker) : Type 0 where
   pub filled : IsFilled r
   pub rows : (j : ℤ) → r.y0 ≤ℤ j → j <ℤ r.y1 → (m : Marker) × part m × HasRow m (line_of r) j
@@ -109,7 +109,7 @@ added old new book r fo fn h near run = record {
 
 -- ---- along the ordered list
 
--- how far the markers are made into runs
+-- how far the markers are joined into runs
 pub record Joins (markers : List Marker) (start : ℕ) (book : List Marker) : Type 0 where
   pub joined : IsJoined (Contains (take start markers)) book
   pub near : (n m : Marker) → Contains book n → Contains (drop start markers) m → StandsBefore n m

@@ -13,7 +13,7 @@ use Rattle.mpw_markers.specs.Book.{IsBook}
 use Rattle.mpw_markers.specs.Stitched.{IsJoined}
 use Rattle.mpw_markers.proofs.Order.{apart}
 
--- what the code's index gives past the end
+-- the default of the code's index past the end
 abbrev pub no_marker : Marker
 no_marker = record {
   rule = 0;
@@ -31,7 +31,7 @@ pub All-from_contained : {X : Type 0} (P : X → Type 0) (xs : List X)
     → ((x : X) → Contains xs x → P x) → All P xs
 All-from_contained P xs h k d l = h (get_or xs k d) (Contains-get_or xs k d l)
 
--- two markers of a book on one line are one, or stand apart
+-- two markers of a book on one line are equal, or apart
 pub alike : (book : List Marker) (m n : Marker) → IsBook book → Contains book m → Contains book n
     → line_of m ≡ line_of n → (m ≡ n) ⊎ ((m.y1 <ℤ n.y0) ⊎ (n.y1 <ℤ m.y0))
 alike book m n h p q e =
@@ -41,7 +41,7 @@ alike book m n h p q e =
       | inr (inr behind) ↦ inr (inr (apart n m behind (sym e)))
     ]
 
--- the row before a marker of a book, and the row behind it, are in no marker of it
+-- the row before a marker of a book, and the row after it, are in no marker of it
 pub none_below : (book : List Marker) (m : Marker) → IsBook book → Contains book m
     → CoversRow book (line_of m) (m.y0 -ℤ pos 1) → ⊥
 none_below book m h p c =

@@ -73,7 +73,7 @@ in_a_row H x1 x2 y0 y1 p f i = by_lt_z p.x y1
       (i.0, (omega (arith, ints, more), omega (arith, ints, i.1.1))),
     ))
 
--- what meets the box of a marker meets that of one that it lies in
+-- what touches the box of a marker touches that of one in which it lies
 pub met_wider : (has : ℕ → Square → Type 0) (m n : Marker) (origin : ℕ) → LiesIn m n
     → IsMet has (box_of m) origin → IsMet has (box_of n) origin
 met_wider has m n origin l t = (
@@ -93,7 +93,7 @@ met_wider has m n origin l t = (
 
 -- ---- the book
 
--- where the parts have just the passed rows, the markers of the book are the maximal runs
+-- if the parts have exactly the rows that pass, the markers of the book are the maximal runs
 whole : (part : Marker → Type 0) (steps : Line → ℤ → Bool) (has : ℕ → Square → Type 0)
     (book : List Marker)
     → ((line : Line) (j : ℤ) → ((m : Marker) × part m × HasRow m line j) ↔ (steps line j ≡ true))
@@ -182,7 +182,7 @@ pub stitched : (steps : Line → ℤ → Bool) (cores : ℕ → Line → ℤ →
 stitched steps cores has lists book a h =
     whole (IsListed lists) steps has book (λ line j. (to line j, from line j)) met h
   where
-    -- the core in whose list a marker stands
+    -- the core in whose list a marker is
     at : (m : Marker) → IsListed lists m → (k : ℕ) × IsMarkerOf (steps_in steps (cores k)) has m
     at m p =
         let q = held_at lists [] p.0 p.1 in (

@@ -81,7 +81,7 @@ same_line a b e f g h k =
     (let r : ℕ × Axis × ℕ × ℤ × ℤ = (a.rule, a.axis, a.side, a.x1, a.x2) in r)
     ≡ (b.rule, b.axis, b.side, b.x1, b.x2) = cc in q)
 
--- lines that compare alike are one line
+-- lines that compare as equal are equal
 pub line_tied : (a b : Line) → line_cmp a b ≡ Equal → a ≡ b
 line_tied a b e =
     let rest = then_second (nat_cmp a.rule b.rule) _ e in
@@ -98,12 +98,12 @@ line_tied a b e =
 pub line_before : (a b : Line) → line_cmp a b ≡ Less → a ≡ b → ⊥
 line_before = before_itself line_cmp line_total
 
--- on one line, what stands before ends before the other begins
+-- on one line, the first ends before the other begins
 pub apart : (m n : Marker) → StandsBefore m n → line_of m ≡ line_of n → m.y1 <ℤ n.y0
 apart m n (inl less) e = absurd (line_before (line_of m) (line_of n) less e)
 apart m n (inr stands) e = stands.1
 
--- ---- what a sort leaves
+-- ---- what a sort guarantees
 
 abbrev pub line_place_cmp : LinePlace → LinePlace → Ordering
 line_place_cmp a b =
@@ -139,7 +139,7 @@ lines_alike a b =
     (ordering_then o (ordering_then (nat_cmp a.side b.side)
     (ordering_then (int_cmp a.x1 b.x1) (int_cmp a.x2 b.x2))))) (axes_alike a.axis b.axis)
 
--- what a sort leaves of two places
+-- what a sort guarantees for two positions
 begins_from_sort : (m n : Marker) → is_lt (place_cmp (place_of (key_of n)) (place_of (key_of m)))
     ≡ false → BeginsFirst m n
 begins_from_sort m n e =
@@ -152,7 +152,7 @@ begins_from_sort m n e =
       )
     ]
 
--- of markers that are referred to
+-- for markers that are referred to
 pub AreInOrder-from_sort : (xs : List (Bor Marker))
     → IsSortedByKey (λ m. place_of (key_of m.now)) place_cmp xs → AreInOrder (seen xs)
 AreInOrder-from_sort [] h i j d l b = absurd (omega (arith, b))
@@ -194,14 +194,14 @@ StandsBefore-begins m n o p q =
 pub begins_itself : (m : Marker) → BeginsFirst m m
 begins_itself m = inr (refl, omega (arith, ints))
 
--- what is left of an ordered list from a place on is in order
+-- what is left of a sorted list from an index on is sorted
 pub AreInOrder-drop : (i : ℕ) (xs : List Marker) → AreInOrder xs → AreInOrder (drop i xs)
 AreInOrder-drop i xs h j k d l b =
     subst (λ (m : Marker). BeginsFirst m (get_or (drop i xs) k d)) (sym (get_or-drop i xs j d))
     (subst (λ (m : Marker). BeginsFirst (get_or xs (i + j) d) m) (sym (get_or-drop i xs k d))
     (h (i + j) (i + k) d (omega arith) (omega (arith, b, length-drop i xs))))
 
--- what stands in an ordered list from a place on begins no earlier than what stands there
+-- the entries of a sorted list from an index on begin no earlier than the entry at that index
 pub behind : (xs : List Marker) (i : ℕ) (d m : Marker) → AreInOrder xs → Contains (drop i xs) m
     → BeginsFirst (get_or xs i d) m
 behind xs i d m h c =
@@ -222,7 +222,7 @@ same_int x y h = grind (arith, ints)
 int_same : (x y : ℤ) → x ≡ y → int_eq x y ≡ true
 int_same x y h = grind (arith, ints)
 
--- what the derived test of two lines says
+-- the meaning of the derived test of two lines
 pub same_lines_test : (a b : Line) (t : Bool)
     → t ≡ (eqb a.rule b.rule && (sameb the_type a.axis b.axis
     && (eqb a.side b.side && (int_eq a.x1 b.x1 && int_eq a.x2 b.x2)))) → (t ≡ true) ↔ (a ≡ b)

@@ -29,7 +29,7 @@ unfolding closed_square
 from_square s p i = test_from_PointIn
     (record { x0 = s.column; y0 = s.row; x1 = s.column +ℤ pos 1; y1 = s.row +ℤ pos 1 }) p i
 
--- a place of a closed interval lies in one of its unit steps
+-- a position of a closed interval lies in one of its unit steps
 step_of : (from to z : ℤ) → from <ℤ to → from ≤ℤ z → z ≤ℤ to → (i : ℤ) × (from ≤ℤ i) × (i <ℤ to)
     × (i ≤ℤ z) × (z ≤ℤ (i +ℤ pos 1))
 step_of from to z f l u = by_lt_z z to
@@ -68,7 +68,7 @@ point_of area s p t u =
       top = (let a = i.top in let b = j.top in omega (arith, ints));
     })
 
--- what meets a box by closed unit squares, and by closed areas, is the same
+-- touching a box by closed unit squares, and by closed areas, is the same
 pub met_is : (rectangles : List Rectangle) (b : Box2) (origin : ℕ)
     → All (λ (r : Rectangle). HasArea r.area) rectangles → IsMetBy rectangles b origin
     ↔ IsMet (OriginHasSquare rectangles) b origin
@@ -82,7 +82,7 @@ met_is rectangles b origin h = (
 
 -- ---- rectangles and a hull
 
--- a box with all of the hull meets each box in it
+-- a box that contains the hull touches each box in it
 pub around : (area hull b : Box2) → IsWithin hull area → IsOrdered b → IsWithin b hull
     → SharePoint area b
 around area hull b f o g =
@@ -104,7 +104,7 @@ around area hull b f o g =
       }),
     )
 
--- what meets a box in the hull meets the hull
+-- what touches a box in the hull touches the hull
 pub meets_hull : (area hull b : Box2) → IsWithin b hull → SharePoint area b → SharePoint area hull
 meets_hull area hull b g s =
     let i = PointIn-from_test b s.0 s.2 in (
@@ -138,7 +138,7 @@ met_cases rs r b origin m = elim (Contains-push_cases rs r m.0 m.1) [
   | inr e ↦ inr (subst (Met b origin) (sym e) (m.2, m.3))
 ]
 
--- the rectangle is around the hull: its origin is common
+-- the rectangle contains the hull: its origin is common
 pub alike_common : (hull : Box2) (common found : List ℕ) (done some : List Rectangle)
     (r : Rectangle) → AreAlikeIn hull common found done some → IsWithin hull r.area
     → AreAlikeIn hull common (found ++ r.origin ∷ []) (done ++ r ∷ []) some
@@ -168,7 +168,7 @@ alike_common hull common found done some r h w b origin o i = (to, from)
           (Contains-push found r.origin))
     ]
 
--- the rectangle may meet some: it stays
+-- the rectangle may touch some: it stays
 pub alike_some : (hull : Box2) (common found : List ℕ) (done some : List Rectangle) (r : Rectangle)
     → AreAlikeIn hull common found done some
     → AreAlikeIn hull common found (done ++ r ∷ []) (some ++ r ∷ [])
@@ -196,7 +196,7 @@ alike_some hull common found done some r h b origin o i = (to, from)
       | inr n ↦ inr (met_new some r b origin n)
     ]
 
--- the rectangle meets none: it goes
+-- the rectangle touches none: it is left out
 pub alike_none : (hull : Box2) (common found : List ℕ) (done some : List Rectangle) (r : Rectangle)
     → AreAlikeIn hull common found done some → (SharePoint r.area hull → ⊥)
     → AreAlikeIn hull common found (done ++ r ∷ []) some
@@ -243,7 +243,7 @@ Collects-met common done b numbers r h s = record { exact = λ origin. (to origi
           (Contains-push numbers r.origin)
     ]
 
--- a rectangle whose origin is there already, if it meets the box
+-- a rectangle whose origin is there already, if it touches the box
 Collects-kept : (common : List ℕ) (done : List Rectangle) (b : Box2) (numbers : List ℕ)
     (r : Rectangle) → Collects common done b numbers
     → (SharePoint r.area b → Contains numbers r.origin) → Collects common (done ++ r ∷ []) b numbers

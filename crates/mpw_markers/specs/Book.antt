@@ -13,6 +13,6 @@ pub record IsBook (markers : List Marker) : Type 0 where
   pub ordered : AllPairs StandsBefore markers
   pub ascending : All (λ m. IsAscending m.met) markers
 
--- where the marker of a key stands, counted from 0, if there is one
+-- the index of the marker with a key, counted from 0, if there is one
 abbrev pub place_in : List Marker → Key → Option ℕ
 place_in markers key = position (λ m. key_eq (key_of m) key) markers

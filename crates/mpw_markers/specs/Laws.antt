@@ -14,11 +14,11 @@ abbrev pub ListsDetermineTheBook : Type 0
 ListsDetermineTheBook = (lists : List (List Marker)) (first second : List Marker)
     → IsStitched lists first → IsStitched lists second → first ≡ second
 
--- what is passed in one core
+-- the rows that pass in one core
 abbrev pub steps_in : (Line → ℤ → Bool) → (Line → ℤ → Bool) → Line → ℤ → Bool
 steps_in steps core line j = steps line j && core line j
 
--- each list has just the markers of its core; each core is bounded, and each step lies in one of them
+-- each list has exactly the markers of its core; each core is bounded, and each step lies in one of them
 pub record AreListedByCores (steps : Line → ℤ → Bool) (cores : ℕ → Line → ℤ → Bool) (has : ℕ
     → Square → Type 0) (lists : List (List Marker)) : Type 0 where
   pub listed : (k : ℕ) → k < length lists
@@ -28,8 +28,8 @@ pub record AreListedByCores (steps : Line → ℤ → Bool) (cores : ℕ → Lin
   pub covered : (line : Line) (j : ℤ) → steps line j ≡ true → (k : ℕ) × (k < length lists)
       × (cores k line j ≡ true)
 
--- The book stitched from the lists of all cores has just the markers of the whole layout. Which rows of a line are steps is a test, and
--- so are which of them lie in a core, and which unit squares a submission has.
+-- The book stitched from the lists of all cores has exactly the markers of the whole layout. Tests decide which rows of a line are steps,
+-- which of them lie in a core, and which unit squares a submission has.
 abbrev pub StitchedIsWhole : Type 0
 StitchedIsWhole =
     (steps : Line → ℤ → Bool) (cores : ℕ → Line → ℤ → Bool) (has : ℕ → Square → Bool)
@@ -37,7 +37,7 @@ StitchedIsWhole =
     → AreListedByCores steps cores (λ origin s. has origin s ≡ true) lists → IsStitched lists book
     → AreMarkersOf steps (λ origin s. has origin s ≡ true) book
 
--- What stands at the place of a key has that key.
+-- The marker at the index of a key has that key.
 abbrev pub PlacesAreOfKeys : Type 0
 PlacesAreOfKeys =
     (book : List Marker) (key : Key) (place : ℕ) → place_in book key ≡ Some place

@@ -13,7 +13,7 @@ use Rattle.mpw_markers.specs.declared.marker.Marker.{Marker}
 abbrev pub line_of : Marker → Line
 line_of m = record { rule = m.rule; axis = m.axis; side = m.side; x1 = m.x1; x2 = m.x2 }
 
--- the marker without the submissions that it meets
+-- the marker without the submissions that it touches
 abbrev pub key_of : Marker → Key
 key_of m = record {
   rule = m.rule;
@@ -28,7 +28,7 @@ key_of m = record {
 abbrev pub line_of_key : Key → Line
 line_of_key k = record { rule = k.rule; axis = k.axis; side = k.side; x1 = k.x1; x2 = k.x2 }
 
--- whether two axes, two lines, and two keys are one
+-- whether two axes, two lines, and two keys are equal
 abbrev pub axis_eq : Axis → Axis → Bool
 axis_eq V V = true
 axis_eq V H = false
@@ -43,7 +43,7 @@ line_eq a b =
 abbrev pub key_eq : Key → Key → Bool
 key_eq a b = line_eq (line_of_key a) (line_of_key b) && (int_eq a.y0 b.y0 && int_eq a.y1 b.y1)
 
--- the marker has a row at all
+-- the marker has some row
 abbrev pub IsFilled : Marker → Type 0
 IsFilled m = m.y0 <ℤ m.y1
 

@@ -14,7 +14,7 @@ pub record IsMaximalRun (Passes : Line → ℤ → Type 0) (key : Key) : Type 0 
   pub below : Passes (line_of_key key) (key.y0 -ℤ pos 1) → ⊥
   pub above : Passes (line_of_key key) key.y1 → ⊥
 
--- the list has a marker for each maximal run and no others, and each meets just the origins that meet its box
+-- the list has a marker for each maximal run and no others, and each touches exactly the origins that touch its box
 pub record AreMarkersOfRuns (Passes : Line → ℤ → Type 0) (Has : ℕ → Square → Type 0)
     (markers : List Marker) : Type 0 where
   pub sound : (m : Marker) → Contains markers m → IsMaximalRun Passes (key_of m)

@@ -8,7 +8,7 @@ use Rattle.mpw_markers.specs.declared.marker.Line.{Line}
 use Rattle.mpw_markers.specs.declared.marker.Marker.{Marker}
 use Rattle.mpw_markers.specs.Markers.{line_of}
 
--- lines by the rule's place in the deck, V before H, side, x1 and x2
+-- lines by the rule's index in the deck, V before H, side, x1 and x2
 abbrev pub line_cmp : Line → Line → Ordering
 line_cmp a b =
     ordering_then (nat_cmp a.rule b.rule)

@@ -1,4 +1,4 @@
--- The origins that closed boxes meet.
+-- The origins that closed boxes touch.
 use Rattle.std.specs.Prelude.{◌≡◌, ◌<◌, ℕ, true, List, [], length, slice_index_or, All, Contains, ◌↔◌}
 use Rattle.mpw_geom.specs.declared.plane.Box2.{Box2}
 use Rattle.mpw_geom.specs.Plane.{Square, has_square}
@@ -11,7 +11,7 @@ abbrev pub OriginHasSquare : List Rectangle → ℕ → Square → Type 0
 OriginHasSquare rectangles origin s =
     (r : Rectangle) × Contains rectangles r × (r.origin ≡ origin) × (has_square r.area s ≡ true)
 
--- for each box the origins, ascending, of which a unit square, taken closed, shares a point with the closed box
+-- for each box the origins, ascending, that have a unit square which, taken closed, shares a point with the closed box
 pub record AreMetOrigins (rectangles : List Rectangle) (boxes : List Box2) (mets : List (List ℕ)) :
     Type 0 where
   pub count : length mets ≡ length boxes

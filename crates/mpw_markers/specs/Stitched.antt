@@ -5,7 +5,7 @@ use Rattle.mpw_markers.specs.declared.marker.Marker.{Marker}
 use Rattle.mpw_markers.specs.Markers.{HasRow, CoversRow, LiesIn}
 use Rattle.mpw_markers.specs.Book.{IsBook}
 
--- The book has just the rows of the parts. A marker of it meets just the submissions of the parts within its rows.
+-- The book has exactly the rows of the parts. A marker of it touches exactly the submissions of the parts within its rows.
 pub record IsJoined (part : Marker → Type 0) (book : List Marker) : Type 0 where
   pub markers : IsBook book
   pub rows : (line : Line) (j : ℤ) → CoversRow book line j

@@ -1,4 +1,4 @@
--- The markers of a whole layout, where a test tells which rows pass.
+-- The markers of a whole layout, given a test of which rows pass.
 use Rattle.std.specs.Prelude.{◌≡◌, ℕ, ℤ, pos, ◌-ℤ◌, ◌≤ℤ◌, ◌<ℤ◌, Bool, true, false, List, Contains, ◌↔◌}
 use Rattle.mpw_geom.specs.Meeting.{IsMet}
 use Rattle.mpw_geom.specs.Plane.{Square}
@@ -15,7 +15,7 @@ pub record IsMaximal (steps : Line → ℤ → Bool) (key : Key) : Type 0 where
   pub below : steps (line_of_key key) (key.y0 -ℤ pos 1) ≡ false
   pub above : steps (line_of_key key) key.y1 ≡ false
 
--- a maximal run with the submissions that its box meets
+-- a maximal run with the submissions that its box touches
 pub record IsMarkerOf (steps : Line → ℤ → Bool) (has : ℕ → Square → Type 0) (m : Marker) :
     Type 0 where
   pub run : IsMaximal steps (key_of m)

@@ -10,8 +10,8 @@ use crate::marker::{Key, Marker, TileMarkers};
 use std::alloc::{AllocError, Global};
 use std::marker::Model;
 
-/// The markers of a run, which contracts see as a list in order: by the rule's place in the deck, axis `V` before
-/// `H`, side, `x1`, `x2` and `y0`. On a line no two overlap or touch. Copies share them.
+/// The markers of a run. Contracts see them as a list, ordered by the rule's index in the deck, axis (`V` before
+/// `H`), side, `x1`, `x2` and `y0`. On a line no two overlap or touch. Copies share memory.
 pub struct Book {
     markers: TileMarkers,
 }
@@ -35,7 +35,7 @@ impl Model for Book {
     ghost invariant = { λ b. IsBook b.markers };
 }
 
-/// The marker at a place, counted from 0.
+/// The marker at an index, counted from 0.
 fn marker_at(markers: &[Marker], place: usize) -> Option<&Marker>
     ensures { option_copied result ≡ slice_get markers.now place }
 {
@@ -43,7 +43,7 @@ fn marker_at(markers: &[Marker], place: usize) -> Option<&Marker>
 }
 
 impl Book {
-    /// The book without markers. It takes no memory.
+    /// The empty book. Takes no memory.
     pub fn new() -> Book
         ensures { result ≡ [] }
     {
@@ -52,10 +52,10 @@ impl Book {
         }
     }
 
-    /// The book of these markers, which are in its order already. One allocation; the markers stay where they are.
+    /// The book of these markers, which must be in a book's order. One allocation; the markers aren't moved.
     ///
     /// # Errors
-    /// Where there is no room for it.
+    /// Out of memory.
     pub fn from_vec(alloc: Global, markers: Vec<Marker>) -> Result<Book, AllocError>
         requires { IsBook markers.items }
         ensures { IfOk result (λ book. book ≡ markers.items) }
@@ -79,14 +79,14 @@ impl Book {
         self.markers.len()
     }
 
-    /// Whether there is no marker.
+    /// Whether there are no markers.
     pub fn is_empty(&self) -> bool
         ensures { result ≡ (length self.now == 0) }
     {
         self.markers.is_empty()
     }
 
-    /// Where the marker of this key stands, counted from 0, where there is one. A binary search, which takes no memory.
+    /// The index of the marker with this key, counted from 0, if there is one. A binary search, without memory.
     pub fn place(&self, key: &Key) -> Option<usize>
         ensures { result ≡ place_in self.now key.now }
     {
@@ -98,7 +98,7 @@ impl Book {
         }
     }
 
-    /// The marker of this key, where there is one. A binary search, which takes no memory.
+    /// The marker with this key, if there is one. A binary search, without memory.
     pub fn find(&self, key: &Key) -> Option<&Marker>
         ensures { (m : MarkerValue) →
             (option_copied result ≡ Some m) ↔ (Contains self.now m × (key_of m ≡ key.now)) }
@@ -110,10 +110,10 @@ impl Book {
         }
     }
 
-    /// The same book, in constant time and without further memory.
+    /// The same book, in constant time and without more memory.
     ///
     /// # Errors
-    /// Where no more copies can be counted.
+    /// If no more copies can be counted.
     pub fn copy(&self) -> Result<Book, AllocError>
         ensures { IfOk result (λ book. book ≡ self.now) }
     {

@@ -1,8 +1,8 @@
-//! Boxes that are halved, and each part answered by itself.
+//! Halves a list of boxes again and again, and answers each part by itself.
 //!
-//! A part of the boxes is divided at its median along the longer side of the box around it. Rectangles
-//! that meet no box of a part are left out, and of those around all of it only the origins stay. So a rectangle is
-//! looked at where its border passes: an edge along an axis passes about the square root of the parts.
+//! A part of the boxes is divided at its median, along the longer side of the box around it. Rectangles that touch no box of a part
+//! are left out. Of rectangles that contain the whole part only the origins are stored. So a rectangle is visited only where its
+//! border passes: an edge along an axis passes about the square root of the number of parts.
 
 ghost use Rattle.std.specs.Prelude.{◌≡◌, ◌↔◌, ◌⊎◌, ◌<◌, [], ◌∷◌, ◌++◌, length, All, Contains, IfOk, OnOk};
 ghost use Rattle.std.specs.List.Sorted.{IsPermutation};
@@ -16,13 +16,13 @@ use crate::search::{Item, Rectangle, answer, hull, parts_near};
 use mpw_geom::Box2;
 use std::alloc::{AllocError, Global};
 
-/// Halvings at most.
+/// The most halvings.
 const MAX_DEPTH: u32 = 40;
 
-/// So few boxes, or rectangles, are not divided further.
+/// At most this many boxes, or rectangles, are not divided any more.
 const FEW: usize = 16;
 
-/// Puts the answer of one box in its place.
+/// Stores the answer of one box at its index.
 fn fill_one(
     alloc: Global,
     mets: &mut Vec<Met>,
@@ -38,7 +38,7 @@ fn fill_one(
     Ok(())
 }
 
-/// Puts the answer of each box in its place: a test a box and rectangle.
+/// Stores the answer of each box at its index: one test for each box and rectangle.
 fn fill_each(
     alloc: Global,
     mets: &mut Vec<Met>,
@@ -55,7 +55,7 @@ fn fill_each(
     Ok(())
 }
 
-/// The items below a median along one side of the box around them, it, and the others.
+/// The items before the median along one side of the box around them, the median, and the others.
 fn parts_at_median<'a>(
     items: &'a mut [Item],
     around: &Box2,
@@ -90,7 +90,7 @@ fn halves(
     Ok((low, rest))
 }
 
-/// Puts the answer of each box in its place, dividing them at most `depth` times.
+/// Stores the answer of each box at its index, dividing them at most `depth` times.
 fn fill(
     alloc: Global,
     mets: &mut Vec<Met>,
@@ -113,7 +113,7 @@ fn fill(
     fill(alloc, mets, high, common, some, depth - 1)
 }
 
-/// The boxes with their places.
+/// The boxes with their indices.
 fn items(alloc: Global, boxes: &[Box2]) -> Result<Vec<Item>, AllocError>
     ensures { IfOk result (λ v. AreItemsOf boxes.now v.items) }
 {
@@ -124,7 +124,7 @@ fn items(alloc: Global, boxes: &[Box2]) -> Result<Vec<Item>, AllocError>
     Ok(items)
 }
 
-/// So many lists without numbers.
+/// `count` empty lists of numbers.
 fn none(alloc: Global, count: usize) -> Result<Vec<Met>, AllocError>
     ensures count { IfOk result (λ v. length v.items ≡ count) }
 {
@@ -135,16 +135,16 @@ fn none(alloc: Global, count: usize) -> Result<Vec<Met>, AllocError>
     Ok(mets)
 }
 
-/// For each closed box the origins of the rectangles of which a closed unit square shares a point with it, ascending,
-/// each once, in the order of the boxes.
+/// For each closed box, the origins of the rectangles that have a closed unit square which shares a point with the box. The origins are ascending,
+/// each once, and the lists are in the order of the boxes.
 ///
-/// For `n` boxes and `m` rectangles the cost is about `n` for the halvings of each depth, a test a rectangle for each part of the
-/// boxes that its border passes, and a sort of what is answered for each box. On even input that is `(n + m) log n`. A
-/// rectangle across all boxes is looked at in about the square root of `n` parts; boxes that all lie on one another
-/// cannot be told apart, and then each is tested with each rectangle whose border passes them.
+/// Cost for `n` boxes and `m` rectangles: about `n` for the halvings of each depth, one test of a rectangle for each part of the
+/// boxes that its border passes, and a sort of each box's answer. On evenly spread input that is `(n + m) log n`. A rectangle
+/// across all boxes is tested in about the square root of `n` parts. Boxes that all overlap can't be separated; each is then
+/// tested with each rectangle whose border passes them.
 ///
 /// # Errors
-/// Where there is no room.
+/// Out of memory.
 pub fn met_origins(
     alloc: Global,
     rectangles: &[Rectangle],

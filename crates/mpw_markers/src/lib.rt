@@ -1,11 +1,11 @@
 //! Markers: what the checks of all tiles found, stitched into one book.
 //!
-//! A tile's job lists the markers of its core. A run of rows that goes on from one core to the next is listed in
-//! pieces; [`stitch`] makes each run one [`Marker`], which meets what its pieces meet. The [`Book`] is in order, so
-//! [`Book::place`] and [`Book::find`] look a key up by halving.
+//! A tile's job lists the markers of its core. If a run of rows continues from one core to the next, its pieces are listed
+//! separately. [`stitch`] makes one [`Marker`] of each run, which touches what its pieces touch. The [`Book`] is sorted, so
+//! [`Book::place`] and [`Book::find`] find a key by binary search.
 //!
 //! A marker names the submissions whose shapes touch its box. [`met_origins`] finds them for many boxes at once, by
-//! halving the boxes: each half looks only at the rectangles near it.
+//! halving the list of boxes: each half visits only the rectangles near it.
 #![tactic(auto)]
 
 mod book;

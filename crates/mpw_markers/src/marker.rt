@@ -12,15 +12,15 @@ use std::alloc::{AllocError, Global};
 use std::marker::Model;
 use std::sync::Arc;
 
-/// What tells apart the lines on which markers lie: the rule's place in the deck, from 0, the axis of the edges,
+/// The line on which a marker lies: the rule's index in the deck, from 0, the axis of the edges,
 /// the side, 0 or 1, and the two coordinates, in nm.
 #[derive(Clone, Copy, PartialEq, Eq, PartialOrd, Ord)]
 pub struct Line {
-    /// The rule's place in the deck, from 0.
+    /// The rule's index in the deck, from 0.
     pub rule: u32,
-    /// The direction of the edges; `V` comes before `H`.
+    /// The direction of the edges. `V` comes before `H`.
     pub axis: Axis,
-    /// Which of the two kinds of pairs that a rule of two layers finds; 0 of other rules.
+    /// Which of the two kinds of pairs of a rule with two layers it is; 0 for other rules.
     pub side: u8,
     /// The first edge, in nm.
     pub x1: i64,
@@ -28,14 +28,14 @@ pub struct Line {
     pub x2: i64,
 }
 
-/// A marker without the submissions that it meets.
+/// A marker without the submissions that it touches.
 #[derive(Clone, Copy, PartialEq, Eq)]
 pub struct Key {
-    /// The rule's place in the deck, from 0.
+    /// The rule's index in the deck, from 0.
     pub rule: u32,
     /// The direction of the edges.
     pub axis: Axis,
-    /// Which of the two kinds of pairs that a rule of two layers finds; 0 of other rules.
+    /// Which of the two kinds of pairs of a rule with two layers it is; 0 for other rules.
     pub side: u8,
     /// The first edge, in nm.
     pub x1: i64,
@@ -43,28 +43,28 @@ pub struct Key {
     pub x2: i64,
     /// The first row, in nm.
     pub y0: i64,
-    /// The row behind the last one, in nm.
+    /// The row after the last one, in nm.
     pub y1: i64,
 }
 
-/// A maximal run of the rows from `y0` to before `y1` with a pair step of a rule at `x1` and `x2`, in nm. The
-/// closed box from `(x1, y0)` to `(x2, y1)`, on axis `H` with its coordinates exchanged, meets the submissions of `met`.
+/// A maximal run of the rows from `y0` to before `y1` with a pair step of a rule at `x1` and `x2`, in nm. Its closed box goes from
+/// `(x1, y0)` to `(x2, y1)`; on axis `H` the coordinates are exchanged. The box touches the submissions in `met`.
 pub struct Marker {
-    /// The rule's place in the deck, from 0.
+    /// The rule's index in the deck, from 0.
     pub rule: u32,
     /// The direction of the edges.
     pub axis: Axis,
-    /// Which of the two kinds of pairs that a rule of two layers finds; 0 of other rules.
+    /// Which of the two kinds of pairs of a rule with two layers it is; 0 for other rules.
     pub side: u8,
     /// The first edge, in nm.
     pub x1: i64,
-    /// The second edge, in nm: `x1` or more, by less than the rule's distance.
+    /// The second edge, in nm: at least `x1`, and less than the rule's distance beyond it.
     pub x2: i64,
     /// The first row, in nm.
     pub y0: i64,
-    /// The row behind the last one, above `y0`, in nm.
+    /// The row after the last one, above `y0`, in nm.
     pub y1: i64,
-    /// The numbers of the submissions that it meets, ascending, each once.
+    /// The numbers of the submissions that it touches, ascending, each once.
     pub met: Met,
 }
 
@@ -85,7 +85,7 @@ impl Drop for Marker {
 }
 
 impl Key {
-    /// The line on which a marker of this key lies.
+    /// The line on which a marker with this key lies.
     pub fn line(&self) -> Line
         ensures { result ≡ line_of_key self.now }
     {
@@ -98,7 +98,7 @@ impl Key {
         }
     }
 
-    /// The marker of this key that meets these submissions.
+    /// The marker with this key that touches these submissions.
     pub(crate) fn with(&self, met: Met) -> Marker
         ensures { result ≡ marker_of self.now met }
     {
@@ -158,10 +158,10 @@ impl Marker {
         }
     }
 
-    /// The same marker, in constant time and without further memory.
+    /// The same marker, in constant time and without more memory.
     ///
     /// # Errors
-    /// Where no more copies can be counted.
+    /// If no more copies can be counted.
     pub fn copy(&self) -> Result<Marker, AllocError>
         ensures same { IfOk result (λ marker. marker ≡ self.now) }
         ensures ascending { IsAscending self.now.met }
@@ -171,8 +171,8 @@ impl Marker {
     }
 }
 
-/// The markers that a tile's job found, each with a row at least, which contracts see as that list. Copies share
-/// them.
+/// The markers that a tile's job found, each with at least one row. Contracts see them as a list. Copies share
+/// memory.
 pub struct TileMarkers {
     items: Option<Arc<Vec<Marker>>>,
 }
@@ -198,7 +198,7 @@ impl Model for TileMarkers {
 }
 
 impl TileMarkers {
-    /// No marker. It takes no memory.
+    /// No markers. Takes no memory.
     pub fn none() -> TileMarkers
         ensures { result ≡ [] }
     {
@@ -208,7 +208,7 @@ impl TileMarkers {
     /// These markers. One allocation.
     ///
     /// # Errors
-    /// Where there is no room for it.
+    /// Out of memory.
     pub fn from_vec(alloc: Global, markers: Vec<Marker>) -> Result<TileMarkers, AllocError>
         requires { All IsFilled markers.items }
         ensures { IfOk result (λ made. made ≡ markers.items) }
@@ -235,17 +235,17 @@ impl TileMarkers {
         self.as_slice().len()
     }
 
-    /// Whether there is no marker.
+    /// Whether there are no markers.
     pub fn is_empty(&self) -> bool
         ensures { result ≡ (length self.now == 0) }
     {
         self.as_slice().is_empty()
     }
 
-    /// The same markers, in constant time and without further memory.
+    /// The same markers, in constant time and without more memory.
     ///
     /// # Errors
-    /// Where no more copies can be counted.
+    /// If no more copies can be counted.
     pub fn copy(&self) -> Result<TileMarkers, AllocError>
         ensures { IfOk result (λ markers. markers ≡ self.now) }
     {

@@ -1,4 +1,4 @@
-//! The numbers of the submissions that a marker meets.
+//! The numbers of the submissions that a marker touches.
 
 ghost use Rattle.std.specs.Prelude.{◌≡◌, ◌↔◌, ℕ, [], IfOk, Contains};
 ghost use Rattle.mpw_markers.specs.Met.{IsAscending};
@@ -7,7 +7,7 @@ use std::alloc::{AllocError, Global};
 use std::marker::Model;
 use std::sync::Arc;
 
-/// Up to two numbers in the value; more are shared.
+/// At most two numbers are in the value itself; more are shared.
 #[derive(Drop)]
 enum Numbers {
     Empty,
@@ -16,8 +16,8 @@ enum Numbers {
     Shared(Arc<Vec<u32>>),
 }
 
-/// Numbers of submissions, ascending and each once, which contracts see as that list. Copies share them; up to two
-/// take no memory at all.
+/// Numbers of submissions, ascending and each once. Contracts see them as a list. Copies share memory. Up to two
+/// numbers take no memory at all.
 pub struct Met {
     numbers: Numbers,
 }
@@ -41,7 +41,7 @@ impl Model for Met {
     ghost invariant = { λ m. IsAscending (numbers_of m.numbers) };
 }
 
-/// Puts the numbers in order, each once.
+/// Sorts the numbers and keeps each once.
 fn sort_each_once(numbers: &mut Vec<u32>)
     ensures ascending { IsAscending numbers.new.items }
     ensures same { (n : ℕ) → Contains numbers.new.items n ↔ Contains numbers.old.items n }
@@ -51,7 +51,7 @@ fn sort_each_once(numbers: &mut Vec<u32>)
 }
 
 impl Met {
-    /// No number. It takes no memory.
+    /// No numbers. Takes no memory.
     pub fn none() -> Met
         ensures { result ≡ [] }
     {
@@ -60,10 +60,10 @@ impl Met {
         }
     }
 
-    /// These numbers: a copy of them, and one allocation more, where there are more than two.
+    /// These numbers. If there are more than two, it takes a copy of them and one allocation more.
     ///
     /// # Errors
-    /// Where there is no room for it.
+    /// Out of memory.
     pub fn of(alloc: Global, numbers: &[u32]) -> Result<Met, AllocError>
         requires { IsAscending numbers.now }
         ensures { IfOk result (λ met. met ≡ numbers.now) }
@@ -77,10 +77,10 @@ impl Met {
         Ok(Met { numbers })
     }
 
-    /// These numbers, put in order and each once. A sort of them, and what [`Met::of`] takes.
+    /// These numbers, sorted and each once. Cost: a sort of them, and what [`Met::of`] takes.
     ///
     /// # Errors
-    /// Where there is no room for it.
+    /// Out of memory.
     pub fn from_vec(alloc: Global, numbers: Vec<u32>) -> Result<Met, AllocError>
         ensures ascending { IfOk result (λ met. IsAscending met) }
         ensures same { IfOk result (λ met. (n : ℕ) → Contains met n ↔ Contains numbers.items n) }
@@ -103,10 +103,10 @@ impl Met {
         }
     }
 
-    /// The same numbers, in constant time and without further memory.
+    /// The same numbers, in constant time and without more memory.
     ///
     /// # Errors
-    /// Where no more copies can be counted.
+    /// If no more copies can be counted.
     pub fn copy(&self) -> Result<Met, AllocError>
         ensures same { IfOk result (λ met. met ≡ self.now) }
         ensures ascending { IsAscending self.now }

@@ -1,4 +1,4 @@
-//! Where markers stand in a book, by numbers that are in a book's order.
+//! The position of a marker in a book's order, as numbers that can be compared.
 
 ghost use Rattle.std.specs.Prelude.{◌≡◌};
 ghost use Rattle.mpw_markers.specs.Internal.Places.{axis_place, place_of};
@@ -6,14 +6,14 @@ ghost use Rattle.mpw_markers.specs.Internal.Places.{axis_place, place_of};
 use crate::marker::Key;
 use mpw_edges::Axis;
 
-/// A line by numbers that are in the order of lines: axis 0 is `V`, and 1 is `H`.
+/// A line as numbers in the order of lines: axis 0 is `V`, and 1 is `H`.
 #[derive(Clone, Copy, PartialEq, Eq, PartialOrd, Ord)]
 pub(crate) struct LinePlace {
-    /// The rule's place in the deck, from 0.
+    /// The rule's index in the deck, from 0.
     pub rule: u32,
-    /// 0 of vertical edges, 1 of horizontal ones.
+    /// 0 for vertical edges, 1 for horizontal ones.
     pub axis: u8,
-    /// Which of the two kinds of pairs that a rule of two layers finds; 0 of other rules.
+    /// Which of the two kinds of pairs of a rule with two layers it is; 0 for other rules.
     pub side: u8,
     /// The first edge, in nm.
     pub x1: i64,
@@ -21,14 +21,14 @@ pub(crate) struct LinePlace {
     pub x2: i64,
 }
 
-/// Where a marker stands in a book: its line and its rows.
+/// The position of a marker in a book's order: its line and its rows.
 #[derive(Clone, Copy, PartialEq, Eq, PartialOrd, Ord)]
 pub(crate) struct Place {
-    /// The line, by which places are ordered first.
+    /// The line, which is compared first.
     pub line: LinePlace,
     /// The first row, in nm.
     pub y0: i64,
-    /// The row behind the last one, in nm.
+    /// The row after the last one, in nm.
     pub y1: i64,
 }
 
@@ -43,7 +43,7 @@ fn axis_place(axis: Axis) -> u8
 }
 
 impl Key {
-    /// Where a marker of this key stands in a book.
+    /// The position in a book's order of a marker with this key.
     pub(crate) fn place(&self) -> Place
         ensures { result ≡ place_of self.now }
     {

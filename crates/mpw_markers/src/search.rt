@@ -1,4 +1,4 @@
-//! Rectangles that boxes may meet, as far as they matter to a part of the boxes.
+//! Selects the rectangles that a part of the boxes may touch.
 
 ghost use Rattle.std.specs.Prelude.{◌≡◌, ◌⊎◌, ◌≤ℤ◌, true, ℕ, Contains, IfOk, IsTrue, MatchBool};
 ghost use Rattle.mpw_markers.specs.declared.search.Item.{Item as ItemValue};
@@ -8,19 +8,19 @@ use crate::met::Met;
 use mpw_geom::Box2;
 use std::alloc::{AllocError, Global};
 
-/// A rectangle of a shape where it is placed, in nm, and the number of the submission from which the shape comes.
+/// A placed rectangle of a shape, in nm, and the number of the submission from which the shape comes.
 #[derive(Clone, Copy, PartialEq, Eq)]
 pub struct Rectangle {
-    /// The rectangle, closed: a box meets it that shares a corner with it alone.
+    /// The rectangle, closed: a box that shares only a corner with it touches it.
     pub area: Box2,
     /// The submission's number on the shelf, from 0.
     pub origin: u32,
 }
 
-/// A box, and the place of its answer.
+/// A box, and the index of its answer.
 #[derive(Clone, Copy, PartialEq, Eq)]
 pub(crate) struct Item {
-    /// Where its answer stands in the list of all answers, from 0.
+    /// The index of its answer in the list of all answers, from 0.
     pub place: usize,
     /// The box, closed, in nm.
     pub area: Box2,
@@ -64,17 +64,17 @@ fn is_within(b: &Box2, hull: &Box2) -> bool
     true
 }
 
-/// Origins that all boxes of a part meet, each once, and the rectangles that some of them may meet.
+/// Origins that all boxes of a part touch, each once, and the rectangles that some of them may touch.
 #[derive(Drop)]
 pub(crate) struct Near {
-    /// The origins that each box meets, of the rectangles too that have the whole hull of the boxes.
+    /// The origins that each box touches, including those of rectangles that contain the whole hull of the boxes.
     pub common: Met,
-    /// The rectangles that meet the hull, and don't have all of it.
+    /// The rectangles that touch the hull, but don't contain all of it.
     pub rectangles: Vec<Rectangle>,
 }
 
-/// What matters to the boxes in the hull: a rectangle that has all of it is one that each of them meets, and one that
-/// doesn't meet it is met by none.
+/// What matters for the boxes in the hull. A rectangle that contains the hull is touched by each of them, and one that
+/// doesn't touch the hull is touched by none.
 pub(crate) fn parts_near(
     alloc: Global,
     hull: &Box2,
@@ -108,7 +108,7 @@ fn is_last(numbers: &[u32], number: u32) -> bool
     }
 }
 
-/// Whether the rectangle meets the box, and its origin isn't the last number already.
+/// Whether the rectangle touches the box, and its origin isn't the last number already.
 fn is_needed(numbers: &[u32], rectangle: &Rectangle, b: &Box2) -> bool
     ensures { MatchBool result (SharePoint rectangle.now.area b.now)
         (Contains numbers.now rectangle.now.origin ⊎ (SharePoint rectangle.now.area b.now → ⊥)) }
@@ -116,7 +116,7 @@ fn is_needed(numbers: &[u32], rectangle: &Rectangle, b: &Box2) -> bool
     !is_last(numbers, rectangle.origin) && rectangle.area.meets(*b)
 }
 
-/// The origins that the box meets.
+/// The origins that the box touches.
 pub(crate) fn answer(
     alloc: Global,
     b: &Box2,

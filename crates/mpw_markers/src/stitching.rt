@@ -1,7 +1,7 @@
-//! The stitching of tiles' markers into one book.
+//! Stitches the markers of tiles into one book.
 //!
-//! All markers are put in order by line and then by row, so that those of a run stand together. One pass then cuts
-//! the list into runs; each is one marker, whose submissions are those of the markers in it, sorted, each once.
+//! All markers are sorted by line and then by row, so that those of a run are adjacent. One pass then splits
+//! the list into runs. Each is one marker, whose submissions are those of the markers in it, sorted, each once.
 
 ghost use Rattle.std.specs.Prelude.{◌≡◌, ◌≤◌, ◌++◌, ◌<ℤ◌, ◌≤ℤ◌, ◌↔◌, length, map, IfOk, OnOk, All, Contains, IsTrue, MatchBool};
 ghost use Rattle.std.specs.List.{flat_map};
@@ -24,7 +24,7 @@ impl Key {
         self.line() == marker.line()
     }
 
-    /// Whether the marker goes on with the run of this key: it lies on the run's line, and begins at the run's end or
+    /// Whether the marker continues the run of this key: it lies on the run's line, and begins at the run's end or
     /// before.
     fn reaches(&self, next: &Marker) -> bool
         ensures { MatchBool result
@@ -34,7 +34,7 @@ impl Key {
         self.is_on_line_of(next) && next.y0 <= self.y1
     }
 
-    /// This run, lengthened to the end of the marker.
+    /// This run, extended to the end of the marker.
     fn longer_key(&self, next: &Marker) -> Key
         ensures { result ≡ lengthened self.now next.now }
     {
@@ -76,7 +76,7 @@ fn all_markers<'a>(alloc: Global, lists: &'a [TileMarkers]) -> Result<Vec<&'a Ma
     Ok(all)
 }
 
-/// The markers by line, and on a line by where they begin.
+/// The markers sorted by line, and on a line by their beginnings.
 fn in_order<'a>(markers: Vec<&'a Marker>) -> Result<Vec<&'a Marker>, AllocError>
     ensures moved { IfOk result (λ v. IsPermutation (map (λ m. m.now) markers.entry.items) (map (λ m. m.now) v.items)) }
     ensures ordered { IfOk result (λ v. AreInOrder (map (λ m. m.now) v.items)) }
@@ -86,7 +86,7 @@ fn in_order<'a>(markers: Vec<&'a Marker>) -> Result<Vec<&'a Marker>, AllocError>
     Ok(markers)
 }
 
-/// How many markers make the run of the first one, and the run.
+/// How many markers form the run of the first one, and the run.
 fn first_run(markers: &[&Marker]) -> (usize, Key)
     requires some { 1 ≤ length markers.now }
     requires filled { All IsFilled (map (λ m. m.now) markers.now) }
@@ -115,7 +115,7 @@ fn all_numbers(alloc: Global, markers: &[&Marker]) -> Result<Vec<u32>, AllocErro
     Ok(numbers)
 }
 
-/// The submissions that some of the markers meets.
+/// The submissions that some of the markers touch.
 fn met_by(alloc: Global, markers: &[&Marker]) -> Result<Met, AllocError>
     ensures { IfOk result (λ met. AreMetBy (map (λ m. m.now) markers.now) met) }
 {
@@ -126,7 +126,7 @@ fn met_by(alloc: Global, markers: &[&Marker]) -> Result<Met, AllocError>
     Met::from_vec(alloc, numbers)
 }
 
-/// Adds the marker of the first run, and tells how many markers make it.
+/// Adds the marker of the first run. Returns how many markers form it.
 fn add_run(alloc: Global, book: &mut Vec<Marker>, markers: &[&Marker]) -> Result<usize, AllocError>
     requires some { 1 ≤ length markers.now }
     requires filled { All IsFilled (map (λ m. m.now) markers.now) }
@@ -153,15 +153,15 @@ fn join(alloc: Global, markers: &[&Marker]) -> Result<Vec<Marker>, AllocError>
     Ok(book)
 }
 
-/// The book of the lists' markers: each maximal run of rows on a line that some list has is one marker, which
-/// meets the submissions of the markers within it. The lists may be in any order, and their markers may overlap.
+/// The book of the lists' markers. Each maximal run of rows on a line that some list has is one marker. It touches
+/// the submissions of the markers within it. The lists may be in any order, and their markers may overlap.
 ///
-/// For `n` markers and `k` numbers of submissions in all the cost is that of a sort of the markers and sorts of
-/// at most `k` numbers: `n log n + k log k`. Where each marker stands is sorted, and no marker is moved: that takes 16
-/// bytes a marker meanwhile. The book takes 64 bytes a marker at most, and lists of more than two submissions.
+/// Cost for `n` markers and `k` numbers of submissions in all: a sort of the markers and sorts of at most `k` numbers, `n log n
+/// + k log k`. References to the markers are sorted, and no marker is moved: that takes 16 bytes for each marker meanwhile. The
+/// book takes at most 64 bytes for each marker, and the lists of more than two submissions.
 ///
 /// # Errors
-/// Where there is no room.
+/// Out of memory.
 pub fn stitch(alloc: Global, lists: &[TileMarkers]) -> Result<Book, AllocError>
     ensures { IfOk result (λ book. IsStitched lists.now book) }
 {

@@ -46,7 +46,7 @@ module _ (slot : Grant → ℕ) where
       true≢false (sym p.0 ∙ ap (has mask) (sym (same g x is)) ∙ none)))
       ∙ none_covered same mask xs g p.1 none
 
-  -- one slot and one grant more
+  -- one more slot and one more grant
   pub covered-more : (mask wider : Mask) (grants : List Grant) (g : Grant) (at : ℕ)
       → at ≡ slot g → ((q : ℕ) → has wider q ≡ (has mask q || eqb q at))
       → IsCovered slot mask grants → IsCovered slot wider (grants ++ g ∷ [])
@@ -91,7 +91,7 @@ covered-less objects roles k grants covered = (
   covered_less role_slot roles k grants covered.1,
 )
 
--- a filter that nothing falls through
+-- a filter that removes nothing
 pub without-none : (grants : List Grant) (g : Grant) → list_any (grant_eq g) grants ≡ false
     → grants ≡ without_grant grants g
 without-none [] g none = refl
@@ -102,7 +102,7 @@ without-none (x ∷ xs) g none =
       | false ↦ λ later. ap (λ l. x ∷ l) (without-none xs g later)
     ] none
 
--- a block more at the end
+-- one more block at the end
 pub flat_last : (blocks : List (List Grant)) (block : List Grant)
     → flat_map (λ b. b) (blocks ++ block ∷ []) ≡ flat_map (λ b. b) blocks ++ block
 flat_last [] block = append-nil block
@@ -133,7 +133,7 @@ among p (x ∷ xs) (suc i) b d inside at is = list_any-append p x (flat_map (λ 
     or_true true = refl
     or_true false = refl
 
--- and all are as many as it and those before it, at least
+-- and all are at least as many as it and those before it
 pub flat-long : (blocks : List (List Grant)) (i : ℕ) (b d : List Grant) → i < length blocks
     → b ≡ get_or blocks i d → length (flat_map (λ x. x) (take i blocks)) + length b ≤ length
     (flat_map (λ x. x) blocks)
@@ -149,7 +149,7 @@ flat-long (x ∷ xs) (suc i) b d inside at =
 pub not_less : (a b : ℕ) → b ≤ a → nat_lt a b ≡ false
 not_less a b le = refuted (nat_lt a b) (λ is. let less = ltb-true a b is in omega (arith, le, less))
 
--- what is kept of one block more
+-- what stays of one more block
 kept-suc : (k : Grant → Bool) (blocks : List (List Grant)) (i : ℕ) (b d : List Grant)
     → i < length blocks → b ≡ get_or blocks i d
     → filter k (flat_map (λ x. x) (take i blocks))

@@ -1,4 +1,4 @@
--- Masks in buckets: where the mask of one object is written, those of the others stay.
+-- Masks in buckets: if the mask of one object is set, those of the others stay.
 use Rattle.std.proofs.Common.{◌≡◌, ℕ, zero, suc, ◌&&◌, Bool, true, false, cond, not, List, [], ◌∷◌, ◌++◌, filter, get_or, replicate, Option, None, Some, refl, sym, ap, ◌∙◌, true≢false, append-nil}
 use Rattle.std.specs.Option.{option_map_or}
 use Rattle.mpw_roles.specs.declared.mask.Mask.{Mask}
@@ -9,7 +9,7 @@ use Rattle.mpw_permissions.specs.declared.bucket.Held.{Held}
 use Rattle.mpw_permissions.specs.declared.permission.Object.{Object}
 use Rattle.mpw_permissions.proofs.ObjectLemmas.{same_object, other_way}
 
--- the others, and behind them what is made for the object
+-- the others, and after them what is made for the object
 mask-put : (object : Object) (made : Option Mask) (tail : List Held)
     → ((other : Object) → mask_in tail other ≡ cond (object_eq object other) made None)
     → (es : List Held) (other : Object)
@@ -85,7 +85,7 @@ pub both-false : (b : Bool) → (b && b) ≡ false → b ≡ false
 both-false true is = absurd (true≢false is)
 both-false false is = refl
 
--- what holds of none and of one bucket or group holds of each where all are that one
+-- what holds of none and of one bucket or group holds of each if all are that one
 pub replicated-each : {X : Type 0} (P : List X → Type 0) → P [] → (x : List X) → P x → (n k : ℕ)
     → P (get_or (replicate n x) k [])
 replicated-each P none x here zero k = none

@@ -1,4 +1,4 @@
--- The masks of an operation, one grant after the other, and what they answer.
+-- The masks of an operation, one grant after another, and what they answer.
 use Rattle.std.proofs.Common.{subst, [], ◌≡◌, ℕ, zero, suc, ◌+◌, ◌<◌, Bool, true, false, cond, not, ◌||◌, ◌&&◌, inl, inr, List, ◌∷◌, ◌++◌, length, get_or, eqb, eq-eqb, None, Some, refl, sym, ap, ◌∙◌, true≢false, arith}
 use Rattle.std.specs.Prelude.{nat_lt, position}
 use Rattle.std.specs.List.{list_any, position_or_len}
@@ -53,7 +53,7 @@ none-fewer p q more xs none = refuted (list_any q xs)
     (λ is. let found = any-found q xs is in
     true≢false (sym (found.2 p (more found.0 found.1)) ∙ none))
 
--- a role more, to which nothing was granted
+-- one more role, without grants
 held-role : (roles : List Name) (r : Name) (granted : List Grant) (operation : ℕ) (table : Buckets)
     → list_any (λ (g : Grant). name_eq r g.role) granted ≡ false
     → IsHeld roles granted operation table → IsHeld (roles ++ r ∷ []) granted operation table
@@ -104,7 +104,7 @@ all-held-role roles r granted tables none held = record {
       (held.exact operation inside);
 }
 
--- a role more that goes last, or none, changes no mask
+-- one more role at the end, or none, changes no mask
 pub more-names : (old new : List Name) (granted : List Grant) (tables : List Buckets)
     → are_distinct new ≡ true → AreMoreNames old new → ArePermissions old granted tables
     → ArePermissions new granted tables
@@ -145,7 +145,7 @@ changed-other more roles g operation table apart = unchanged more roles g operat
     let grant = parts (eqb operation (operation_index g.operation)) _ inside.1 in
     true≢false (sym grant.0 ∙ ne_eqb operation (operation_index g.operation) apart)))
 
--- a place more or less for the grant's object
+-- one index more or less for the grant's object
 pub changed-place : (more : Bool) (roles : List Name) → are_distinct roles ≡ true
     → (g : Grant) (operation : ℕ) (old new : Buckets) (i : ℕ) (mask : Mask)
     → operation_index g.operation ≡ operation → Some i ≡ position (name_eq g.role) roles
@@ -182,7 +182,7 @@ held-after more roles granted g old new held changed =
           granted (held.exact operation inside);
     }
 
--- the same where roles and masks are read through references
+-- the same if roles and masks are read through references
 pub held-through : (more : Bool) (h here after : Hierarchy) (granted left : List Grant) (g : Grant)
     (old read new : List Buckets) → AreHeld (role_names h) granted old → here ≡ h → read ≡ old
     → AreHeldAfter more (role_names here) g read new → after ≡ h
@@ -194,7 +194,7 @@ held-through more h here after granted left g old read new held same all changed
     (subst (λ (k : Hierarchy). AreHeldAfter more (role_names k) g old new) same
     (subst (λ l. AreHeldAfter more (role_names here) g l new) all changed))))
 
--- a place that is below the seniors and granted is a grant to a role below them
+-- an index that is below the seniors and has the grant is a grant to a role below them
 granted-of-place : (h : Hierarchy) (granted : List Grant) (seniors : List Name)
     (operation : Operation) (object : Object) (q : ℕ)
     → is_place_below h seniors q ≡ true
@@ -221,7 +221,7 @@ granted-of-place h granted seniors operation object q below is =
     (both (operation_eq operation g.operation) _ a.0
     (both (object_eq object g.object) _ b.0 role))
 
--- and the other way
+-- and the converse
 place-of-granted : (h : Hierarchy) (granted : List Grant) (seniors : List Name)
     (operation : Operation) (object : Object)
     → list_any (is_granted_to (roles_below h seniors) operation object) granted ≡ true
@@ -248,7 +248,7 @@ place-of-granted h granted seniors operation object is =
           ∙ name_eq-refl g.role)))),
     )
 
--- masks that meet answer the grants
+-- masks with a common index answer the grants
 pub meets-granted : (h : Hierarchy) (granted : List Grant) (seniors : List Name)
     (operation : Operation) (object : Object) (acting holding : Mask) (b : Bool)
     → ((q : ℕ) → has acting q ≡ is_place_below h seniors q)
@@ -267,7 +267,7 @@ meets-granted h granted seniors operation object acting holding false acts holds
     true≢false (sym (both (has holding at.0) (has acting at.0) (holds_it at.0 ∙ at.2)
     (acts at.0 ∙ at.1)) ∙ none refl at.0)))
 
--- the bit of a role's place says whether the role was granted it
+-- the bit of a role's index says whether the role has the grant
 pub granted-bit : (names : List Name) (granted : List Grant) (g : Grant) (k i : ℕ)
     → k ≡ operation_index g.operation → Some i ≡ position (name_eq g.role) names
     → is_place_granted names granted k g.object i ≡ list_any (grant_eq g) granted
@@ -278,7 +278,7 @@ granted-bit names granted g k i of found =
     ∙ (λ j. list_any (is_grant_of (of j) g.object
     (sym (same_name g.role (get_or names i []) at.1) j)) granted)
 
--- a name without a place is none of them
+-- a name without an index is none of them
 pub unplaced : (names : List Name) (r : Name) → None ≡ position (name_eq r) names
     → contains_name names r ≡ false
 unplaced names r none = refuted (contains_name names r) (λ there.

@@ -1,4 +1,4 @@
--- The masks of an operation after one grant more or one less.
+-- The masks of an operation after a grant is added or removed.
 use Rattle.std.proofs.Common.{[], ◌≡◌, ℕ, zero, suc, ◌<◌, Bool, true, false, cond, not, ◌||◌, ◌&&◌, inl, inr, List, ◌∷◌, ◌++◌, filter, length, get_or, eqb, eq-eqb, Some, refl, sym, ap, ◌∙◌, true≢false, arith}
 use Rattle.std.specs.Prelude.{nat_lt, position}
 use Rattle.std.specs.List.{list_any}
@@ -25,7 +25,7 @@ any-last f [] y = or_false (f y)
 any-last f (x ∷ xs) y =
     ap (λ b. f x || b) (any-last f xs y) ∙ or_assoc (f x) (list_any f xs) (f y)
 
--- the mask of one object is written, with a place more
+-- the mask of one object is set, with one more index
 pub put-more : (old new : Buckets) (mask : Mask) (object : Object) (place : ℕ)
     → ((q : ℕ) → has mask q ≡ (holds old object q || eqb q place))
     → ((other : Object) (q : ℕ) → holds new other q ≡ cond (object_eq object other) (has mask q)
@@ -45,7 +45,7 @@ put-more old new mask object place is put other q = put other q
           (sym (other_way object other) ∙ apart) ∙ or_false (holds old other q))
     ] refl
 
--- and with one less
+-- and with one fewer
 pub put-less : (old new : Buckets) (mask : Mask) (object : Object) (place : ℕ)
     → ((q : ℕ) → has mask q ≡ (holds old object q && not (eqb q place)))
     → ((other : Object) (q : ℕ) → holds new other q ≡ cond (object_eq object other) (has mask q)
@@ -65,7 +65,7 @@ put-less old new mask object place is put other q = put other q
           (sym (other_way object other) ∙ apart) ∙ and_true (holds old other q))
     ] refl
 
--- one grant more
+-- one more grant
 held-more : (roles : List Name) (done : List Grant) (g : Grant) (operation : ℕ) (old new : Buckets)
     → ((object : Object) (place : ℕ) → holds new object place
     ≡ (holds old object place || (nat_lt place (length roles)
@@ -114,7 +114,7 @@ strange roles g operation none object place = refuted _ (λ is.
     true≢false (sym (contains-at roles place g.role (ltb-true place (length roles) inside.0)
     (turned (get_or roles place []) g.role at.1)) ∙ none))
 
--- names that stand once stand at one place
+-- a name that occurs once has one index
 place-once : (names : List Name) → are_distinct names ≡ true → (i j : ℕ) → i < length names
     → j < length names → name_eq (get_or names i []) (get_or names j []) ≡ true → i ≡ j
 place-once [] once i j a b is = absurd (omega arith)
@@ -129,7 +129,7 @@ place-once (x ∷ xs) once (suc i) (suc j) a b is =
     ap suc (place-once xs (parts (not (contains_name xs x)) (are_distinct xs) once).1 i j
     (omega arith) (omega arith) is)
 
--- the place of a role that was found is where its name stands
+-- the index of a role that was found is that of its name
 pub place-is : (names : List Name) → are_distinct names ≡ true → (r : Name) (i : ℕ)
     → Some i ≡ position (name_eq r) names → (q : ℕ)
     → eqb q i ≡ (nat_lt q (length names) && name_eq (get_or names q []) r)
@@ -183,7 +183,7 @@ same-grant operation object role a b is =
     λ i. eqb operation (index i) && (object_eq object (same_object a.object b.object s.0 i)
     && name_eq role (same_name a.role b.role s.1 i))
 
--- the place of a role
+-- the index of a role
 pub place_of : (names : List Name) (r : Name) → contains_name names r ≡ true
     → (i : ℕ) × (i < length names) × (get_or names i [] ≡ r)
 place_of [] r there = absurd (true≢false (sym there))
@@ -254,7 +254,7 @@ less_in true a f true gone kept = and_false a ∙ sym (gone refl)
 less_in true a f false gone kept = and_true a ∙ sym (kept refl)
 less_in false a f t gone kept = refl
 
--- one grant less
+-- one grant fewer
 pub held-less : (roles : List Name) (done : List Grant) (g : Grant) (operation : ℕ)
     (old new : Buckets)
     → ((object : Object) (place : ℕ) → holds new object place
@@ -277,7 +277,7 @@ held-less roles done g operation old new step held = record {
       same) ∙ none)))) done);
 }
 
--- an item that is there is the one at its place, whatever stands in for none
+-- an item that is there is the one at its index, whatever the default is
 pub there : {X : Type 0} (xs : List X) (i : ℕ) (a b : X) → i < length xs
     → get_or xs i a ≡ get_or xs i b
 there [] i a b inside = absurd (omega arith)

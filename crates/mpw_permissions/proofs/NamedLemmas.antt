@@ -1,4 +1,4 @@
--- Each grant is to a role, whatever grants and roles come and go.
+-- Each grant is to a role, whatever grants and roles are added and removed.
 use Rattle.std.proofs.Common.{◌≡◌, Bool, true, false, cond, not, ◌||◌, ◌&&◌, List, [], ◌∷◌, ◌++◌, filter, refl, sym, ap, ◌∙◌, true≢false}
 use Rattle.std.specs.List.{list_any}
 use Rattle.mpw_geom.specs.Names.{name_eq, contains_name, without_name}
@@ -11,7 +11,7 @@ use Rattle.mpw_permissions.specs.Internal.Holders.{are_to_roles, grants_after}
 use Rattle.mpw_permissions.specs.declared.permission.Grant.{Grant}
 use Rattle.mpw_roles.proofs.BoolLemmas.{refuted, and_both as both, and_parts as parts}
 
--- a grant more
+-- one more grant
 named-more : (roles : List Name) (granted : List Grant) (g : Grant)
     → are_to_roles roles granted ≡ true → contains_name roles g.role ≡ true
     → are_to_roles roles (granted ++ g ∷ []) ≡ true
@@ -31,7 +31,7 @@ named-fewer roles k (x ∷ xs) all =
       | false ↦ named-fewer roles k xs p.1
     ]
 
--- a grant more or less
+-- one grant more or less
 pub named-after : (more : Bool) (roles : List Name) (granted : List Grant) (g : Grant)
     → are_to_roles roles granted ≡ true → (more ≡ true → contains_name roles g.role ≡ true)
     → are_to_roles roles (grants_after more granted g) ≡ true
@@ -39,7 +39,7 @@ named-after true roles granted g all one = named-more roles granted g all (one r
 named-after false roles granted g all _ =
     named-fewer roles (λ other. not (grant_eq g other)) granted all
 
--- a role more
+-- one more role
 pub named-role : (roles : List Name) (r : Name) (granted : List Grant)
     → are_to_roles roles granted ≡ true → are_to_roles (roles ++ r ∷ []) granted ≡ true
 named-role roles r [] all = refl
@@ -50,7 +50,7 @@ named-role roles r (x ∷ xs) all =
     ∙ ap (λ b. b || contains_name (r ∷ []) x.role) p.0)
     (named-role roles r xs p.1)
 
--- a role less, and the grants to it
+-- one role fewer, and the grants to it
 pub named-left : (roles : List Name) (r : Name) (granted : List Grant)
     → are_to_roles roles granted ≡ true
     → are_to_roles (without_name roles r) (ungranted granted r) ≡ true
@@ -67,7 +67,7 @@ named-left roles r (x ∷ xs) all =
           (named-left roles r xs p.1)
     ] refl
 
--- nothing is granted to a name that is no role
+-- a name that is no role has no grant
 pub named-none : (roles : List Name) (r : Name) (granted : List Grant)
     → contains_name roles r ≡ false → are_to_roles roles granted ≡ true
     → list_any (λ (g : Grant). name_eq r g.role) granted ≡ false
@@ -93,7 +93,7 @@ none-granted roles (x ∷ xs) g none all =
     true≢false (sym p.0 ∙ ap (contains_name roles) (sym (same_name g.role x.role s.1)) ∙ none)))
     ∙ none-granted roles xs g none p.1
 
--- the last of names that stand once is none of the others
+-- the last of distinct names is none of the others
 pub distinct-last : (names : List Name) (r : Name) → are_distinct (names ++ r ∷ []) ≡ true
     → contains_name names r ≡ false
 distinct-last [] r once = refl

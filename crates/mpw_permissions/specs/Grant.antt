@@ -8,7 +8,7 @@ use Rattle.mpw_permissions.specs.declared.permission.Object.{Object}
 use Rattle.mpw_permissions.specs.declared.permission.Object.TheVariants.{Cell, Desk}
 use Rattle.mpw_permissions.specs.declared.permission.Grant.{Grant}
 
--- the place of an operation among all
+-- the index of an operation among all
 abbrev pub operation_index : Operation → ℕ
 operation_index Submit = 0
 operation_index Use = 1
@@ -41,10 +41,10 @@ is_granted_to roles operation object grant =
     operation_eq operation grant.operation
     && (object_eq object grant.object && contains_name roles grant.role)
 
--- the grants but one
+-- the grants without one
 abbrev pub without_grant : List Grant → Grant → List Grant
 without_grant grants grant = filter (λ other. not (grant_eq grant other)) grants
 
--- the grants but those to a role
+-- the grants without those to a role
 abbrev pub ungranted : List Grant → Name → List Grant
 ungranted granted role = filter (λ (grant : Grant). not (name_eq role grant.role)) granted

@@ -8,6 +8,6 @@ pub record Permissions : Type 0 where
   pub roles : Hierarchy
   pub granted : List Grant
 
--- the same names in their order, and maybe one more behind them
+-- the same names in their order, and perhaps one more at the end
 abbrev pub AreMoreNames : List Name → List Name → Type 0
 AreMoreNames old new = (new ≡ old) ⊎ ((name : Name) × (new ≡ old ++ name ∷ []))

@@ -1,7 +1,7 @@
 //! Some grants in their order, in a block that copies share.
 //!
-//! A block never changes. Beside the grants stand the slots of their objects and of their roles, hashes of the names: they tell
-//! apart most blocks that don't have a grant without a look at their grants.
+//! A block never changes. It also has the slots of its grants' objects and roles, which are hashes of the names. Most blocks without a
+//! grant are excluded by its slots, without a comparison of grants.
 ghost use Rattle.std.specs.Prelude.{◌≡◌, ◌<◌, ◌∷◌, ◌++◌, [], not, IfOk};
 ghost use Rattle.std.specs.List.{list_any};
 ghost use Rattle.mpw_geom.specs.Names.{name_eq};
@@ -17,7 +17,7 @@ use std::alloc::{AllocError, Global};
 use std::marker::Model;
 use std::sync::Arc;
 
-/// The number of slots: as many as a [`Mask`] has places.
+/// The number of slots: as many as a [`Mask`] has indexes.
 const SLOTS: u64 = 512;
 
 /// The slots of a grant's object and of its role.
@@ -42,7 +42,7 @@ impl Slots {
     }
 }
 
-/// Some grants in their order, and the slots of their objects and of their roles: there may be more slots.
+/// Some grants in their order, and the slots of their objects and of their roles. There may be more slots than these.
 pub(crate) struct Block {
     grants: Arc<Vec<Grant>>,
     objects: Mask,
@@ -95,7 +95,7 @@ fn with_grant(alloc: Global, grants: &[Grant], grant: &Grant) -> Result<Vec<Gran
     Ok(next)
 }
 
-/// Whether that is one of the grants.
+/// Whether the grant is one of them.
 fn has(grants: &[Grant], grant: &Grant) -> bool
     ensures { result ≡ list_any (grant_eq grant.now) grants.now }
 {
@@ -107,7 +107,7 @@ fn has(grants: &[Grant], grant: &Grant) -> bool
     false
 }
 
-/// The grant goes.
+/// Removes a grant.
 fn take_back(grants: &mut Vec<Grant>, grant: &Grant)
     ensures { grants.new.items ≡ without_grant grants.old.items grant.now }
 {
@@ -118,7 +118,7 @@ fn take_back(grants: &mut Vec<Grant>, grant: &Grant)
     );
 }
 
-/// The grants to a role go.
+/// Removes the grants to a role.
 fn ungrant(grants: &mut Vec<Grant>, role: &Name)
     ensures { grants.new.items ≡ ungranted grants.old.items role.now }
 {
@@ -168,7 +168,7 @@ impl Block {
         self.grants.as_slice()
     }
 
-    /// Whether that is one of its grants, by its slots, and where both are there by a comparison for each grant.
+    /// Whether the grant is one of its grants. Its slots are tested first. If both are there, each grant is compared.
     pub(crate) fn contains(&self, slots: Slots, grant: &Grant) -> bool
         requires { AreSlots slots grant.now }
         ensures { result ≡ list_any (grant_eq grant.now) self.now }
@@ -195,7 +195,7 @@ impl Block {
         Block::of(alloc, grants, objects, roles)
     }
 
-    /// The block without a grant, by its slots: the same one where it isn't there.
+    /// The block without a grant, by its slots. If it doesn't have the grant, it is the same block.
     pub(crate) fn without(
         &self,
         alloc: Global,
@@ -228,7 +228,7 @@ impl Block {
 impl Clone for Block {
     ghost is_clone = { λ block copy. copy ≡ block };
 
-    /// The same block: one count.
+    /// The same block. Cost: one count.
     fn clone(&self) -> Result<Block, AllocError> {
         Ok(Block {
             grants: self.grants.clone()?,

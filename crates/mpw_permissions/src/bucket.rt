@@ -1,7 +1,8 @@
-//! Where the masks of an object stand: objects by a hash of their names.
+//! Buckets of objects with their masks: objects by a hash of their names.
 //!
-//! A bucket that copies share never changes: a change of one object's mask makes it anew, and every other one stays shared.
-//! One that no copy shares yet, as while masks are made for all grants, is changed in place. The hash is no secret, so names can be chosen that share a bucket; a look-up among n such names costs n comparisons.
+//! A bucket that copies share never changes. A change of one object's mask makes a new bucket, and all others stay shared. A bucket that no
+//! copy shares yet is changed in place, for example while the masks of all grants are made. The hash is no secret, so names can be chosen
+//! that share a bucket. A look-up among n such names costs n comparisons.
 ghost use Rattle.std.specs.Prelude.{◌≡◌, ℕ, not, filter, List, length, IfOk, OnOk, true, false, [], ◌∷◌, ◌++◌, if◌then◌else◌};
 ghost use Rattle.mpw_roles.specs.Mask.{has};
 ghost use Rattle.mpw_permissions.specs.Grant.{object_eq};
@@ -61,7 +62,7 @@ impl Drop for Held {
 impl Clone for Held {
     ghost is_clone = { λ held copy. copy ≡ held };
 
-    /// The same object with the same mask: a count.
+    /// The same object with the same mask. Cost: a count.
     fn clone(&self) -> Result<Held, AllocError> {
         let object = copy_of(&self.object)?;
         Ok(Held {
@@ -116,7 +117,7 @@ fn add(masks: &mut Vec<Held>, object: &Object, mask: &Mask) -> Result<(), AllocE
     Ok(())
 }
 
-/// Adds the mask of an object to those of all others, where it isn't empty.
+/// Adds the mask of an object to those of all others, unless it is empty.
 fn keep(masks: &mut Vec<Held>, object: &Object, mask: &Mask) -> Result<(), AllocError>
     ensures { OnOk result ((all : List HeldState) →
         masks.old.items ≡ filter (λ (held : HeldState). not (object_eq object.now held.object)) all →
@@ -129,7 +130,7 @@ fn keep(masks: &mut Vec<Held>, object: &Object, mask: &Mask) -> Result<(), Alloc
     add(masks, object, mask)
 }
 
-/// The mask of an object goes.
+/// Removes the mask of an object.
 fn take_out(masks: &mut Vec<Held>, object: &Object)
     ensures { masks.new.items ≡ filter (λ (held : HeldState). not (object_eq object.now held.object)) masks.old.items }
 {
@@ -140,7 +141,7 @@ fn take_out(masks: &mut Vec<Held>, object: &Object)
     );
 }
 
-/// Writes another mask of an object among some, which isn't kept where it is empty.
+/// Sets the mask of an object among some. An empty mask isn't stored.
 fn write(masks: &mut Vec<Held>, object: &Object, mask: &Mask) -> Result<(), AllocError>
     ensures { OnOk result ((other : ObjectState) (place : ℕ) → holds_in masks.new.items other place ≡ (if object_eq object.now other then has mask.now place else holds_in masks.old.items other place)) }
 {
@@ -158,15 +159,14 @@ impl Bucket {
         })
     }
 
-    /// The mask of an object: a comparison for each object of the bucket.
+    /// The mask of an object. Cost: a comparison for each object of the bucket.
     pub(crate) fn of(&self, object: &Object) -> Mask
         ensures { (place : ℕ) → has result place ≡ holds_in self.now object.now place }
     {
         mask_of(&self.masks, object)
     }
 
-    /// Writes another mask of an object, which isn't kept where it is empty: in place where no copy shares the bucket, and else
-    /// in a copy of it.
+    /// Sets the mask of an object. An empty mask isn't stored. The bucket is changed in place if no copy shares it, else in a copy of it.
     pub(crate) fn put(
         &mut self,
         alloc: Global,
@@ -188,7 +188,7 @@ impl Bucket {
 impl Clone for Bucket {
     ghost is_clone = { λ bucket copy. copy ≡ bucket };
 
-    /// The same bucket: one count.
+    /// The same bucket. Cost: one count.
     fn clone(&self) -> Result<Bucket, AllocError> {
         Ok(Bucket {
             masks: self.masks.clone()?,

@@ -1,8 +1,8 @@
 //! The grants in their order, in blocks that copies share.
 //!
-//! A block never changes. The last one stands beside the others, which copies share as a whole: a grant more copies the last
-//! block, and where that is full begins another, which costs a count for each. A grant less copies the block that it stands
-//! in, which its slots tell apart from nearly all others, and costs a count for each other one, unless it stands in the last.
+//! A block never changes. The last block is separate from the others, which copies share as a whole. Adding a grant copies the last block.
+//! If that is full, it begins another, and costs a count for each block. Removing a grant copies the block that has it, which its slots
+//! distinguish from nearly all others. It costs a count for each other block, unless the grant is in the last.
 ghost use Rattle.std.specs.Prelude.{◌≡◌, ◌∷◌, ◌++◌, [], length, nat_lt, IfOk, OnOk};
 ghost use Rattle.std.specs.List.{list_any, flat_map};
 ghost use Rattle.mpw_permissions.specs.Grant.{grant_eq, without_grant, ungranted};
@@ -17,10 +17,10 @@ use std::alloc::{AllocError, Global};
 use std::marker::Model;
 use std::sync::Arc;
 
-/// How many grants a block has at most.
+/// The greatest number of grants of a block.
 const BLOCK: usize = 32;
 
-/// Adds a block that isn't empty.
+/// Adds a block unless it is empty.
 #[tactic(auto, using(crate::proofs::BlockLemmas::flat_last))]
 fn keep(blocks: &mut Vec<Block>, block: Block) -> Result<(), AllocError>
     ensures { OnOk result (flat_map (λ block. block) blocks.new.items ≡ flat_map (λ block. block) blocks.old.items ++ block) }
@@ -31,7 +31,7 @@ fn keep(blocks: &mut Vec<Block>, block: Block) -> Result<(), AllocError>
     Ok(())
 }
 
-/// Grants in the order in which they were added, which copies share: blocks, and the last one behind them.
+/// Grants in the order in which they were added, which copies share: blocks, and the last one after them.
 pub(crate) struct Grants {
     blocks: Arc<Vec<Block>>,
     last: Block,
@@ -55,7 +55,7 @@ impl Model for Grants {
     ghost view = { λ grants. flat_map (λ block. block) grants.blocks.value.items ++ grants.last };
 }
 
-/// Whether there are fewer grants than so many in blocks and the last one.
+/// Whether there are fewer than `limit` grants in blocks and the last one.
 fn is_shorter(blocks: &[Block], last: &[Grant], limit: usize) -> bool
     ensures { result ≡ nat_lt (length (flat_map (λ block. block) blocks.now ++ last.now)) limit }
 {
@@ -70,7 +70,7 @@ fn is_shorter(blocks: &[Block], last: &[Grant], limit: usize) -> bool
     room > last.len()
 }
 
-/// Whether that is a grant of one of the blocks.
+/// Whether one of the blocks has the grant.
 fn is_among(blocks: &[Block], slots: Slots, grant: &Grant) -> bool
     requires { AreSlots slots grant.now }
     ensures { result ≡ list_any (grant_eq grant.now) (flat_map (λ block. block) blocks.now) }
@@ -83,7 +83,7 @@ fn is_among(blocks: &[Block], slots: Slots, grant: &Grant) -> bool
     false
 }
 
-/// The same blocks, each by a count, and another behind them.
+/// The same blocks, with a count for each, and another after them.
 fn with_block(alloc: Global, blocks: &[Block], last: &Block) -> Result<Arc<Vec<Block>>, AllocError>
     ensures { IfOk result (λ next. next.value.items ≡ blocks.now ++ last.now ∷ []) }
 {
@@ -124,7 +124,7 @@ fn blocks_without_grants_to(
     Ok(left)
 }
 
-/// The blocks without a grant, which stay shared where it isn't there.
+/// The blocks without a grant. If they don't have it, they stay shared.
 fn shared_without(
     alloc: Global,
     blocks: &Arc<Vec<Block>>,
@@ -158,14 +158,14 @@ impl Grants {
         Ok(Grants::of(blocks, last))
     }
 
-    /// Its blocks but the last, and the grants of that.
+    /// Its blocks without the last, and the grants of the last.
     pub(crate) fn parts(&self) -> (&[Block], &[Grant])
         ensures { flat_map (λ block. block) result.0.now ++ result.1.now ≡ self.now }
     {
         (self.blocks.as_slice(), self.last.as_slice())
     }
 
-    /// The same grants: two counts.
+    /// The same grants. Cost: two counts.
     pub(crate) fn copy(&self) -> Result<Grants, AllocError>
         ensures { IfOk result (λ grants. grants ≡ self.now) }
     {
@@ -174,14 +174,14 @@ impl Grants {
         Ok(Grants { blocks, last })
     }
 
-    /// Whether there are fewer than so many: a look at each block.
+    /// Whether there are fewer than `limit` grants. Cost: one step for each block.
     pub(crate) fn is_shorter(&self, limit: usize) -> bool
         ensures { result ≡ nat_lt (length self.now) limit }
     {
         is_shorter(&self.blocks, self.last.as_slice(), limit)
     }
 
-    /// The grants with one more: a copy of the last block, and where that is full a count for each other one.
+    /// The grants with one more. Cost: a copy of the last block, and, if that is full, a count for each other one.
     #[tactic(auto, using(crate::proofs::BlockLemmas::flat_last))]
     fn with(&self, alloc: Global, grant: &Grant) -> Result<Grants, AllocError>
         ensures { IfOk result (λ grants. grants ≡ self.now ++ grant.now ∷ []) }
@@ -196,8 +196,7 @@ impl Grants {
         Ok(Grants::of(blocks, last))
     }
 
-    /// The grants without one: a copy of the last block where it stands there, and else of its block, and a count for each
-    /// other one.
+    /// The grants without one. Cost: a copy of the last block if that has it; else a copy of its block, and a count for each other one.
     #[tactic(auto, using(crate::proofs::BlockLemmas::filter_append))]
     fn without(&self, alloc: Global, grant: &Grant) -> Result<Grants, AllocError>
         ensures { IfOk result (λ grants. grants ≡ without_grant self.now grant.now) }
@@ -224,7 +223,7 @@ impl Grants {
         }
     }
 
-    /// The grants without those to a role: a copy of each block.
+    /// The grants without those to a role. Cost: a copy of each block.
     #[tactic(auto, using(crate::proofs::BlockLemmas::filter_append))]
     pub(crate) fn without_grants_to(&self, alloc: Global, role: &Name) -> Result<Grants, AllocError>
         ensures { IfOk result (λ grants. grants ≡ ungranted self.now role.now) }

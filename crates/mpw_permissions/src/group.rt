@@ -1,6 +1,6 @@
 //! Groups of buckets, which copies share.
 //!
-//! A group that copies share never changes: a change of one bucket makes the group anew, and every other bucket stays shared.
+//! A group that copies share never changes. A change of one bucket makes a new group, and every other bucket stays shared.
 ghost use Rattle.std.specs.Prelude.{◌≡◌, ℕ, ◌<◌, [], false, IfOk, OnOk, length, slice_index_or, if◌then◌else◌};
 ghost use Rattle.mpw_roles.specs.Mask.{has};
 ghost use Rattle.mpw_permissions.specs.Grant.{object_eq};
@@ -25,12 +25,12 @@ const BUCKETS: usize = 16;
 pub(crate) struct Place {
     /// The group.
     pub(crate) group: usize,
-    /// The bucket's place in it.
+    /// The bucket's index in it.
     pub(crate) bucket: usize,
 }
 
 impl Place {
-    /// The place of an object's bucket: a hash of its name.
+    /// The place of an object's bucket. Cost: a hash of its name.
     #[tactic(auto, unfolding(crate::specs::Internal::Holders::group_of, crate::specs::Internal::Holders::bucket_of))]
     pub(crate) fn of(object: &Object) -> Place
         ensures group { result.group ≡ group_of object.now }
@@ -69,7 +69,7 @@ impl Model for Group {
     ghost invariant = { λ group. length group.buckets.value.items ≡ 16 };
 }
 
-/// Writes another mask of an object into its bucket.
+/// Sets the mask of an object in its bucket.
 fn write(
     alloc: Global,
     buckets: &mut Vec<Bucket>,
@@ -86,7 +86,7 @@ fn write(
 }
 
 impl Group {
-    /// A group without objects: one empty bucket, and a count for each other one.
+    /// A group without objects. Cost: one empty bucket, and a count for each other one.
     pub(crate) fn new(alloc: Global) -> Result<Group, AllocError>
         ensures { IfOk result (λ group. (object : ObjectState) (place : ℕ) → holds_within group object place ≡ false) }
     {
@@ -96,7 +96,7 @@ impl Group {
         })
     }
 
-    /// The mask of an object, whose bucket has that place: a comparison for each object of the bucket.
+    /// The mask of an object, whose bucket is at that place. Cost: a comparison for each object of the bucket.
     pub(crate) fn of(&self, place: Place, object: &Object) -> Mask
         requires here { place.bucket ≡ bucket_of object.now }
         requires inside { place.bucket < 16 }
@@ -106,8 +106,7 @@ impl Group {
         buckets[place.bucket].of(object)
     }
 
-    /// Writes another mask of an object, whose bucket has that place: in place where no copy shares the group, and else in a
-    /// copy of it.
+    /// Sets the mask of an object, whose bucket is at that place. The group is changed in place if no copy shares it, else in a copy of it.
     pub(crate) fn put(
         &mut self,
         alloc: Global,
@@ -132,7 +131,7 @@ impl Group {
 impl Clone for Group {
     ghost is_clone = { λ group copy. copy ≡ group };
 
-    /// The same group: one count.
+    /// The same group. Cost: one count.
     fn clone(&self) -> Result<Group, AllocError> {
         Ok(Group {
             buckets: self.buckets.clone()?,

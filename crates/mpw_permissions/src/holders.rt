@@ -1,8 +1,8 @@
-//! Who was granted one operation, by object: the places of the roles as masks, in buckets.
+//! The roles with a grant of one operation, by object: the indexes of the roles as masks, in buckets.
 //!
-//! The masks of each operation stand behind a shared pointer of their own, and so does each bucket of theirs, and each group of
-//! buckets. So one grant more or less makes one bucket anew, and counts the others of its group, and the other groups of its
-//! operation: 32 groups of 16 buckets, of some eight objects each where there are as many grants as there may be.
+//! The masks of each operation have their own shared pointer, and so have each group of buckets and each bucket. So adding or removing a
+//! grant makes one new bucket, and counts the others of its group and the other groups of its operation. There are 32 groups of 16 buckets,
+//! with about eight objects in each at the greatest number of grants.
 ghost use Rattle.std.specs.Prelude.{◌≡◌, ℕ, ◌<◌, ◌==◌, ◌||◌, ◌&&◌, not, [], ◌∷◌, ◌++◌, List, true, false, IfOk, OnOk, length, slice_index_or, if◌then◌else◌};
 ghost use Rattle.std.specs.List.{flat_map};
 ghost use Rattle.mpw_roles.specs.Hierarchy.{role_names};
@@ -25,7 +25,7 @@ use std::sync::Arc;
 /// The number of operations.
 const OPERATIONS: usize = 11;
 
-/// The places of the roles that were granted one operation on each object: each object in its bucket.
+/// The indexes of the roles with a grant of one operation on each object: each object in its bucket.
 pub(crate) struct Holders {
     groups: Vec<Group>,
 }
@@ -48,7 +48,7 @@ impl Model for Holders {
     ghost invariant = { λ holders. length holders.groups.items ≡ 32 };
 }
 
-/// The place of an operation among all.
+/// The index of an operation among all.
 pub(crate) fn index(operation: Operation) -> usize
     ensures index { result ≡ operation_index operation }
     ensures within { result < 11 }
@@ -68,7 +68,7 @@ pub(crate) fn index(operation: Operation) -> usize
     }
 }
 
-/// A mask with a place more, or less.
+/// A mask with one index more, or less.
 fn with_place(mask: &Mask, place: usize, more: bool) -> Mask
     requires { place < 512 }
     ensures more { more ≡ true → (other : ℕ) → has result other ≡ (has mask.now other || other == place) }
@@ -84,7 +84,7 @@ fn with_place(mask: &Mask, place: usize, more: bool) -> Mask
 }
 
 impl Holders {
-    /// No holders: one empty group, and a count for each other one.
+    /// No holders. Cost: one empty group, and a count for each other one.
     fn new(alloc: Global) -> Result<Holders, AllocError>
         ensures { IfOk result (λ holders. (object : ObjectState) (place : ℕ) → holds holders object place ≡ false) }
     {
@@ -92,7 +92,7 @@ impl Holders {
         Ok(Holders { groups })
     }
 
-    /// The same masks: a count for each group.
+    /// The same masks. Cost: a count for each group.
     fn copy(&self) -> Result<Holders, AllocError>
         ensures { IfOk result (λ copy. copy ≡ self.now) }
     {
@@ -101,7 +101,7 @@ impl Holders {
         })
     }
 
-    /// The places of the roles that were granted the operation on the object: a hash, and a look at its bucket.
+    /// The indexes of the roles with a grant of the operation on the object. Cost: a hash, and a search of its bucket.
     fn of(&self, object: &Object) -> Mask
         ensures { (place : ℕ) → has result place ≡ holds self.now object.now place }
     {
@@ -110,7 +110,7 @@ impl Holders {
         self.groups[place.group].of(place, object)
     }
 
-    /// Another mask for an object: its bucket is written in place, where no copy shares it.
+    /// Sets the mask of an object. Its bucket is changed in place if no copy shares it.
     fn put(&mut self, object: &Object, mask: &Mask) -> Result<(), AllocError>
         ensures { OnOk result ((other : ObjectState) (place : ℕ) → holds self.new other place ≡ (if object_eq object.now other then has mask.now place else holds self.old other place)) }
     {
@@ -119,7 +119,7 @@ impl Holders {
         self.groups[place.group].put(alloc, place, object, mask)
     }
 
-    /// One grant more or less, which counts where it is of the operation with that place among all.
+    /// Adds or removes a grant. It has an effect only if it is of the operation at that index among all.
     fn change(
         &mut self,
         roles: &Roles,
@@ -144,15 +144,15 @@ impl Holders {
 /// The holders of one operation, which copies of the policy share.
 pub(crate) type SharedHolders = Shared<Holders>;
 
-/// The places of the roles that were granted the operation on the object.
+/// The indexes of the roles with a grant of the operation on the object.
 pub(crate) fn places_of(shared: &SharedHolders, object: &Object) -> Mask
     ensures { (place : ℕ) → has result place ≡ holds shared.now object.now place }
 {
     shared.get().of(object)
 }
 
-/// The holders of the operation with that place among all, after one grant more or less: buckets of their own where
-/// the grant is of the operation, and the same holders otherwise.
+/// The holders of the operation at that index among all, after a grant was added or removed. If the grant is of the operation, they have
+/// new buckets; else they are the same.
 fn after(
     shared: &SharedHolders,
     roles: &Roles,
@@ -170,7 +170,7 @@ fn after(
     Shared::new(roles.allocator(), holders)
 }
 
-/// The holders of each operation after one grant more or less. Those of other operations stay shared.
+/// The holders of each operation after a grant was added or removed. Those of other operations stay shared.
 pub(crate) fn holders_after(
     roles: &Roles,
     all: &[SharedHolders],
@@ -188,7 +188,7 @@ pub(crate) fn holders_after(
     Ok(Arc::new(alloc, next)?)
 }
 
-/// Adds the grants of a block to the holders of the operation with that place among all.
+/// Adds the grants of a block to the holders of the operation at that index among all.
 fn add_all(
     holders: &mut Holders,
     roles: &Roles,
@@ -203,7 +203,7 @@ fn add_all(
     Ok(())
 }
 
-/// Adds the grants of blocks to the holders of the operation with that place among all.
+/// Adds the grants of blocks to the holders of the operation at that index among all.
 fn add_blocks(
     holders: &mut Holders,
     roles: &Roles,
@@ -218,7 +218,7 @@ fn add_blocks(
     Ok(())
 }
 
-/// The holders of the operation with that place among all. One pass over the grants.
+/// The holders of the operation at that index among all. One pass over the grants.
 fn holders_of(
     alloc: Global,
     roles: &Roles,

@@ -1,7 +1,7 @@
-//! Permissions (ANSI INCITS 359-2004, core RBAC): operations, the objects that they are on, and which roles were granted them.
+//! Permissions (ANSI INCITS 359-2004, core RBAC): operations, the objects that they are on, and which roles have grants of them.
 //!
-//! [`Permissions`] has the roles and the grants to them in their order. Copies share both, and beside the grants stand masks of
-//! their roles, so that whether one of some roles was granted something is a look-up and an `and` of eight words.
+//! [`Permissions`] has the roles and the grants to them in their order. Copies share both. The grants have masks of their roles. So the
+//! test whether one of some roles has a grant costs a look-up and an `and` of eight words.
 #![tactic(auto)]
 
 mod block;

@@ -1,20 +1,20 @@
 //! Operations, the objects that they are on, and grants of them.
 use mpw_geom::Name;
 
-/// What a session may do to an object (OPS).
+/// What a session may do on an object (OPS).
 #[derive(Clone, Copy, PartialEq, Eq)]
 pub enum Operation {
     /// Submit versions of the cell.
     Submit,
     /// Submit libraries that refer to the cell by a name outside them.
     Use,
-    /// See the cell in listings: its present submission, the shapes that come from it, and the markers that meet it.
+    /// See the cell in listings: its present submission, the shapes that come from it, and the markers that touch it.
     Read,
-    /// Place the cell on the wafer, and take its placements away.
+    /// Place the cell on the wafer, and remove its placements.
     Place,
     /// Change users, roles, grants and sets of separation of duty, on the desk.
     Admin,
-    /// Bring a deck, on the desk.
+    /// Upload a deck, on the desk.
     Deck,
     /// Begin a run and cancel it, on the desk.
     Run,
@@ -22,7 +22,7 @@ pub enum Operation {
     Waive,
     /// Sign a waiver that was asked for, on the desk.
     Sign,
-    /// Be told the verdict of a finished run, on the desk.
+    /// See the verdict of a finished run, on the desk.
     Verdict,
     /// List the trail, on the desk.
     Audit,
@@ -31,9 +31,9 @@ pub enum Operation {
 /// What an operation is on (OBS): a cell, which need not exist, or the desk.
 #[derive(Clone, PartialEq, Eq)]
 pub enum Object {
-    /// The cell of that name: what is submitted, used, read and placed.
+    /// The cell of that name, which is submitted, used, read or placed.
     Cell(Name),
-    /// The desk itself: what all other operations are on.
+    /// The desk itself, for all other operations.
     Desk,
 }
 
@@ -49,11 +49,11 @@ impl Drop for Object {
 /// The permission for an operation on an object, granted to a role (PA).
 #[derive(Clone, PartialEq, Eq)]
 pub struct Grant {
-    /// What may be done. It may stand with an object of the other kind, which no request needs.
+    /// The operation. It may come with an object of the other kind, which no request needs.
     pub operation: Operation,
-    /// The object that it may be done to: of submit, use, read and place a cell, of all others the desk.
+    /// The object: a cell for submit, use, read and place, and the desk for all others.
     pub object: Object,
-    /// A session in which a role at or above it is active is permitted it.
+    /// The role. A session has the permission if a role at or above this one is active in it.
     pub role: Name,
 }
 

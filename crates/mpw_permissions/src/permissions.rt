@@ -1,9 +1,9 @@
 //! Roles and the grants to them, which copies of the policy share.
 //!
-//! Beside the grants stand the masks of their roles, by operation and object. So whether one of some roles was granted
-//! something is a look-up and an `and` of eight words. A grant more or less copies a block of the grants and a bucket of
-//! the masks of its operation. A change of pairs leaves both as they are, since masks hold places of roles, and so does a
-//! role more, since each grant is to a role. A role less makes the masks anew, in a pass over the grants for each operation.
+//! The grants have masks of their roles, by operation and object. So the test whether one of some roles has a grant costs a look-up and an
+//! `and` of eight words. Adding or removing a grant copies a block of the grants, and a bucket of its operation's masks. A change of pairs
+//! leaves both unchanged, since masks have indexes of roles. So does a new role, since each grant is to an existing role. Removing a role
+//! makes the masks again, with a pass over the grants for each operation.
 ghost use Rattle.std.specs.Prelude.{◌≡◌, ◌∷◌, ◌++◌, [], ℕ, List, true, false, length, map, nat_lt, IfOk, IfErr, Ok, Err};
 ghost use Rattle.std.specs.List.{list_any};
 ghost use Rattle.mpw_geom.specs.Names.{without_name};
@@ -24,7 +24,7 @@ use std::alloc::{AllocError, Global};
 use std::marker::Model;
 use std::sync::Arc;
 
-/// Roles, and grants in the order in which they were added. A copy is three counts.
+/// Roles, and grants in the order in which they were added. A copy costs three counts.
 pub struct Permissions {
     roles: Arc<Roles>,
     granted: Grants,
@@ -73,7 +73,7 @@ impl Permissions {
     /// These roles, and one grant to one of them.
     ///
     /// # Errors
-    /// Where there is no room.
+    /// Out of memory.
     pub fn new(alloc: Global, roles: Roles, grant: &Grant) -> Result<Permissions, AllocError>
         requires { is_role roles grant.now.role ≡ true }
         ensures { IfOk result (λ next. next ≡ record { roles = roles; granted = grant.now ∷ [] }) }
@@ -90,14 +90,14 @@ impl Permissions {
         &self.roles
     }
 
-    /// Whether there are fewer grants than so many.
+    /// Whether there are fewer than `limit` grants.
     pub fn has_room(&self, limit: usize) -> bool
         ensures { result ≡ nat_lt (length self.now.granted) limit }
     {
         self.granted.is_shorter(limit)
     }
 
-    /// Whether that was granted: a look-up and a bit.
+    /// Whether the grant exists. Cost: a look-up and a bit.
     pub fn has_grant(&self, grant: &Grant) -> bool
         ensures { result ≡ list_any (grant_eq grant.now) self.now.granted }
     {
@@ -108,8 +108,8 @@ impl Permissions {
         places_of(&self.holders[operation], &grant.object).contains(place)
     }
 
-    /// Whether the operation on the object was granted to one of the roles of a mask: a look-up, and an `and` of eight
-    /// words. It takes no memory.
+    /// Whether one of the roles of a mask has a grant of the operation on the object. Cost: a look-up, and an `and` of eight words. It
+    /// takes no memory.
     pub fn is_granted_to(&self, roles: &Mask, operation: Operation, object: &Object) -> bool
         ensures { (seniors : List (List ℕ)) → ((place : ℕ) → has roles.now place ≡ is_place_below self.now.roles seniors place) → result ≡ list_any (is_granted_to (roles_below self.now.roles seniors) operation object.now) self.now.granted }
     {
@@ -117,11 +117,11 @@ impl Permissions {
         places_of(&self.holders[place], object).meets(roles)
     }
 
-    /// The grants with other roles: the same ones in their order, and maybe one more that goes last. The masks stay, since they
-    /// hold places, and nothing was granted to a new name.
+    /// The grants with other roles: the same ones in their order, and perhaps one more at the end. The masks stay, since they have indexes,
+    /// and a new name has no grant.
     ///
     /// # Errors
-    /// Where there is no room.
+    /// Out of memory.
     pub fn with_roles(&self, roles: Roles) -> Result<Permissions, AllocError>
         requires { AreMoreNames (role_names self.now.roles) (role_names roles) }
         ensures { IfOk result (λ next. next ≡ record self.now { roles = roles }) }
@@ -137,8 +137,7 @@ impl Permissions {
         })
     }
 
-    /// With one more grant to a role, or without a grant: a copy of a block of the grants, and of a bucket of the masks of its
-    /// operation.
+    /// With one more grant to a role, or without a grant. Cost: a copy of a block of the grants, and of a bucket of the operation's masks.
     fn after(&self, grant: &Grant, more: bool) -> Result<Permissions, AllocError>
         requires { more ≡ true → is_role self.now.roles grant.now.role ≡ true }
         ensures { IfOk result (λ next. next ≡ record self.now { granted = grants_after more self.now.granted grant.now }) }
@@ -153,10 +152,10 @@ impl Permissions {
         })
     }
 
-    /// With one more grant to a role: a copy of a block of the grants, and of a bucket of the masks of its operation.
+    /// With one more grant to a role. Cost: a copy of a block of the grants, and of a bucket of the operation's masks.
     ///
     /// # Errors
-    /// Where there is no room.
+    /// Out of memory.
     pub fn with(&self, grant: &Grant) -> Result<Permissions, AllocError>
         requires { is_role self.now.roles grant.now.role ≡ true }
         ensures { IfOk result (λ next. next ≡ record self.now { granted = self.now.granted ++ grant.now ∷ [] }) }
@@ -164,20 +163,20 @@ impl Permissions {
         self.after(grant, true)
     }
 
-    /// Without a grant, where it is one: what one more costs, and a look for it in the blocks.
+    /// Without a grant, if it exists. Cost: that of adding one, and a search for it in the blocks.
     ///
     /// # Errors
-    /// Where there is no room.
+    /// Out of memory.
     pub fn without(&self, grant: &Grant) -> Result<Permissions, AllocError>
         ensures { IfOk result (λ next. next ≡ record self.now { granted = without_grant self.now.granted grant.now }) }
     {
         self.after(grant, false)
     }
 
-    /// With other roles, and without the grants to a role. The masks are made anew: a pass over the grants for each operation.
+    /// With other roles, and without the grants to a role. It makes the masks again. Cost: a pass over the grants for each operation.
     ///
     /// # Errors
-    /// Where there is no room.
+    /// Out of memory.
     pub fn without_role(&self, roles: Roles, role: &Name) -> Result<Permissions, AllocError>
         requires { role_names roles ≡ without_name (role_names self.now.roles) role.now }
         ensures { IfOk result (λ next. next ≡ record { roles = roles; granted = ungranted self.now.granted role.now }) }
@@ -189,10 +188,10 @@ impl Permissions {
         Ok(left)
     }
 
-    /// The same roles and grants: three counts.
+    /// The same roles and grants. Cost: three counts.
     ///
     /// # Errors
-    /// Where there is no room.
+    /// Out of memory.
     pub fn copy(&self) -> Result<Permissions, AllocError>
         ensures { IfOk result (λ copy. copy ≡ self.now) }
     {

@@ -57,7 +57,7 @@ adds_same w a b P R agree f = record {
   inside = f.inside;
 }
 
--- ---- what a rectangle has in the window
+-- ---- the part of a rectangle in the window
 
 pub in_plane : (w : Box2) (s : Square) → IsBoxInPlane w → has_square w s ≡ true → IsSquareInPlane s
 in_plane w s plane u =
@@ -88,7 +88,7 @@ intersection_out w b s h = record {
 some_area : (b : Box2) (s : Square) → SquareIn b s → HasArea b
 some_area b s h = record { width = omega (arith, ints); height = omega (arith, ints) }
 
--- one that has no area there adds nothing
+-- a rectangle without area there adds nothing
 pub adds_missed : (w : Box2) (r : Rectangle) (area : Box2) (old : List Rectangle)
     → area ≡ intersection w r.area → (HasArea area → ⊥) → AddsIn w old old (HasSquareOf r)
 adds_missed w r area old e none =
@@ -164,7 +164,7 @@ meets b w s h k =
     let rows : int_max b.y0 w.y0 ≤ℤ int_min b.y1 w.y1 = omega (arith, ints, clamps) in
     and_from _ _ (test_from_le _ _ columns) (test_from_le _ _ rows)
 
--- a shape that has a square of the window is one that the walk gives
+-- a shape that has a square of the window is one that the walk finds
 shown_is_met : (w : Box2) (item : Item) (layer : Layer) (origin : ℕ) (s : Square)
     → SquaresLieInBoxes → has_square w s ≡ true → ShowsSquare item layer origin s
     → is_met w (item_box item) ≡ true

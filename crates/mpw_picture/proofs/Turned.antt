@@ -1,4 +1,4 @@
--- Corners in a drawing, as code computes them.
+-- Corners in a drawing, as the code computes them.
 use Rattle.std.proofs.Common.{◌≡◌, w64, SFits, to_z, of_z, ℤ, refl, ap, arith, rules}
 use Rattle.std.specs.Prelude.{◌-ℤ◌}
 use Rattle.std.specs.Int.{w128}

@@ -1,4 +1,4 @@
--- No two layers of a picture look alike.
+-- No two layers of a picture have the same style.
 use Rattle.std.proofs.Common.{◌≡◌, ◌∙◌, ◌<◌, ◌≤◌, ◌+◌, ◌-◌, ◌*◌, ◌/◌, ◌%◌, ◌==◌, ◌&&◌, ◌||◌, ℕ, zero, suc, Bool, true, false, not, cond, List, [], ◌∷◌, length, refl, sym, ap, arith, ltb, ltb-true, ltb-false, Option, Some, None}
 use Rattle.std.proofs.lemmas.Bool.{false≢true}
 use Rattle.std.specs.Prelude.{unwrap_or}
@@ -6,7 +6,7 @@ use Rattle.std.specs.List.{list_any, prefix_len, position_or_len}
 use Rattle.mpw_geom.specs.declared.plane.Layer.{Layer}
 use Rattle.mpw_picture.specs.Looks.{Look, plain, striped, angle_of, colour_of, hatch_of, is_layer, look_of, period_of, place_of, LayersLookUnlike, PlacesLookUnlike}
 
--- ---- places
+-- ---- indices
 
 abbrev pub colour_in : Look → ℕ
 colour_in (plain colour) = colour

@@ -6,24 +6,24 @@ use Rattle.mpw_geom.specs.declared.plane.Box2.{Box2}
 use Rattle.mpw_picture.specs.declared.picture.Mark.{Mark}
 use Rattle.mpw_picture.specs.Windows.{longer_side}
 
--- the markers of the rule with that place in the deck, in order
+-- the markers of the rule at that index in the deck, in order
 abbrev pub of_rule : List Mark → ℕ → List Mark
 of_rule marks place = filter (λ m. m.rule == place) marks
 
--- how many are drawn one by one, of so many rules: of each rule no more than the limit
+-- how many are drawn one by one: of each of the first `rules` rules at most the limit
 abbrev pub drawn_count : (limit rules : ℕ) → List Mark → ℕ
 drawn_count limit rules marks =
     sum (map (λ place. min (length (of_rule marks place)) limit) (range_with_len 0 rules))
 
--- more than so many are drawn as a density
+-- if there are more markers than this, they are drawn as a density
 unfoldable pub most_drawn : ℕ
 most_drawn = 20000
 
--- the side of a square, in nm: some 20 pixels. 50 of them go over the window's longer side.
+-- the side of a square, in nm: about 20 pixels. The window's longer side has 50 of them.
 unfoldable pub cell_side : Box2 → ℕ
 cell_side w = longer_side w / 50 + 1
 
--- the square in which a marker lies: that of the lower left corner of what its box has in the window. Squares are counted from the window's
+-- the square in which a marker lies: that of the lower left corner of its box's part in the window. Squares are counted from the window's
 -- lower left corner, to the right and then upwards.
 unfoldable pub column_of : Box2 → Mark → ℕ
 column_of w m = min 49 (unsigned_abs (int_max m.area.x0 w.x0 -ℤ w.x0) / cell_side w)
@@ -46,7 +46,7 @@ cell_count = 2500
 abbrev pub density : Box2 → List Mark → List ℕ
 density w marks = map (count_in w marks) (range_with_len 0 cell_count)
 
--- the same where so many markers are drawn as a density; none where they are drawn one by one
+-- the same if the markers are drawn as a density; none if they are drawn one by one
 abbrev pub counts_of : Box2 → (limit rules : ℕ) → List Mark → List ℕ
 counts_of w limit rules marks =
     if nat_lt most_drawn (drawn_count limit rules marks) then density w marks else []

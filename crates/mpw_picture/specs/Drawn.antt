@@ -1,4 +1,4 @@
--- What a picture shows.
+-- The content of a picture.
 use Rattle.std.specs.Prelude.{◌≡◌, ◌≤ℤ◌, ◌↔◌, ℕ, ◌-◌, ◌^◌, true, List, length, map, All, None}
 use Rattle.std.specs.List.{filter}
 use Rattle.mpw_geom.specs.declared.plane.Box2.{Box2}
@@ -17,7 +17,7 @@ use Rattle.mpw_picture.specs.declared.picture.View.{View}
 use Rattle.mpw_picture.specs.Density.{counts_of}
 use Rattle.mpw_picture.specs.Looks.{layers_of}
 
--- The rectangle has area, and lies in the window.
+-- The rectangle has an area, and lies in the window.
 pub record LiesIn (window : Box2) (rectangle : Rectangle) : Type 0 where
   pub some : HasArea rectangle.area
   pub left : window.x0 ≤ℤ rectangle.area.x0
@@ -25,8 +25,8 @@ pub record LiesIn (window : Box2) (rectangle : Rectangle) : Type 0 where
   pub right : rectangle.area.x1 ≤ℤ window.x1
   pub top : rectangle.area.y1 ≤ℤ window.y1
 
--- The rectangles lie in the window, and of each layer and submission they have just the unit squares of the window that the
--- shapes have which the snapshot's roots show.
+-- The rectangles lie in the window. For each layer and submission they have exactly the unit squares that the shapes of the
+-- snapshot's roots have in the window.
 pub record ShowShapes (s : Snapshot) (window : Box2) (rectangles : List Rectangle) : Type 0 where
   pub squares : (square : Square) (layer : Layer) (origin : ℕ) → has_square window square ≡ true
       → IsListed rectangles layer origin square ↔ IsShown (shown s) layer origin square
@@ -39,8 +39,8 @@ mark_at m = record { area = box_of m; rule = m.rule }
 abbrev pub marks_in : Box2 → List Marker → List Mark
 marks_in window markers = filter (λ (m : Mark). do_meet m.area window) (map mark_at markers)
 
--- The picture of a snapshot and of markers: what lies in the view's window, the layers that are told apart, how many markers lie in each
--- square where they are drawn as a density, the marker that is wanted, and how many markers of a rule are drawn at most.
+-- The picture of a snapshot and of markers: what lies in the view's window, the layers that are distinguished, how many markers lie in each
+-- square if they are drawn as a density, the selected marker, and the most markers of a rule that are drawn.
 pub record IsDrawn (s : Snapshot) (markers : List Marker) (view : View) (p : Picture) : Type 0 where
   pub window_is : p.window ≡ view.window
   pub shapes : ShowShapes s view.window p.rectangles.items
@@ -51,7 +51,7 @@ pub record IsDrawn (s : Snapshot) (markers : List Marker) (view : View) (p : Pic
   pub wanted_is : p.wanted ≡ view.wanted
   pub limit_is : p.limit ≡ view.limit
 
--- the view of a window in which no marker is wanted, and all are drawn
+-- the view of a window in which no marker is selected, and all are drawn
 abbrev pub plain_view : Box2 → View
 plain_view window = record { window = window; wanted = None; limit = 2 ^ 64 - 1 }
 

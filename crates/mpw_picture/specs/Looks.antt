@@ -1,4 +1,4 @@
--- How layers and rules look: the layers of a picture, which of twelve colours each has and how it is hatched, and the colour of a
+-- The styles of layers and rules: the layers of a picture, which of twelve colours each has, how it is hatched, and the colour of a
 -- rule.
 use Rattle.std.specs.Prelude.{◌≡◌, true, nat_lt, ℕ, ◌+◌, ◌-◌, ◌*◌, ◌/◌, ◌%◌, ◌==◌, ◌&&◌, Bool, List, [], ◌∷◌, ◌++◌, length, fold, unwrap_or, if◌then◌else◌}
 use Rattle.std.specs.List.{list_any, position}
@@ -8,7 +8,7 @@ use Rattle.mpw_deck.specs.declared.rule.Rule.{Rule}
 use Rattle.mpw_geom.specs.declared.plane.Layer.{Layer}
 use Rattle.mpw_tiles.specs.declared.listing.Rectangle.{Rectangle}
 
--- ---- the layers of a picture: those that its rules name, and behind them those of its rectangles, each once
+-- ---- the layers of a picture: first those of its rules, and then those of its rectangles, each once
 
 abbrev pub is_layer : Layer → Layer → Bool
 is_layer a b = (a.layer == b.layer) && (a.datatype == b.datatype)
@@ -34,45 +34,45 @@ rule_layers rules = fold with_rule [] rules
 abbrev pub layers_of : List Rule → List Rectangle → List Layer
 layers_of rules rectangles = fold (λ layers r. with_layer layers r.layer) (rule_layers rules) rectangles
 
--- the place of a layer among them; that behind the last where it is none of them
+-- the index of a layer among them; their number if it isn't there
 abbrev pub place_of : List Layer → Layer → ℕ
 place_of layers l = unwrap_or (position (is_layer l) layers) (length layers)
 
--- ---- how the layer with that place looks
+-- ---- the style of the layer at an index
 
 -- the number of its colour
 unfoldable pub colour_of : ℕ → ℕ
 colour_of place = place % 12
 
--- how often all colours are used up before it: 0 is drawn plainly, each other one by stripes of its own
+-- how many times all colours are used before it: 0 is drawn plainly, each other number with its own stripes
 unfoldable pub hatch_of : ℕ → ℕ
 hatch_of place = place / 12
 
--- how far its stripes lie apart, in pixels, and how far they are turned, in degrees
+-- the distance between its stripes, in pixels, and their angle, in degrees
 unfoldable pub period_of : ℕ → ℕ
 period_of hatch = 6 + 4 * ((hatch - 1) / 4)
 
 unfoldable pub angle_of : ℕ → ℕ
 angle_of hatch = 45 * ((hatch - 1) % 4)
 
--- a layer's look: its colour alone, or stripes in it, so far apart and so far turned
+-- a layer's style: its colour alone, or stripes in it with a distance and an angle
 pub data Look : Type 0 where
   plain : (colour : ℕ) → Look
   striped : (colour period angle : ℕ) → Look
 
--- that of the layer with that place
+-- the style of the layer at that index
 abbrev pub look_of : ℕ → Look
 look_of place =
     if nat_lt place 12 then plain (colour_of place)
     else striped (colour_of place) (period_of (hatch_of place)) (angle_of (hatch_of place))
 
--- ---- no two layers of a picture look alike
+-- ---- no two layers of a picture have the same style
 
--- Layers at different places look different, however many there are.
+-- Layers at different indices have different styles, however many there are.
 abbrev pub PlacesLookUnlike : Type 0
 PlacesLookUnlike = (one other : ℕ) → look_of one ≡ look_of other → one ≡ other
 
--- Layers of a picture that look alike are one.
+-- Layers of a picture with the same style are equal.
 abbrev pub LayersLookUnlike : Type 0
 LayersLookUnlike =
     (layers : List Layer) (one other : Layer) → list_any (is_layer one) layers ≡ true
@@ -80,7 +80,7 @@ LayersLookUnlike =
     → look_of (place_of layers one) ≡ look_of (place_of layers other)
     → is_layer one other ≡ true
 
--- ---- the number of a rule's colour, by its place in the deck
+-- ---- the number of a rule's colour, by its index in the deck
 
 unfoldable pub rule_colour : ℕ → ℕ
 rule_colour place = place % 12

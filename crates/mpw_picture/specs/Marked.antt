@@ -1,4 +1,4 @@
--- The text of markers in a drawing: one by one or as a density, and the one that is wanted.
+-- The text of markers in a drawing: one by one or as a density, and the selected one.
 use Rattle.std.specs.Prelude.{ℕ, ◌+◌, ◌*◌, ◌/◌, ◌%◌, ◌==◌, min, List, [], ◌∷◌, ◌++◌, length, take, codes, Option, None, Some, if◌then◌else◌}
 use Rattle.std.specs.List.{concat, flat_map, enumerate_from}
 use Rattle.std.specs.Fmt.{decimal, signed_decimal}
@@ -16,7 +16,7 @@ use Rattle.mpw_picture.specs.Looks.{rule_colour}
 use Rattle.mpw_picture.specs.Sizes.{line_breadth, ring_margin, is_small, turned}
 use Rattle.mpw_picture.specs.Windows.{side, widened_in_plane}
 
--- a marker: its box, filled and with a line round it
+-- a marker: its box, filled and with a line around it
 unfoldable pub outline : Corners → List ℕ
 outline c =
     concat
@@ -36,7 +36,7 @@ outline c =
 unfoldable pub mark_text : Box2 → Mark → List ℕ
 mark_text w m = outline (turned w m.area)
 
--- the group of the rule with that place, with its name, which a viewer shows beside the pointer
+-- the group of the rule at that index, with its name, which a viewer shows next to the pointer
 unfoldable pub group_head : ℕ → List ℕ
 group_head place = concat (codes "<g class=\"m m" ∷ decimal (rule_colour place) ∷ codes "\"><title>" ∷ [])
 
@@ -47,7 +47,7 @@ group_text p row =
     ++ flat_map (mark_text p.window) (take p.limit (of_rule p.marks.items row.0))
     ++ codes "</g>\n"
 
--- a density: a square in which markers lie, the darker the more digits their number has, in nm from the window's lower left corner to the
+-- a density: a square in which markers lie, darker the more digits their number has, in nm from the window's lower left corner to the
 -- right and upwards
 abbrev pub shade : ℕ → ℕ
 shade count = 5 + 15 * min (length (decimal count)) 6
@@ -86,20 +86,20 @@ density_text p =
     density_head p.window ++ flat_map (cell_text p.window) (enumerate_from 0 p.counts.items)
     ++ codes "</g>\n"
 
--- the markers: one by one where no squares are counted
+-- the markers: one by one if no squares are counted
 unfoldable pub shown_text : List Rule → Picture → List ℕ
 shown_text rules p =
     if length p.counts.items == 0 then flat_map (group_text p) (enumerate_from 0 rules)
     else density_text p
 
--- the marker that is wanted
+-- the selected marker
 unfoldable pub wanted_head : ℕ → List ℕ
 wanted_head place = concat (codes "<g class=\"m m" ∷ decimal (rule_colour place) ∷ codes "\">\n" ∷ [])
 
 abbrev pub key_box : Key → Box2
 key_box k = box_on k.axis k.x1 k.x2 k.y0 k.y1
 
--- a ring round it
+-- a ring around it
 unfoldable pub ring_at : (margin : ℕ) → Corners → Box2 → List ℕ
 ring_at margin c area =
     concat
@@ -156,7 +156,7 @@ arrow_text w area =
     arrow_at (turned w (widened_in_plane (7 * ring_margin w) area)) (turned w (widened_in_plane (3 * ring_margin w) area))
     (turned w (widened_in_plane (ring_margin w) area))
 
--- both, the arrow where the marker is below five pixels
+-- both: the ring, and the arrow if the marker is smaller than five pixels
 unfoldable pub pointers_text : Box2 → Box2 → List ℕ
 pointers_text w area = ring_text w area ++ (if is_small w area then arrow_text w area else [])
 

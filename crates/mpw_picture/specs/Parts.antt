@@ -1,4 +1,4 @@
--- The parts of a picture's text that are the same in each, in the order in which they stand.
+-- The parts of the text that all pictures have in common, in their order.
 use Rattle.std.specs.Prelude.{ℕ, List, ◌++◌, codes}
 use Rattle.mpw_picture.specs.declared.part.Part.{Part}
 use Rattle.mpw_picture.specs.declared.part.Part.TheVariants.{Head, Title, LayerColours, RuleColours, Patterns, Ground, Dense, End}

@@ -1,4 +1,4 @@
--- The text of how layers look: their colours and patterns.
+-- The text of the styles of layers: their colours and patterns.
 use Rattle.std.specs.Prelude.{ℕ, ◌/◌, nat_lt, List, [], ◌∷◌, ◌++◌, codes, if◌then◌else◌}
 use Rattle.std.specs.List.{concat}
 use Rattle.std.specs.Fmt.{decimal}
@@ -9,12 +9,12 @@ use Rattle.mpw_picture.specs.declared.look.Canvas.TheVariants.{Drawing, Legend}
 use Rattle.mpw_picture.specs.Looks.{colour_of, hatch_of, period_of, angle_of}
 use Rattle.mpw_picture.specs.Windows.{longer_side}
 
--- the letter of what a pattern is for: the drawing is in nm, and the rows below it are in pixels
+-- the letter of a pattern's canvas: the drawing is in nm, and the rows below it are in pixels
 unfoldable pub canvas_letter : Canvas → List ℕ
 canvas_letter Drawing = codes "d"
 canvas_letter Legend = codes "g"
 
--- the layer with that place: one of the first twelve has its colour, and each other one its pattern
+-- the layer at that index: one of the first twelve has its colour, and each other one its pattern
 unfoldable pub plain_look : ℕ → List ℕ
 plain_look place = concat (codes "class=\"l l" ∷ decimal place ∷ codes "\"" ∷ [])
 
@@ -32,7 +32,7 @@ unfoldable pub scale_text : Box2 → Canvas → List ℕ
 scale_text w Drawing = concat (codes "scale(" ∷ decimal (longer_side w) ∷ codes "e-3) " ∷ [])
 scale_text w Legend = []
 
--- a pattern: stripes in the layer's colour, as broad as the gaps between them
+-- a pattern: stripes in the layer's colour, as wide as the gaps between them
 unfoldable pub stripes_head : ℕ → List ℕ
 stripes_head place =
     concat
@@ -63,7 +63,7 @@ pattern_text w place canvas =
     codes "<pattern id=\"" ++ canvas_letter canvas ++ stripes_head place ++ scale_text w canvas
     ++ stripes_end place
 
--- those of the layer with that place, where it has some
+-- the patterns of the layer at that index, if it has some
 unfoldable pub patterns_of : Box2 → ℕ → List ℕ
 patterns_of w place =
     if nat_lt place 12 then [] else pattern_text w place Drawing ++ pattern_text w place Legend

@@ -1,4 +1,4 @@
--- The text of what stands below a drawing: the scale bar, and a row for each rule.
+-- The text below a drawing: the scale bar, and a row for each rule.
 use Rattle.std.specs.Prelude.{ℕ, pos, ◌+◌, ◌*◌, ◌==◌, min, List, [], ◌∷◌, ◌++◌, length, codes, if◌then◌else◌}
 use Rattle.std.specs.List.{concat, flat_map, enumerate_from}
 use Rattle.std.specs.Fmt.{decimal}
@@ -31,7 +31,7 @@ bar_line w =
 unfoldable pub bar_text : Box2 → List ℕ
 bar_text w = codes "<text y=\"24\">" ++ micrometres (pos (bar_length w)) ++ bar_line w
 
--- the look of a layer, so far to the right
+-- a sample of a layer's style, at a distance from the left in pixels
 unfoldable pub swatch : List Layer → ℕ → Layer → List ℕ
 swatch layers x l =
     codes "<rect " ++ look_text Legend (place_of layers l)
@@ -43,11 +43,11 @@ swatches layers (Space layer) = swatch layers 28 layer
 swatches layers (Separation first second) = swatch layers 28 first ++ swatch layers 52 second
 swatches layers (Enclosing outer inner) = swatch layers 28 outer ++ swatch layers 52 inner
 
--- how many markers of a rule are drawn at most: all, where they are drawn as a density
+-- the most markers of a rule that are drawn: all, if they are drawn as a density
 unfoldable pub limit_of : Picture → ℕ
 limit_of p = if length p.counts.items == 0 then p.limit else length p.marks.items
 
--- the row of the rule with that place in the deck
+-- the row of the rule at that index in the deck
 unfoldable pub row_head : ℕ → List ℕ
 row_head place =
     concat

@@ -1,7 +1,7 @@
--- The text of a picture: what rules, a name and a picture's values are in SVG 1.1.
+-- The text of a picture in SVG 1.1, from rules, a name and the picture's values.
 --
--- The titles stand above, then the drawing, 1000 pixels along its longer side, in nm of the window, with the window's coordinates at its
--- edges. Below it stand the scale bar and a row for each rule: the colours of its markers and of its layers, its line of the deck, and how
+-- The titles are at the top. Below them is the drawing, 1000 pixels along its longer side, in nm of the window, with the window's coordinates at
+-- its edges. Below it are the scale bar and a row for each rule: the colours of its markers and of its layers, its line of the deck, and how
 -- many of its markers are drawn and left out.
 use Rattle.std.specs.Prelude.{ℕ, ◌+◌, ◌*◌, List, [], ◌∷◌, ◌++◌, length, codes, if◌then◌else◌}
 use Rattle.std.specs.List.{concat, flat_map, range_with_len, enumerate_from}
@@ -50,7 +50,7 @@ rectangle_text w r = rectangle_at (turned w r.area) r.area
 abbrev pub rectangle_of : Box2 → Layer → Rectangle → List ℕ
 rectangle_of w layer r = if is_layer layer r.layer then rectangle_text w r else []
 
--- all those of the layer with that place, as one path
+-- all those of the layer at that index, as one path
 unfoldable pub layer_text : Picture → ℕ × Layer → List ℕ
 layer_text p row =
     codes "<path " ++ look_text Drawing row.0 ++ codes " d=\""

@@ -1,4 +1,4 @@
--- The text of what stands round a drawing: the titles above it, and the window's coordinates at its edges.
+-- The text around a drawing: the titles above it, and the window's coordinates at its edges.
 use Rattle.std.specs.Prelude.{ℕ, ◌+◌, ◌==◌, List, [], ◌∷◌, ◌++◌, length, codes, slice_get, Option, None, Some, if◌then◌else◌}
 use Rattle.std.specs.List.{concat}
 use Rattle.std.specs.Fmt.{decimal, signed_decimal}
@@ -49,7 +49,7 @@ edges_text w = rows_text w ++ columns_text w
 
 -- ---- the titles
 
--- the end of a marker's key, behind its rule's name
+-- the end of a marker's key, after its rule's name
 unfoldable pub axis_text : Axis → List ℕ
 axis_text V = codes ":V:"
 axis_text H = codes ":H:"
@@ -69,7 +69,7 @@ places_text k =
     ∷ codes ", "
     ∷ [])
 
--- the marker that is wanted: its key, and its rule as the deck has it; only where the deck has its rule
+-- the selected marker: its key, and its rule as the deck has it; only if the deck has its rule
 unfoldable pub key_title : Rule → Key → List ℕ
 key_title rule k =
     codes "<text x=\"-160\" y=\"-42\">" ++ escaped rule.name ++ axis_text k.axis ++ places_text k
@@ -84,7 +84,7 @@ unfoldable pub wanted_title : List Rule → Option Key → List ℕ
 wanted_title rules None = []
 wanted_title rules (Some k) = title_under (slice_get rules k.rule) k
 
--- that so many markers are drawn as a density
+-- the title that says how many markers are drawn as a density
 unfoldable pub dense_text : ℕ → List ℕ
 dense_text count =
     concat (codes "<text x=\"-160\" y=\"-18\">" ∷ decimal count ∷ []) ++ part_text Dense

@@ -1,4 +1,4 @@
-//! Markers as a density: how many lie in each square of a grid.
+//! Draws markers as a density: how many lie in each square of a grid.
 //!
 //! Each marker is counted in one square, in one pass over them.
 ghost use Rattle.std.specs.Prelude.{◌≡◌, ◌<◌, ◌≤◌, ◌*◌, ◌^◌, length, min, replicate, IfOk};
@@ -9,10 +9,10 @@ use crate::size::longer_side;
 use mpw_geom::Box2;
 use std::alloc::{AllocError, Global};
 
-/// More markers than so many are drawn as a density.
+/// If there are more markers than this, they are drawn as a density.
 const MOST_DRAWN: u128 = 20000;
 
-/// How many squares there are.
+/// The number of squares.
 #[tactic(auto, unfolding(crate::specs::Density::cell_count))]
 fn cell_count() -> usize
     ensures { result ≡ cell_count }
@@ -30,7 +30,7 @@ pub(crate) fn cell_side(window: Box2) -> u64
     longer_side(window) / 50 + 1
 }
 
-/// The column in which a marker lies, below 50.
+/// The column of a marker, 0 to 49.
 #[tactic(auto, unfolding(crate::specs::Density::column_of))]
 fn column_of(window: Box2, mark: &Mark) -> u64
     ensures column { result ≡ column_of window mark.now }
@@ -39,7 +39,7 @@ fn column_of(window: Box2, mark: &Mark) -> u64
     (mark.area.x0.max(window.x0).abs_diff(window.x0) / cell_side(window)).min(49)
 }
 
-/// The row in which a marker lies, below 50.
+/// The row of a marker, 0 to 49.
 #[tactic(auto, unfolding(crate::specs::Density::row_of))]
 fn row_of(window: Box2, mark: &Mark) -> u64
     ensures row { result ≡ row_of window mark.now }
@@ -57,7 +57,7 @@ fn cell_of(window: Box2, mark: &Mark) -> usize
     (50 * row_of(window, mark) + column_of(window, mark)) as usize
 }
 
-/// How many of the markers are of the rule with that place in its deck.
+/// How many of the markers are of the rule at index `place` in its deck.
 pub(crate) fn count_of(marks: &[Mark], place: usize) -> usize
     ensures { result ≡ length (of_rule marks.now place) }
 {
@@ -67,7 +67,7 @@ pub(crate) fn count_of(marks: &[Mark], place: usize) -> usize
         .count()
 }
 
-/// How many markers of so many rules are drawn one by one. For each rule a pass over the markers.
+/// How many markers of `rules` rules are drawn one by one. Cost: a pass over the markers for each rule.
 fn drawn_count(limit: usize, rules: usize, marks: &[Mark]) -> u128
     ensures { result ≡ drawn_count limit rules marks.now }
 {
@@ -78,14 +78,14 @@ fn drawn_count(limit: usize, rules: usize, marks: &[Mark]) -> u128
     total
 }
 
-/// So many zeros. An error is want of memory.
+/// `count` zeros. The only error is out of memory.
 fn zeros(alloc: Global, count: usize) -> Result<Vec<usize>, AllocError>
     ensures { IfOk result (λ zeros. zeros.items ≡ replicate count 0) }
 {
     vec![in alloc; 0usize; count]
 }
 
-/// How many markers lie in each square. An error is want of memory.
+/// How many markers lie in each square. The only error is out of memory.
 fn density(alloc: Global, window: Box2, marks: &[Mark]) -> Result<Vec<usize>, AllocError>
     ensures { IfOk result (λ counts. counts.items ≡ density window marks.now) }
 {
@@ -99,8 +99,8 @@ fn density(alloc: Global, window: Box2, marks: &[Mark]) -> Result<Vec<usize>, Al
     Ok(counts)
 }
 
-/// How many markers lie in each square, where so many are drawn as a density; no number where they are drawn one by one. An
-/// error is want of memory.
+/// How many markers lie in each square if they are drawn as a density; empty if they are drawn one by one. The only
+/// error is out of memory.
 #[tactic(auto, unfolding(crate::specs::Density::most_drawn))]
 pub(crate) fn counts_of(
     alloc: Global,

@@ -1,6 +1,6 @@
-//! The drawing: the window's frame, and the rectangles by layer.
+//! Writes the drawing: the window's frame, and the rectangles by layer.
 //!
-//! The rectangles of a layer are one path, so that no line shows between two that lie beside each other.
+//! The rectangles of a layer are one path, so that no line is visible between two adjacent ones.
 ghost use Rattle.std.specs.List.{flat_map, enumerate_from};
 ghost use Rattle.mpw_picture.specs.Text.{rectangle_text, rectangle_of, layer_text, frame_text, drawing_text};
 ghost use Rattle.mpw_text.specs.Writing.{Adds};
@@ -46,7 +46,7 @@ fn put_rectangle<W: Write>(writer: &mut W, window: Box2, rectangle: &Rectangle) 
     )
 }
 
-/// Writes a rectangle, if it is of that layer.
+/// Writes a rectangle if it is of that layer.
 fn put_rectangle_of<W: Write>(
     writer: &mut W,
     window: Box2,
@@ -77,7 +77,7 @@ fn put_rectangles<W: Write>(
     Ok(())
 }
 
-/// Writes the layer with that place among the picture's.
+/// Writes the layer at index `place` of the picture's layers.
 #[tactic(auto, unfolding(crate::specs::Text::layer_text))]
 fn put_layer<W: Write>(
     writer: &mut W,
@@ -105,7 +105,7 @@ fn put_layers<W: Write>(writer: &mut W, picture: &Picture, layers: &[Layer]) -> 
     Ok(())
 }
 
-/// Writes what stands before the layers.
+/// Writes what comes before the layers.
 #[tactic(auto, unfolding(crate::specs::Text::frame_text))]
 fn put_frame<W: Write>(writer: &mut W, window: Box2) -> io::Result<()>
     ensures { Adds W.contents writer.old writer.new result (frame_text window) }

@@ -1,8 +1,8 @@
-//! Laws of the definitions alone.
+//! Laws about the definitions.
 ghost use Rattle.mpw_picture.specs.Looks.{LayersLookUnlike, PlacesLookUnlike};
 
-/// No two layers of a picture look alike, however many it has: layers at different places look different (`look_of`, by which the patterns
-/// are written), and two layers of a picture that look alike are one.
+/// No two layers of a picture have the same style, however many there are. Layers at different indices have different styles (`look_of`, which defines
+/// the patterns), and two layers of a picture with the same style are equal.
 pub fn layers_look_unlike()
     ensures places { PlacesLookUnlike }
     ensures layers { LayersLookUnlike }

@@ -15,21 +15,21 @@ pub(crate) fn is_layer(a: Layer, b: Layer) -> bool
     a.layer == b.layer && a.datatype == b.datatype
 }
 
-/// Whether a layer is one of some.
+/// Whether the list has the layer.
 fn is_there(layers: &[Layer], layer: Layer) -> bool
     ensures { result ≡ list_any (is_layer layer) layers.now }
 {
     layers.iter().any(|other| is_layer(layer, *other))
 }
 
-/// The place of a layer among some, if it is one of them.
+/// The index of a layer in a list, if it is there.
 fn find_layer(layers: &[Layer], layer: Layer) -> Option<usize>
     ensures { result ≡ position (is_layer layer) layers.now }
 {
     layers.iter().position(|other| is_layer(layer, *other))
 }
 
-/// The place of a layer among some; that behind the last where it is none of them. Linear in the layers.
+/// The index of a layer in a list; the list's length if it isn't there. Cost: linear in the layers.
 pub(crate) fn place_of(layers: &[Layer], layer: Layer) -> usize
     ensures { result ≡ place_of layers.now layer }
 {
@@ -39,7 +39,7 @@ pub(crate) fn place_of(layers: &[Layer], layer: Layer) -> usize
     }
 }
 
-/// Adds a layer, if it isn't there. An error is want of memory.
+/// Adds a layer if it isn't there. The only error is out of memory.
 fn add_layer(layers: &mut Vec<Layer>, layer: Layer) -> Result<(), AllocError>
     ensures ok { OnOk result (layers.new.items ≡ with_layer layers.old.items layer) }
 {
@@ -49,7 +49,7 @@ fn add_layer(layers: &mut Vec<Layer>, layer: Layer) -> Result<(), AllocError>
     Ok(())
 }
 
-/// Adds the layers of a rule. An error is want of memory.
+/// Adds the layers of a rule. The only error is out of memory.
 fn add_rule(layers: &mut Vec<Layer>, rule: &Rule) -> Result<(), AllocError>
     ensures ok { OnOk result (layers.new.items ≡ with_rule layers.old.items rule.now) }
 {
@@ -62,7 +62,7 @@ fn add_rule(layers: &mut Vec<Layer>, rule: &Rule) -> Result<(), AllocError>
     }
 }
 
-/// The layers that rules name, each once. An error is want of memory.
+/// The layers of the rules, each once. The only error is out of memory.
 fn rule_layers(alloc: Global, rules: &[Rule]) -> Result<Vec<Layer>, AllocError>
     ensures { IfOk result (λ layers. layers.items ≡ rule_layers rules.now) }
 {
@@ -73,8 +73,8 @@ fn rule_layers(alloc: Global, rules: &[Rule]) -> Result<Vec<Layer>, AllocError>
     Ok(layers)
 }
 
-/// The layers of a picture: those that rules name, and behind them those of its rectangles, each once. An error is want of
-/// memory. It costs the rectangles times the layers.
+/// The layers of a picture: first those of the rules, and then those of its rectangles, each once. The only error is out of
+/// memory. Cost: the product of the numbers of rectangles and layers.
 pub(crate) fn layers_of(
     alloc: Global,
     rules: &[Rule],

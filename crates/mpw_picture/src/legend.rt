@@ -1,4 +1,4 @@
-//! The scale bar, and a row for each rule.
+//! Writes the legend: the scale bar, and a row for each rule.
 ghost use Rattle.std.specs.Prelude.{◌≡◌};
 ghost use Rattle.std.specs.List.{flat_map, enumerate_from};
 ghost use Rattle.mpw_picture.specs.Rows.{bar_line, bar_text, swatch, swatches, limit_of, row_head, row_end, row_text, legend_head, legend_text};
@@ -16,7 +16,7 @@ use mpw_report::{put_left_out, put_micrometres, put_rule};
 use mpw_text::put;
 use std::io::{self, Write};
 
-/// Writes the scale bar behind its length.
+/// Writes the scale bar after its length.
 #[tactic(auto, unfolding(crate::specs::Rows::bar_line))]
 fn put_bar_line<W: Write>(writer: &mut W, window: Box2) -> io::Result<()>
     ensures { Adds W.contents writer.old writer.new result (bar_line window) }
@@ -45,7 +45,7 @@ fn put_bar<W: Write>(writer: &mut W, window: Box2) -> io::Result<()>
     put_bar_line(writer, window)
 }
 
-/// Writes the look of a layer, so far to the right.
+/// Writes a sample of a layer's style, `x` pixels from the left.
 #[tactic(auto, unfolding(crate::specs::Rows::swatch))]
 fn put_swatch<W: Write>(writer: &mut W, layers: &[Layer], x: u32, layer: Layer) -> io::Result<()>
     ensures { Adds W.contents writer.old writer.new result (swatch layers.now x layer) }
@@ -59,7 +59,7 @@ fn put_swatch<W: Write>(writer: &mut W, layers: &[Layer], x: u32, layer: Layer) 
     )
 }
 
-/// Writes the looks of a check's layers.
+/// Writes samples of a check's layers.
 #[tactic(auto, unfolding(crate::specs::Rows::swatches))]
 fn put_swatches<W: Write>(writer: &mut W, layers: &[Layer], check: Check) -> io::Result<()>
     ensures { Adds W.contents writer.old writer.new result (swatches layers.now check) }
@@ -73,7 +73,7 @@ fn put_swatches<W: Write>(writer: &mut W, layers: &[Layer], check: Check) -> io:
     }
 }
 
-/// How many markers of a rule are drawn at most.
+/// The most markers of a rule that are drawn.
 #[tactic(auto, unfolding(crate::specs::Rows::limit_of))]
 fn limit_of(picture: &Picture) -> usize
     ensures { result ≡ limit_of picture.now }
@@ -85,7 +85,7 @@ fn limit_of(picture: &Picture) -> usize
     }
 }
 
-/// Writes the begin of the row of the rule with that place.
+/// Writes the beginning of the row of the rule at index `place`.
 #[tactic(auto, unfolding(crate::specs::Rows::row_head))]
 fn put_row_head<W: Write>(writer: &mut W, place: usize) -> io::Result<()>
     ensures { Adds W.contents writer.old writer.new result (row_head place) }
@@ -116,7 +116,7 @@ fn put_row_end<W: Write>(writer: &mut W, count: usize, limit: usize) -> io::Resu
     put(writer, &["</text></g>\n"])
 }
 
-/// Writes the row of the rule with that place.
+/// Writes the row of the rule at index `place`.
 #[tactic(auto, unfolding(crate::specs::Rows::row_text))]
 fn put_row<W: Write>(writer: &mut W, picture: &Picture, place: usize, rule: &Rule) -> io::Result<()>
     ensures { Adds W.contents writer.old writer.new result (row_text picture.now (place, rule.now)) }
@@ -139,7 +139,7 @@ fn put_rows<W: Write>(writer: &mut W, picture: &Picture, rules: &[Rule]) -> io::
     Ok(())
 }
 
-/// Writes the begin of what stands below the drawing.
+/// Writes the beginning of what is below the drawing.
 #[tactic(auto, unfolding(crate::specs::Rows::legend_head))]
 fn put_legend_head<W: Write>(writer: &mut W, window: Box2) -> io::Result<()>
     ensures { Adds W.contents writer.old writer.new result (legend_head window) }
@@ -155,7 +155,7 @@ fn put_legend_head<W: Write>(writer: &mut W, window: Box2) -> io::Result<()>
     )
 }
 
-/// Writes what stands below the drawing.
+/// Writes what is below the drawing.
 #[tactic(auto, unfolding(crate::specs::Rows::legend_text))]
 pub(crate) fn put_legend<W: Write>(
     writer: &mut W,

@@ -1,13 +1,15 @@
-//! Pictures of what was checked, as SVG: its layers and its markers in a window.
+//! Draws what was checked, as SVG: its layers and its markers in a window.
 //!
-//! A [`Picture`] is a window in nm, the rectangles that shapes have in it, and the markers that meet it. [`draw`] and [`draw_view`] make
-//! one of a snapshot and its markers: the window is [`whole_window`] or [`marker_window`], and a walk goes down into what
-//! meets it alone. [`write_picture`] writes it, one part behind another: it takes no memory. `specs/Text.antt` is the text,
-//! and `specs/Drawn.antt` what a picture shows.
+//! - A [`Picture`] is a window in nm, the rectangles of shapes in it, and the markers that touch it.
+//! - [`draw`] and [`draw_view`] make one from a snapshot and its markers. The window is [`whole_window`] or [`marker_window`]. A walk visits only what
+//!   touches the window.
+//! - [`write_picture`] writes a picture part by part. It takes no memory.
 //!
-//! No two layers of a picture look alike ([`layers_look_unlike`]).
+//! `specs/Text.antt` defines the text, and `specs/Drawn.antt` the content of a picture.
 //!
-//! In a drawing y points down, so that a box is turned there (`turned` of `specs/Sizes.antt`).
+//! No two layers of a picture have the same style ([`layers_look_unlike`]).
+//!
+//! In a drawing y points down, so boxes are turned (`turned` of `specs/Sizes.antt`).
 #![tactic(auto)]
 
 mod density;

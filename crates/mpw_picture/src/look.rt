@@ -1,4 +1,4 @@
-//! How layers and rules look, and the patterns of layers.
+//! The styles of layers and rules, and the patterns of layers.
 ghost use Rattle.std.specs.Prelude.{◌≡◌};
 ghost use Rattle.std.specs.List.{flat_map, range_with_len};
 ghost use Rattle.mpw_picture.specs.Looks.{colour_of, hatch_of, period_of, angle_of, rule_colour};
@@ -11,16 +11,16 @@ use mpw_geom::Box2;
 use mpw_text::put;
 use std::io::{self, Write};
 
-/// What a layer is drawn on.
+/// Where a layer is drawn.
 #[derive(Clone, Copy)]
 pub(crate) enum Canvas {
     /// The drawing, in nm.
     Drawing,
-    /// What stands below it, in pixels.
+    /// The legend below it, in pixels.
     Legend,
 }
 
-/// The number of the colour of the layer with that place, below 12.
+/// The number of the colour of the layer at index `place`, 0 to 11.
 #[tactic(auto, unfolding(crate::specs::Looks::colour_of))]
 fn colour_of(place: usize) -> usize
     ensures { result ≡ colour_of place }
@@ -28,7 +28,7 @@ fn colour_of(place: usize) -> usize
     place % 12
 }
 
-/// How often all colours are used up before the layer with that place.
+/// How many times all colours are used before the layer at index `place`.
 #[tactic(auto, unfolding(crate::specs::Looks::hatch_of))]
 fn hatch_of(place: usize) -> usize
     ensures { result ≡ hatch_of place }
@@ -36,7 +36,7 @@ fn hatch_of(place: usize) -> usize
     place / 12
 }
 
-/// How far stripes lie apart, in pixels.
+/// The distance between stripes, in pixels.
 #[tactic(auto, unfolding(crate::specs::Looks::period_of))]
 fn period_of(hatch: usize) -> u128
     ensures { result ≡ period_of hatch }
@@ -44,7 +44,7 @@ fn period_of(hatch: usize) -> u128
     6 + 4 * (hatch.saturating_sub(1) as u128 / 4)
 }
 
-/// How far stripes are turned, in degrees.
+/// The angle of stripes, in degrees.
 #[tactic(auto, unfolding(crate::specs::Looks::angle_of))]
 fn angle_of(hatch: usize) -> usize
     ensures { result ≡ angle_of hatch }
@@ -52,7 +52,7 @@ fn angle_of(hatch: usize) -> usize
     45 * (hatch.saturating_sub(1) % 4)
 }
 
-/// The number of the colour of the rule with that place in its deck, below 12.
+/// The number of the colour of the rule at index `place` in its deck, 0 to 11.
 #[tactic(auto, unfolding(crate::specs::Looks::rule_colour))]
 pub(crate) fn rule_colour(place: usize) -> usize
     ensures { result ≡ rule_colour place }
@@ -71,7 +71,7 @@ fn put_letter<W: Write>(writer: &mut W, canvas: Canvas) -> io::Result<()>
     }
 }
 
-/// Writes the colour of the layer with that place.
+/// Writes the colour of the layer at index `place`.
 #[tactic(auto, unfolding(crate::specs::Patterns::plain_look))]
 fn put_plain_look<W: Write>(writer: &mut W, place: usize) -> io::Result<()>
     ensures { Adds W.contents writer.old writer.new result (plain_look place) }
@@ -80,7 +80,7 @@ fn put_plain_look<W: Write>(writer: &mut W, place: usize) -> io::Result<()>
     put(writer, &["class=\"l l", number.format(place), "\""])
 }
 
-/// Writes the pattern by which the layer with that place is drawn.
+/// Writes the name of the pattern of the layer at index `place`.
 #[tactic(auto, unfolding(crate::specs::Patterns::striped_look))]
 fn put_striped_look<W: Write>(writer: &mut W, canvas: Canvas, place: usize) -> io::Result<()>
     ensures { Adds W.contents writer.old writer.new result (striped_look canvas place) }
@@ -91,7 +91,7 @@ fn put_striped_look<W: Write>(writer: &mut W, canvas: Canvas, place: usize) -> i
     put(writer, &[number.format(place), ")\""])
 }
 
-/// Writes how the layer with that place looks: its colour, or its pattern.
+/// Writes the style of the layer at index `place`: its colour, or its pattern.
 #[tactic(auto, unfolding(crate::specs::Patterns::look_text))]
 pub(crate) fn put_look<W: Write>(writer: &mut W, canvas: Canvas, place: usize) -> io::Result<()>
     ensures { Adds W.contents writer.old writer.new result (look_text canvas place) }
@@ -103,7 +103,7 @@ pub(crate) fn put_look<W: Write>(writer: &mut W, canvas: Canvas, place: usize) -
     }
 }
 
-/// Writes how many nm a pixel has, on the drawing.
+/// Writes how many nm of the drawing a pixel has.
 #[tactic(auto, unfolding(crate::specs::Patterns::scale_text))]
 fn put_scale<W: Write>(writer: &mut W, window: Box2, canvas: Canvas) -> io::Result<()>
     ensures { Adds W.contents writer.old writer.new result (scale_text window canvas) }
@@ -118,7 +118,7 @@ fn put_scale<W: Write>(writer: &mut W, window: Box2, canvas: Canvas) -> io::Resu
     }
 }
 
-/// Writes the begin of a pattern, behind its letter.
+/// Writes the beginning of a pattern, after its letter.
 #[tactic(auto, unfolding(crate::specs::Patterns::stripes_head))]
 fn put_stripes_head<W: Write>(writer: &mut W, place: usize) -> io::Result<()>
     ensures { Adds W.contents writer.old writer.new result (stripes_head place) }
@@ -165,7 +165,7 @@ fn put_stripes_end<W: Write>(writer: &mut W, place: usize) -> io::Result<()>
     )
 }
 
-/// Writes the pattern of the layer with that place for a canvas.
+/// Writes the pattern of the layer at index `place` for a canvas.
 #[tactic(auto, unfolding(crate::specs::Patterns::pattern_text))]
 fn put_pattern<W: Write>(
     writer: &mut W,
@@ -182,7 +182,7 @@ fn put_pattern<W: Write>(
     put_stripes_end(writer, place)
 }
 
-/// Writes the patterns of the layer with that place, where it has some.
+/// Writes the patterns of the layer at index `place`, if it has some.
 #[tactic(auto, unfolding(crate::specs::Patterns::patterns_of))]
 fn put_patterns_of<W: Write>(writer: &mut W, window: Box2, place: usize) -> io::Result<()>
     ensures { Adds W.contents writer.old writer.new result (patterns_of window place) }
@@ -194,7 +194,7 @@ fn put_patterns_of<W: Write>(writer: &mut W, window: Box2, place: usize) -> io::
     put_pattern(writer, window, place, Canvas::Legend)
 }
 
-/// Writes the patterns of so many layers.
+/// Writes the patterns of the first `layers` layers.
 pub(crate) fn put_patterns<W: Write>(writer: &mut W, window: Box2, layers: usize) -> io::Result<()>
     ensures { Adds W.contents writer.old writer.new result (flat_map (patterns_of window) (range_with_len 0 layers)) }
 {

@@ -1,4 +1,4 @@
-//! Markers in a drawing, one by one.
+//! Writes the markers of a drawing, one by one.
 ghost use Rattle.std.specs.Prelude.{take};
 ghost use Rattle.std.specs.List.{flat_map, enumerate_from};
 ghost use Rattle.mpw_picture.specs.Density.{of_rule};
@@ -53,7 +53,7 @@ fn put_mark<W: Write>(writer: &mut W, window: Box2, mark: &Mark) -> io::Result<(
     put_outline(writer, corners_of(window, mark.area))
 }
 
-/// Writes the first markers of the rule with that place, no more than the limit, in their order.
+/// Writes the first markers of the rule at index `place`, at most `limit`, in their order.
 fn put_first<W: Write>(
     writer: &mut W,
     window: Box2,
@@ -76,7 +76,7 @@ fn put_first<W: Write>(
     Ok(())
 }
 
-/// Writes the begin of the group of the rule with that place.
+/// Writes the beginning of the group of the rule at index `place`.
 #[tactic(auto, unfolding(crate::specs::Marked::group_head))]
 fn put_group_head<W: Write>(writer: &mut W, place: usize) -> io::Result<()>
     ensures { Adds W.contents writer.old writer.new result (group_head place) }
@@ -137,7 +137,7 @@ fn put_shown<W: Write>(writer: &mut W, rules: &[Rule], picture: &Picture) -> io:
     }
 }
 
-/// Writes what stands before the markers.
+/// Writes what comes before the markers.
 #[tactic(auto, unfolding(crate::specs::Marked::marks_head))]
 fn put_marks_head<W: Write>(writer: &mut W, window: Box2) -> io::Result<()>
     ensures { Adds W.contents writer.old writer.new result (marks_head window) }
@@ -153,7 +153,7 @@ fn put_marks_head<W: Write>(writer: &mut W, window: Box2) -> io::Result<()>
     )
 }
 
-/// Writes the markers of a picture and the one that is wanted, and ends its drawing.
+/// Writes the markers of a picture and the selected one, and ends the drawing.
 #[tactic(auto, unfolding(crate::specs::Marked::marks_text))]
 pub(crate) fn put_marks<W: Write>(
     writer: &mut W,

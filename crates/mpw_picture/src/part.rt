@@ -1,4 +1,4 @@
-//! The parts of a picture's text that are the same in each.
+//! The parts of the text that all pictures have in common.
 ghost use Rattle.std.specs.Prelude.{◌≡◌};
 ghost use Rattle.mpw_picture.specs.Parts.{part_text};
 ghost use Rattle.mpw_text.specs.Writing.{Adds};
@@ -6,24 +6,24 @@ ghost use Rattle.mpw_text.specs.Writing.{Adds};
 use mpw_text::put;
 use std::io::{self, Write};
 
-/// A part of a picture's text that is the same in each.
+/// A part of the text that all pictures have in common.
 #[derive(Clone, Copy)]
 pub(crate) enum Part {
-    /// Before the height of the whole.
+    /// Before the height of the whole picture.
     Head,
     /// Before the name of the structure.
     Title,
-    /// Behind it, with the colours of layers.
+    /// After it, with the colours of layers.
     LayerColours,
-    /// The colours of rules, and of what shows the marker that is wanted.
+    /// The colours of rules, and of the ring and arrow at the selected marker.
     RuleColours,
     /// Before the patterns.
     Patterns,
-    /// Behind them, and the ground.
+    /// After them, and the background.
     Ground,
-    /// Behind the number of markers that are drawn as a density.
+    /// After the number of markers that are drawn as a density.
     Dense,
-    /// Behind the last row.
+    /// After the last row.
     End,
 }
 

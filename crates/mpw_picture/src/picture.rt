@@ -1,4 +1,4 @@
-//! Pictures, and how one is drawn.
+//! The picture, and how it is made.
 ghost use Rattle.std.specs.Prelude.{◌≡◌, IfOk, IsTrue};
 ghost use Rattle.mpw_geom.specs.Plane.{IsBoxInPlane};
 ghost use Rattle.mpw_walk.specs.Window.{do_meet};
@@ -12,12 +12,12 @@ use mpw_markers::{Key, Marker};
 use mpw_tiles::{Rectangle, Snapshot};
 use std::alloc::{AllocError, Global};
 
-/// A marker in a picture: its closed box, in nm, and its rule's place in the deck.
+/// A marker in a picture: its closed box, in nm, and its rule's index in the deck.
 #[derive(Clone, Copy, PartialEq, Eq)]
 pub struct Mark {
-    /// The marker's closed box, on axis `H` with the coordinates of its edges and rows exchanged.
+    /// The marker's closed box. On axis `H` the coordinates of its edges and rows are exchanged.
     pub area: Box2,
-    /// The rule's place in the deck, from 0, by which its name and its colour are found.
+    /// The rule's index in the deck, from 0. It determines the name and the colour.
     pub rule: u32,
 }
 
@@ -26,28 +26,28 @@ pub struct Mark {
 pub struct View {
     /// The box of the plane that is drawn, in nm.
     pub window: Box2,
-    /// The marker that is drawn with a ring round it and told in the title, where one is wanted.
+    /// The selected marker, if there is one. It is drawn with a ring around it, and its key is in the title.
     pub wanted: Option<Key>,
-    /// How many markers of a rule are drawn at most: the first ones that meet the window.
+    /// The most markers of a rule that are drawn: the first ones that touch the window.
     pub limit: usize,
 }
 
-/// What is drawn: a window, in nm, the rectangles in it, and the markers that meet it.
+/// What is drawn: a window, in nm, the rectangles in it, and the markers that touch it.
 #[derive(Drop)]
 pub struct Picture {
-    /// The box of the plane that is drawn.
+    /// The box of the plane that is drawn, in nm.
     pub window: Box2,
-    /// What lies in the window of the shapes that are shown, by layer and submission; none goes beyond it.
+    /// The parts of the shapes in the window, by layer and submission. None exceeds it.
     pub rectangles: Vec<Rectangle>,
-    /// The layers that the rules name, and behind them those of the rectangles, each once. Each has a look of its own.
+    /// The layers: first those of the rules, and then those of the rectangles, each once. Each has its own style.
     pub layers: Vec<Layer>,
     /// The markers whose closed boxes share a point with the window, in their order.
     pub marks: Vec<Mark>,
-    /// How many of them lie in each square of a grid, where they are drawn as a density; no number where they are drawn one by one.
+    /// How many of them lie in each square of a grid, if they are drawn as a density; empty if they are drawn one by one.
     pub counts: Vec<usize>,
-    /// The marker that is wanted.
+    /// The selected marker.
     pub wanted: Option<Key>,
-    /// How many markers of a rule are drawn at most.
+    /// The most markers of a rule that are drawn.
     pub limit: usize,
 }
 
@@ -68,7 +68,7 @@ fn do_meet(a: Box2, b: Box2) -> bool
     a.meets(b)
 }
 
-/// The markers that meet a window, in their order. An error is want of memory.
+/// The markers that touch a window, in their order. The only error is out of memory.
 fn marks_in(alloc: Global, window: Box2, markers: &[Marker]) -> Result<Vec<Mark>, AllocError>
     ensures { IfOk result (λ marks. marks.items ≡ marks_in window markers.now) }
 {
@@ -82,16 +82,15 @@ fn marks_in(alloc: Global, window: Box2, markers: &[Marker]) -> Result<Vec<Mark>
     Ok(marks)
 }
 
-/// The picture of a snapshot and of markers in a view's window. Its rectangles have just the squares of the window that the
-/// shapes have which the roots show, by layer and submission, and each lies in the window; its marks are the markers whose closed
-/// boxes share a point with the window, in order. Where more than 20,000 of them would be drawn, no more than the limit of each rule, it
-/// has the numbers of a density.
+/// The picture of a snapshot and of markers in a view's window. Its rectangles have exactly the squares that the shapes of the roots have in the
+/// window, by layer and submission, and each lies in the window. Its marks are the markers whose closed boxes share a point with the window, in
+/// order. If more than 20,000 of them would be drawn, with at most the limit of each rule, it has the counts of a density.
 ///
-/// It goes down into the instances whose extents meet the window, and takes the rectangles of each shape whose box does: what
-/// that walk and [`mpw_shapes::rectangles`] cost, the rectangles times the layers, and for each rule a pass over the markers.
+/// It visits the instances whose extents touch the window, and takes the rectangles of each shape whose box does. Cost: that of the walk and
+/// of [`mpw_shapes::rectangles`], the product of the numbers of rectangles and layers, and a pass over the markers for each rule.
 ///
 /// # Errors
-/// Where there is no memory.
+/// Out of memory.
 pub fn draw_view(
     alloc: Global,
     snapshot: &Snapshot,
@@ -118,10 +117,10 @@ pub fn draw_view(
     })
 }
 
-/// The same of all markers, of which none is wanted.
+/// The picture of all markers, none of which is selected.
 ///
 /// # Errors
-/// Where there is no memory.
+/// Out of memory.
 pub fn draw(
     alloc: Global,
     snapshot: &Snapshot,

@@ -1,4 +1,4 @@
-//! The rectangles of shapes in a window: those of each shape that the walk gives, placed, as far as they lie in it.
+//! Finds the rectangles of shapes in a window: the parts in it of each shape that the walk finds.
 
 ghost use Rattle.std.specs.Prelude.{◌≡◌, All, IfOk, OnOk};
 ghost use Rattle.mpw_structures.specs.Element.{IsElement};
@@ -17,7 +17,7 @@ use mpw_tiles::{PlacedShape, Rectangle, Snapshot, squares_lie_in_boxes};
 use mpw_walk::{Placed, Walk};
 use std::alloc::{AllocError, Global};
 
-/// Adds what a rectangle has in the window. An error is want of memory.
+/// Adds the part of a rectangle in the window. The only error is out of memory.
 fn add_rectangle(
     rectangles: &mut Vec<Rectangle>,
     window: &Box2,
@@ -36,7 +36,7 @@ fn add_rectangle(
     Ok(())
 }
 
-/// Adds what the rectangles of a shape's boxes have in the window. An error is want of memory.
+/// Adds the parts in the window of the rectangles of a shape's boxes. The only error is out of memory.
 fn add_boxes(
     rectangles: &mut Vec<Rectangle>,
     window: &Box2,
@@ -54,7 +54,7 @@ fn add_boxes(
     Ok(())
 }
 
-/// Adds what a shape has in the window. An error is want of memory.
+/// Adds the part of a shape in the window. The only error is out of memory.
 fn add_shape(
     alloc: Global,
     rectangles: &mut Vec<Rectangle>,
@@ -74,7 +74,7 @@ fn add_shape(
     Ok(())
 }
 
-/// Adds what the shapes have in the window that the walk still gives. An error is want of memory.
+/// Adds the parts in the window of the remaining shapes of the walk. The only error is out of memory.
 fn add_shapes(
     alloc: Global,
     rectangles: &mut Vec<Rectangle>,
@@ -91,11 +91,11 @@ fn add_shapes(
     Ok(())
 }
 
-/// The rectangles of a snapshot in a window: they have just the squares of it that the shapes have which the roots show, by
+/// The rectangles of a snapshot in a window. They have exactly the squares that the shapes of the roots have in the window, by
 /// layer and submission, and lie in it.
 ///
 /// # Errors
-/// Where there is no memory.
+/// Out of memory.
 pub(crate) fn rectangles_in(
     alloc: Global,
     snapshot: &Snapshot,

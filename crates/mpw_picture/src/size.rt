@@ -1,11 +1,11 @@
-//! Sizes of a drawing, in nm and in pixels.
+//! The sizes of a drawing, in nm and in pixels.
 ghost use Rattle.std.specs.Prelude.{◌≡◌, ◌≤◌, ◌<◌, ◌^◌};
 ghost use Rattle.mpw_picture.specs.Windows.{side, longer_side};
 ghost use Rattle.mpw_picture.specs.Sizes.{pixels, drawing_breadth, drawing_height, line_breadth, ring_margin, is_small, turned, bar_lengths, last_within, bar_length};
 
 use mpw_geom::Box2;
 
-/// Where a box lies in a drawing, in nm: x from its left edge, and y down from its top edge.
+/// The position of a box in a drawing, in nm: x from its left edge, and y down from its top edge.
 #[derive(Clone, Copy)]
 pub(crate) struct Corners {
     /// Its left side: 0 is that of the window.
@@ -18,7 +18,7 @@ pub(crate) struct Corners {
     pub bottom: i128,
 }
 
-/// Where a box of the plane lies in the drawing of a window. It turns y, which points down there.
+/// The position of a box of the plane in the drawing of a window. In the drawing y points down.
 #[tactic(auto, unfolding(crate::specs::Sizes::turned))]
 pub(crate) fn corners_of(window: Box2, area: Box2) -> Corners
     ensures { result ≡ turned window area }
@@ -31,7 +31,7 @@ pub(crate) fn corners_of(window: Box2, area: Box2) -> Corners
     }
 }
 
-/// The breadth of a box, in nm: 1 at least.
+/// The width of a box, in nm: at least 1.
 #[tactic(auto, unfolding(crate::specs::Windows::side))]
 pub(crate) fn breadth(area: Box2) -> u64
     ensures breadth { result ≡ side area.x0 area.x1 }
@@ -40,7 +40,7 @@ pub(crate) fn breadth(area: Box2) -> u64
     area.x1.abs_diff(area.x0).max(1)
 }
 
-/// The height of a box, in nm: 1 at least.
+/// The height of a box, in nm: at least 1.
 #[tactic(auto, unfolding(crate::specs::Windows::side))]
 pub(crate) fn height(area: Box2) -> u64
     ensures height { result ≡ side area.y0 area.y1 }
@@ -49,7 +49,7 @@ pub(crate) fn height(area: Box2) -> u64
     area.y1.abs_diff(area.y0).max(1)
 }
 
-/// The longer side of a box, in nm: 1 at least.
+/// The longer side of a box, in nm: at least 1.
 #[tactic(auto, unfolding(crate::specs::Windows::longer_side))]
 pub(crate) fn longer_side(area: Box2) -> u64
     ensures longer { result ≡ longer_side area }
@@ -58,7 +58,7 @@ pub(crate) fn longer_side(area: Box2) -> u64
     breadth(area).max(height(area))
 }
 
-/// So many nm of a window, in pixels, rounded up.
+/// A length of `nm` nm in a window, in pixels, rounded up.
 fn pixels(window: Box2, nm: u64) -> u128
     ensures pixels { result ≡ pixels window nm }
     ensures few { result < 2 ^ 80 }
@@ -67,7 +67,7 @@ fn pixels(window: Box2, nm: u64) -> u128
     (1000 * u128::from(nm) + longer - 1) / longer
 }
 
-/// The breadth of the drawing of a window, in pixels.
+/// The width of the drawing of a window, in pixels.
 #[tactic(auto, unfolding(crate::specs::Sizes::drawing_breadth))]
 pub(crate) fn drawing_breadth(window: Box2) -> u128
     ensures { result ≡ drawing_breadth window }
@@ -84,7 +84,7 @@ pub(crate) fn drawing_height(window: Box2) -> u128
     pixels(window, height(window))
 }
 
-/// The breadth of a marker's line in a window, in nm.
+/// The line width of a marker in a window, in nm.
 #[tactic(auto, unfolding(crate::specs::Sizes::line_breadth))]
 pub(crate) fn line_breadth(window: Box2) -> u64
     ensures { result ≡ line_breadth window }
@@ -92,7 +92,7 @@ pub(crate) fn line_breadth(window: Box2) -> u64
     longer_side(window) / 300 + 1
 }
 
-/// How far the ring stands off the marker that is wanted, in nm.
+/// The distance of the ring from the selected marker, in nm.
 #[tactic(auto, unfolding(crate::specs::Sizes::ring_margin))]
 pub(crate) fn ring_margin(window: Box2) -> u64
     ensures margin { result ≡ ring_margin window }
@@ -101,7 +101,7 @@ pub(crate) fn ring_margin(window: Box2) -> u64
     longer_side(window) / 100 + 1
 }
 
-/// Whether a box is below five pixels in a window.
+/// Whether a box is smaller than five pixels in a window.
 #[tactic(auto, unfolding(crate::specs::Sizes::is_small))]
 pub(crate) fn is_small(window: Box2, area: Box2) -> bool
     ensures { result ≡ is_small window area }
@@ -109,14 +109,14 @@ pub(crate) fn is_small(window: Box2, area: Box2) -> bool
     200 * u128::from(longer_side(area)) < u128::from(longer_side(window))
 }
 
-/// The lengths that a scale bar may have, in nm.
+/// The possible lengths of a scale bar, in nm.
 const BAR_LENGTHS: [u32; 27] = [
     1, 2, 5, 10, 20, 50, 100, 200, 500, 1000, 2000, 5000, 10000, 20000, 50000, 100000, 200000,
     500000, 1000000, 2000000, 5000000, 10000000, 20000000, 50000000, 100000000, 200000000,
     500000000,
 ];
 
-/// The last of some lengths that is within a limit; 1 where none is.
+/// The last of some lengths that is within a limit; 1 if there is none.
 fn last_within(limit: u64, lengths: &[u32]) -> u32
     ensures { result ≡ last_within limit lengths.now }
 {

@@ -1,4 +1,4 @@
-//! A density in a drawing: a square for each cell in which markers lie.
+//! Draws a density: a square for each cell in which markers lie.
 ghost use Rattle.std.specs.Prelude.{◌≡◌, ◌<◌, ◌*◌, ◌/◌, ◌^◌};
 ghost use Rattle.std.specs.List.{flat_map, enumerate_from};
 ghost use Rattle.mpw_picture.specs.Density.{cell_side};
@@ -13,14 +13,14 @@ use mpw_geom::Box2;
 use mpw_text::put;
 use std::io::{self, Write};
 
-/// Where the cell with that number in its row or column begins, in nm.
+/// The position at which the cell with that number in its row or column begins, in nm.
 fn begin_of(window: Box2, number: usize) -> u128
     ensures { result ≡ number * cell_side window }
 {
     number as u128 * u128::from(cell_side(window))
 }
 
-/// Writes a square in which so many markers lie.
+/// Writes a square in which `count` markers lie.
 #[tactic(auto, unfolding(crate::specs::Marked::square_text))]
 fn put_square<W: Write>(writer: &mut W, window: Box2, cell: usize, count: usize) -> io::Result<()>
     ensures { Adds W.contents writer.old writer.new result (square_text window cell count) }
@@ -52,7 +52,7 @@ fn put_square<W: Write>(writer: &mut W, window: Box2, cell: usize, count: usize)
     )
 }
 
-/// Writes the square of a cell, if markers lie in it.
+/// Writes the square of a cell if markers lie in it.
 fn put_cell<W: Write>(writer: &mut W, window: Box2, cell: usize, count: usize) -> io::Result<()>
     ensures { Adds W.contents writer.old writer.new result (cell_text window (cell, count)) }
 {
@@ -73,7 +73,7 @@ fn put_cells<W: Write>(writer: &mut W, window: Box2, counts: &[usize]) -> io::Re
     Ok(())
 }
 
-/// Writes what stands before the squares.
+/// Writes what comes before the squares.
 #[tactic(auto, unfolding(crate::specs::Marked::density_head))]
 fn put_density_head<W: Write>(writer: &mut W, window: Box2) -> io::Result<()>
     ensures { Adds W.contents writer.old writer.new result (density_head window) }

@@ -1,4 +1,4 @@
-//! What stands round a drawing: the titles above it, and the window's coordinates at its edges.
+//! Writes what is around a drawing: the titles above it, and the window's coordinates at its edges.
 ghost use Rattle.std.specs.Prelude.{slice_get};
 ghost use Rattle.mpw_picture.specs.Titles.{rows_text, columns_text, edges_text, axis_text, places_text, key_title, title_under, wanted_title, dense_text, dense_title, titles_text};
 ghost use Rattle.mpw_text.specs.Writing.{Adds};
@@ -135,7 +135,7 @@ fn put_title_of<W: Write>(writer: &mut W, rules: &[Rule], key: &Key) -> io::Resu
     }
 }
 
-/// Writes the title of the marker that is wanted, where one is.
+/// Writes the title of the selected marker, if there is one.
 #[tactic(auto, unfolding(crate::specs::Titles::wanted_title))]
 fn put_wanted_title<W: Write>(
     writer: &mut W,
@@ -150,7 +150,7 @@ fn put_wanted_title<W: Write>(
     }
 }
 
-/// Writes that so many markers are drawn as a density.
+/// Writes how many markers are drawn as a density.
 #[tactic(auto, unfolding(crate::specs::Titles::dense_text))]
 fn put_dense<W: Write>(writer: &mut W, count: usize) -> io::Result<()>
     ensures { Adds W.contents writer.old writer.new result (dense_text count) }
@@ -163,7 +163,7 @@ fn put_dense<W: Write>(writer: &mut W, count: usize) -> io::Result<()>
     put_part(writer, Part::Dense)
 }
 
-/// Writes that the markers are drawn as a density, where they are.
+/// Writes that the markers are drawn as a density, if they are.
 #[tactic(auto, unfolding(crate::specs::Titles::dense_title))]
 fn put_dense_title<W: Write>(writer: &mut W, picture: &Picture) -> io::Result<()>
     ensures { Adds W.contents writer.old writer.new result (dense_title picture.now) }

@@ -1,4 +1,4 @@
-//! The marker that is wanted, in a drawing: with a ring round it, and an arrow to it where it is small.
+//! Draws the selected marker: with a ring around it, and an arrow to it if it is small.
 ghost use Rattle.std.specs.Prelude.{◌≡◌};
 ghost use Rattle.mpw_picture.specs.Marked.{wanted_head, key_box, ring_at, ring_text, shaft_text, barbs_text, arrow_at, arrow_text, pointers_text, wanted_mark, wanted_text};
 ghost use Rattle.mpw_text.specs.Writing.{Adds};
@@ -34,7 +34,7 @@ fn key_box(key: &Key) -> Box2
     }
 }
 
-/// Writes the begin of the group of the marker that is wanted, of the rule with that place.
+/// Writes the beginning of the selected marker's group. Its rule is at index `place`.
 #[tactic(auto, unfolding(crate::specs::Marked::wanted_head))]
 fn put_wanted_head<W: Write>(writer: &mut W, place: u32) -> io::Result<()>
     ensures { Adds W.contents writer.old writer.new result (wanted_head place) }
@@ -50,7 +50,7 @@ fn put_wanted_head<W: Write>(writer: &mut W, place: u32) -> io::Result<()>
     )
 }
 
-/// Writes a ring that is as large as a box, with corners of that radius.
+/// Writes a ring as large as a box, with corners of that radius.
 #[tactic(auto, unfolding(crate::specs::Marked::ring_at))]
 fn put_ring_at<W: Write>(
     writer: &mut W,
@@ -83,7 +83,7 @@ fn put_ring_at<W: Write>(
     )
 }
 
-/// Writes the ring round a box.
+/// Writes the ring around a box.
 #[tactic(auto, unfolding(crate::specs::Marked::ring_text))]
 fn put_ring<W: Write>(writer: &mut W, window: Box2, area: Box2) -> io::Result<()>
     ensures { Adds W.contents writer.old writer.new result (ring_text window area) }
@@ -156,7 +156,7 @@ fn put_arrow_at<W: Write>(
     put_barbs(writer, head, tip)
 }
 
-/// Writes the arrow to the ring round a box.
+/// Writes the arrow to the ring around a box.
 #[tactic(auto, unfolding(crate::specs::Marked::arrow_text))]
 fn put_arrow<W: Write>(writer: &mut W, window: Box2, area: Box2) -> io::Result<()>
     ensures { Adds W.contents writer.old writer.new result (arrow_text window area) }
@@ -173,7 +173,7 @@ fn put_arrow<W: Write>(writer: &mut W, window: Box2, area: Box2) -> io::Result<(
     )
 }
 
-/// Writes the ring round a box, and an arrow to it where the box is small.
+/// Writes the ring around a box, and an arrow to it if the box is small.
 #[tactic(auto, unfolding(crate::specs::Marked::pointers_text))]
 fn put_pointers<W: Write>(writer: &mut W, window: Box2, area: Box2) -> io::Result<()>
     ensures { Adds W.contents writer.old writer.new result (pointers_text window area) }
@@ -198,7 +198,7 @@ fn put_wanted_mark<W: Write>(writer: &mut W, window: Box2, key: &Key) -> io::Res
     put_pointers(writer, window, area)
 }
 
-/// Writes the marker that is wanted, where one is.
+/// Writes the selected marker, if there is one.
 #[tactic(auto, unfolding(crate::specs::Marked::wanted_text))]
 pub(crate) fn put_wanted<W: Write>(
     writer: &mut W,

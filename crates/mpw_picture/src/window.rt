@@ -1,4 +1,4 @@
-//! Windows of pictures.
+//! The windows of pictures.
 ghost use Rattle.std.specs.Prelude.{◌≡◌, ◌≤◌, ◌<◌, ◌^◌, ◌+ℤ◌, ◌-ℤ◌, pos};
 ghost use Rattle.mpw_geom.specs.Plane.{IsBoxInPlane};
 ghost use Rattle.mpw_tiles.specs.Placed.{nearest};
@@ -11,10 +11,10 @@ use mpw_geom::Box2;
 use mpw_markers::Marker;
 use mpw_tiles::Snapshot;
 
-/// The farthest coordinate of the plane, in nm.
+/// The greatest absolute coordinate of the plane, in nm.
 const MAX_COORDINATE: i64 = 1 << 48;
 
-/// A coordinate so many nm below another, or the nearest of the plane.
+/// A coordinate `by` nm below another, or the nearest one of the plane.
 fn below(z: i64, by: u64) -> i64
     ensures { result ≡ nearest (z -ℤ pos by) }
 {
@@ -23,7 +23,7 @@ fn below(z: i64, by: u64) -> i64
         .min(MAX_COORDINATE)
 }
 
-/// A coordinate so many nm above another, or the nearest of the plane.
+/// A coordinate `by` nm above another, or the nearest one of the plane.
 fn above(z: i64, by: u64) -> i64
     ensures { result ≡ nearest (z +ℤ pos by) }
 {
@@ -32,7 +32,7 @@ fn above(z: i64, by: u64) -> i64
         .min(MAX_COORDINATE)
 }
 
-/// A box that is wider by so many nm on each side, as far as the plane goes.
+/// A box extended on each side, as far as the plane reaches.
 #[tactic(auto, unfolding(crate::specs::Windows::widened_in_plane))]
 pub(crate) fn wider_box(area: &Box2, by: u64) -> Box2
     ensures { result ≡ widened_in_plane by area.now }
@@ -45,7 +45,7 @@ pub(crate) fn wider_box(area: &Box2, by: u64) -> Box2
     }
 }
 
-/// The distance of the rule with that place in its deck, in nm; 0 where there is none.
+/// The distance of the rule at index `place` in its deck, in nm; 0 if there is no such rule.
 fn distance_of(rules: &[Rule], place: u32) -> u32
     ensures { result ≡ distance_of rules.now place }
 {
@@ -55,7 +55,7 @@ fn distance_of(rules: &[Rule], place: u32) -> u32
     }
 }
 
-/// How much wider than a marker's box its window is on each side, in nm.
+/// By how much a marker's window exceeds its box on each side, in nm.
 #[tactic(auto, unfolding(crate::specs::Windows::marker_margin))]
 fn marker_margin(distance: u32, area: &Box2) -> u64
     ensures { result ≡ marker_margin distance area.now }
@@ -63,8 +63,8 @@ fn marker_margin(distance: u32, area: &Box2) -> u64
     4 * u64::from(distance) + longer_side(*area) / 4
 }
 
-/// The window round a marker, in nm: its box, wider on each side by 4 times its rule's distance and a quarter of the box's longer side,
-/// as far as the plane of coordinates goes, from -2^48 to 2^48. Constant time; takes no memory.
+/// The window around a marker, in nm: its box, extended on each side by 4 times its rule's distance and a quarter of the box's longer side.
+/// It ends at the borders of the plane, -2^48 to 2^48. Constant time; takes no memory.
 pub fn marker_window(rules: &[Rule], marker: &Marker) -> Box2
     ensures window { result ≡ marker_window rules.now marker.now }
     ensures plane { IsBoxInPlane result }
@@ -74,7 +74,7 @@ pub fn marker_window(rules: &[Rule], marker: &Marker) -> Box2
     wider_box(&area, margin)
 }
 
-/// The box wider by a twentieth of its longer side, and 1 nm.
+/// The box, extended by a twentieth of its longer side plus 1 nm.
 fn around(area: &Box2) -> Box2
     ensures window { result ≡ around area.now }
     ensures plane { IsBoxInPlane result }
@@ -82,8 +82,8 @@ fn around(area: &Box2) -> Box2
     wider_box(area, longer_side(*area) / 20 + 1)
 }
 
-/// The window round all shapes of a snapshot, in nm: the least box that holds them, wider on each side by a twentieth of its
-/// longer side, and 1 nm. Without shapes it lies round the origin. Linear in the roots; takes no memory.
+/// The window around all shapes of a snapshot, in nm: the least box that contains them, extended on each side by a twentieth of its
+/// longer side plus 1 nm. Without shapes it is around the origin. Cost: linear in the roots; takes no memory.
 #[tactic(auto, unfolding(crate::specs::Windows::whole_window))]
 pub fn whole_window(snapshot: &Snapshot) -> Box2
     ensures window { result ≡ whole_window (shown_extent snapshot.now) }

@@ -1,4 +1,4 @@
-//! The whole picture's text.
+//! Writes the whole text of a picture.
 ghost use Rattle.mpw_picture.specs.Text.{paper_text, head_text, picture_text};
 ghost use Rattle.mpw_text.specs.Writing.{Adds};
 
@@ -16,7 +16,7 @@ use mpw_report::put_name;
 use mpw_text::put;
 use std::io::{self, Write};
 
-/// Writes the height of a picture with so many rules.
+/// Writes the height of a picture with `rules` rules.
 #[tactic(auto, unfolding(crate::specs::Text::paper_text))]
 fn put_paper<W: Write>(writer: &mut W, rules: usize, window: Box2) -> io::Result<()>
     ensures { Adds W.contents writer.old writer.new result (paper_text rules window) }
@@ -26,7 +26,7 @@ fn put_paper<W: Write>(writer: &mut W, rules: usize, window: Box2) -> io::Result
     put(writer, &[down.format(paper)])
 }
 
-/// Writes what stands before the titles.
+/// Writes what comes before the titles.
 #[tactic(auto, unfolding(crate::specs::Text::head_text))]
 fn put_head<W: Write>(
     writer: &mut W,
@@ -65,12 +65,12 @@ fn put_all<W: Write>(
     put_part(writer, Part::End)
 }
 
-/// Writes the picture of a structure of the name `top` under these rules, as SVG. A marker whose rule isn't there isn't drawn
-/// one by one. It takes no memory, and costs the text's size, some 25 bytes a rectangle and 40 a marker, for each layer a pass
-/// over the rectangles, and for each rule two over the markers.
+/// Writes the picture of the structure named `top` under these rules, as SVG. If markers are drawn one by one, a marker whose rule isn't among the rules is
+/// left out. It takes no memory. The text has about 25 bytes for each rectangle and 40 for each marker. Cost: linear in the text, and for each layer a pass
+/// over the rectangles, and for each rule two passes over the markers.
 ///
 /// # Errors
-/// The writer's; it then holds a part of the text.
+/// Those of the writer, which then has a part of the text.
 pub fn write_picture<W: Write>(
     writer: &mut W,
     rules: &[Rule],

@@ -1,4 +1,4 @@
--- Runs with just the rows of the pieces, none of which overlaps or touches another one, are the maximal ones.
+-- Runs with exactly the rows of the pieces, none of which overlaps or touches another one, are the maximal ones.
 use Rattle.std.proofs.Common.{◌≡◌, ◌∙◌, ℤ, pos, ◌-ℤ◌, ◌≤ℤ◌, ◌<ℤ◌, List, ◌⊎◌, inl, inr, refl, sym, subst, ap, arith}
 use Rattle.std.specs.Prelude.{Contains, ◌↔◌}
 use Rattle.std.proofs.lemmas.Int.{ints, by_lt_z}
@@ -17,7 +17,7 @@ module _ (pieces runs : List Key) (h : AreMadeOf pieces runs) where
   filled : (k : Key) → Contains runs k → IsFilled k
   filled k c = All-contains IsFilled runs k h.filled c
 
-  -- two runs of a line are one, or there is a gap between them
+  -- two runs of a line are equal, or there is a gap between them
   gap : (k l : Key) → Contains runs k → Contains runs l → line_of_key k ≡ line_of_key l
       → (k ≡ l) ⊎ ((k.y1 <ℤ l.y0) ⊎ (l.y1 <ℤ k.y0))
   gap k l c d e = elim (one_or_before StandsBefore runs k k l h.ordered c d) [
@@ -121,7 +121,7 @@ module _ (pieces runs : List Key) (h : AreMadeOf pieces runs) where
 
 -- ---- pieces without a row
 
--- the pieces that have a row, in whatever order, have the rows of all
+-- the pieces that have a row, in any order, have the rows of all
 pub made_of_all : (pieces some runs : List Key)
     → ((k : Key) → Contains some k ↔ (Contains pieces k × IsFilled k)) → AreMadeOf some runs
     → AreMadeOf pieces runs

@@ -23,7 +23,7 @@ line_total =
     then_total (on_total line_number nat_cmp_total)
     (then_total (on_total (λ l. l.x1) int_cmp_total) (on_total (λ l. l.x2) int_cmp_total))
 
--- lines of one axis that compare alike are one line
+-- lines of one axis that compare as equal are equal
 line_tied : (a b : Line) → a.axis ≡ b.axis → a.side ≤ 1 → b.side ≤ 1 → line_cmp a b ≡ Equal → a ≡ b
 line_tied a b axis first second e =
     let number : 2 * a.rule + a.side ≡ 2 * b.rule + b.side =
@@ -37,7 +37,7 @@ line_tied a b axis first second e =
 line_before : (a b : Line) → line_cmp a b ≡ Less → a ≡ b → ⊥
 line_before = before_itself line_cmp line_total
 
--- ---- what begins first, and what stands before
+-- ---- what begins first, and what comes before
 
 pub begins_below : (k l : Key) → BeginsFirst k l → line_of_key k ≡ line_of_key l → k.y0 ≤ℤ l.y0
 begins_below k l (inl less) e = absurd (line_before (line_of_key k) (line_of_key l) less e)
@@ -77,7 +77,7 @@ key_by_line k l =
     then_within (nat_cmp (line_number (line_of_key k)) (line_number (line_of_key l)))
     (int_cmp k.x1 l.x1) (int_cmp k.x2 l.x2) (int_cmp k.y0 l.y0)
 
--- runs of which each stands before the later ones are in order
+-- runs of which each comes before the later ones are in order
 less_row : (x y z : ℤ) → x <ℤ y → y <ℤ z → int_cmp x z ≡ Less
 less_row x y z l m = grind (arith, ints)
 
@@ -97,7 +97,7 @@ runs_in_order runs f h i j d less within =
     key_less (get_or runs i d) (get_or runs j d) (f i d (omega (arith, less, within)))
     (h i j d less within)
 
--- what a sort leaves of two keys
+-- what a sort guarantees for two keys
 begins_from_sort : (k l : Key) → k.axis ≡ l.axis → k.side ≤ 1 → l.side ≤ 1
     → is_lt (key_cmp l k) ≡ false → BeginsFirst k l
 begins_from_sort k l axis first second e =

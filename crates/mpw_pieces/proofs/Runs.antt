@@ -1,4 +1,4 @@
--- What one pass over pieces in order makes of them.
+-- The result of one pass over pieces in order.
 use Rattle.std.proofs.Common.{◌≡◌, ◌∙◌, ℕ, suc, zero, ◌+◌, ◌<◌, ◌≤◌, ℤ, pos, ◌≤ℤ◌, ◌<ℤ◌, List, [], ◌∷◌, ◌++◌, get_or, length, drop, append_assoc, ◌⊎◌, inl, inr, refl, sym, subst, ap, arith}
 use Rattle.std.specs.Prelude.{All, AllPairs, Contains, ◌↔◌}
 use Rattle.std.proofs.lemmas.Int.{ints, clamps, by_lt_z}
@@ -14,7 +14,7 @@ use Rattle.mpw_pieces.specs.Pieces.{IsRowOf}
 use Rattle.mpw_pieces.specs.Internal.{IsFilled, lengthened, BeginsFirst, StandsBefore, GoesOn, IsApart, AreRunsFrom, AreRunsOf}
 use Rattle.mpw_pieces.proofs.Order.{begins_below, begins_chain, stands_begins, stands_apart}
 
--- The runs have just the rows of the pieces, and none overlaps or touches another one.
+-- The runs have exactly the rows of the pieces, and none overlaps or touches another one.
 pub record AreMadeOf (pieces runs : List Key) : Type 0 where
   pub filled : All IsFilled runs
   pub ordered : AllPairs StandsBefore runs
@@ -46,7 +46,7 @@ row_later : (k : Key) (ks : List Key) (line : Line) (j : ℤ) → IsRowOf ks lin
 row_later k ks line j h =
     row_of (k ∷ ks) h.piece line j (Contains-tail k ks h.piece h.there) (h.on_line, h.from, h.to)
 
--- a run that was lengthened has the rows of both
+-- an extended run has the rows of both
 lengthened_has : (run piece : Key) (line : Line) (j : ℤ) → GoesOn run piece
     → HasRow (lengthened run piece) line j → HasRow run line j ⊎ HasRow piece line j
 lengthened_has run piece line j g h = by_lt_z j run.y1 (λ within. inl (h.0, h.1, within))
@@ -203,7 +203,7 @@ runs_made (piece ∷ pieces) runs f o h =
 
 -- ---- the loop
 
--- a key to read lists with, where none is asked for
+-- a default key for lists
 abbrev pub no_key : Key
 no_key = record {
   rule = 0;
@@ -215,7 +215,7 @@ no_key = record {
   y1 = pos 0;
 }
 
--- whatever the runs of what is left are, behind those that are done they are the runs of all
+-- whatever the runs of the rest are: appended to those that are done, they are the runs of all
 abbrev pub ComeTo : (first : Key) (rest done : List Key) (run : Key) (i : ℕ) → Type 0
 ComeTo first rest done run i = (others : List Key) → AreRunsFrom run (drop i rest) others
     → AreRunsFrom first rest (done ++ others)

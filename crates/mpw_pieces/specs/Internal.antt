@@ -1,4 +1,4 @@
--- What private functions and proofs need of this: the order of pieces, and how one pass over them makes runs.
+-- For private functions and proofs: the order of pieces, and how one pass over them makes runs.
 use Rattle.std.specs.Prelude.{◌≡◌, ◌+◌, ◌*◌, ℕ, ◌≤ℤ◌, ◌<ℤ◌, Bool, List, [], ◌∷◌, ◌⊎◌, int_lt}
 use Rattle.std.specs.Int.{int_max}
 use Rattle.std.specs.Ordering.{nat_cmp, int_cmp, ordering_then}
@@ -33,18 +33,18 @@ abbrev pub StandsBefore : Key → Key → Type 0
 StandsBefore k l = (line_cmp (line_of_key k) (line_of_key l) ≡ Less)
     ⊎ ((line_of_key k ≡ line_of_key l) × (k.y1 <ℤ l.y0))
 
--- the run, lengthened to the end of the piece
+-- the run, extended to the end of the piece
 abbrev pub lengthened : Key → Key → Key
 lengthened run piece = record run { y1 = int_max run.y1 piece.y1 }
 
--- the piece goes on with the run, or it doesn't
+-- the piece continues the run, or it doesn't
 abbrev pub GoesOn : Key → Key → Type 0
 GoesOn run piece = (line_of_key run ≡ line_of_key piece) × (piece.y0 ≤ℤ run.y1)
 
 abbrev pub IsApart : Key → Key → Type 0
 IsApart run piece = line_of_key run ≡ line_of_key piece → run.y1 <ℤ piece.y0
 
--- the runs that are made of one that has begun and of the pieces that follow
+-- the runs that are made from one that has begun and from the pieces that follow
 abbrev pub AreRunsFrom : Key → (pieces runs : List Key) → Type 0
 AreRunsFrom run [] runs = runs ≡ run ∷ []
 AreRunsFrom run (piece ∷ pieces) runs =

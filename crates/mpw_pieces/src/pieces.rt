@@ -1,4 +1,4 @@
-//! Pieces in order, and the runs that they make.
+//! Sorts pieces, and makes runs from them.
 
 ghost use Rattle.std.specs.Prelude.{◌≡◌, ◌≤◌, ◌↔◌, ◌∷◌, filter, All, Contains, IfOk, IsTrue, MatchBool, int_lt};
 ghost use Rattle.std.specs.List.Sorted.{IsPermutation, IsSorted};
@@ -29,7 +29,7 @@ fn key_order(first: &Key, second: &Key) -> Ordering
     lists.then(edges.then(rows))
 }
 
-/// The pieces that have a row.
+/// The pieces that have some row.
 fn with_rows(pieces: Vec<Key>) -> Vec<Key>
     ensures { result.items ≡ filter has_rows pieces.items }
 {
@@ -59,14 +59,14 @@ fn is_on_line_of(run: &Key, piece: &Key) -> bool
     run.line() == piece.line()
 }
 
-/// Whether the piece goes on with the run: it lies on the run's line, and begins at the run's end or before.
+/// Whether the piece continues the run: it lies on the run's line, and begins at the run's end or before.
 fn goes_on(run: &Key, piece: &Key) -> bool
     ensures { MatchBool result (GoesOn run.now piece.now) (IsApart run.now piece.now) }
 {
     is_on_line_of(run, piece) && piece.y0 <= run.y1
 }
 
-/// The run, lengthened to the end of the piece.
+/// The run, extended to the end of the piece.
 fn lengthened(run: &Key, piece: &Key) -> Key
     ensures { result ≡ lengthened run.now piece.now }
 {
@@ -76,7 +76,7 @@ fn lengthened(run: &Key, piece: &Key) -> Key
     }
 }
 
-/// The runs of the first piece and the others, which are in order.
+/// The runs of the first piece and the others. All must be in order.
 fn runs_from(alloc: Global, first: Key, rest: &[Key]) -> Result<Vec<Key>, AllocError>
     ensures { IfOk result (λ v. AreRunsFrom first rest.now v.items) }
 {
@@ -94,7 +94,7 @@ fn runs_from(alloc: Global, first: Key, rest: &[Key]) -> Result<Vec<Key>, AllocE
     Ok(runs)
 }
 
-/// The runs of pieces that are in order.
+/// The runs of pieces, which must be in order.
 fn runs_of(alloc: Global, pieces: &[Key]) -> Result<Vec<Key>, AllocError>
     ensures { IfOk result (λ v. AreRunsOf pieces.now v.items) }
 {
@@ -104,13 +104,13 @@ fn runs_of(alloc: Global, pieces: &[Key]) -> Result<Vec<Key>, AllocError>
     }
 }
 
-/// The maximal runs of the rows that the pieces have, each once, in order. The pieces may be in any order, overlap, and stand there more
-/// than once; those without a row add nothing. All are of one axis, and their sides are 0 or 1.
+/// The maximal runs of the rows that the pieces have, each once, in order. The pieces may be in any order, may overlap and may repeat.
+/// Those without a row add nothing. All must be of one axis, and their sides 0 or 1.
 ///
-/// The cost is that of a sort, in place, and of one pass. The result has room for as many runs as there are pieces with a row.
+/// Cost: a sort, in place, and one pass. The result has room for as many runs as there are pieces with a row.
 ///
 /// # Errors
-/// Want of memory.
+/// Out of memory.
 pub fn joined(alloc: Global, pieces: Vec<Key>) -> Result<Vec<Key>, AllocError>
     requires axis { (k l : KeyValue) → Contains pieces.items k → Contains pieces.items l → k.axis ≡ l.axis }
     requires sides { All (λ k. k.side ≤ 1) pieces.items }

@@ -1,4 +1,4 @@
--- What an accepted change says: each test was passed, and what the table is then.
+-- What an accepted change says: each test passed, and the table after it.
 use Rattle.std.proofs.Common.{◌≡◌, ℕ, ◌+◌, ◌^◌, Bool, true, false, not, List, [], ◌∷◌, ◌++◌, length, Option, Some, None, Ok, Err, refl}
 use Rattle.std.specs.Prelude.{nat_lt, nat_le, filter, if◌then◌else◌}
 use Rattle.mpw_geom.specs.declared.placing.Placing.{Placing}
@@ -71,7 +71,7 @@ placed_is ss ps after cell label placing e = go (present ss cell) refl e
     go None is e = absurd cc
     go (Some number) is e = root_is ss ps after cell label placing number is e
 
--- and so of what was taken away
+-- the same for a removed placement
 pub unplaced_is : (ps after : List Placement) (cell label : List ℕ)
     → placings_without ps cell label ≡ Ok after → after ≡ filter (λ p. not (is_at cell label p)) ps
 unfolding placings_without

@@ -1,4 +1,4 @@
--- What is true of placings stays so at each change, and when the shelf grows.
+-- What holds of placements is preserved at each change, and when the shelf grows.
 use Rattle.std.proofs.Common.{◌≡◌, ℕ, ◌+◌, ◌^◌, ◌<◌, ◌≤◌, Bool, false, not, List, [], ◌∷◌, ◌++◌, length, Ok, refl, sym, ap, subst, ◌∙◌, arith}
 use Rattle.std.specs.Prelude.{All, filter, ◌↔◌, nat_lt, nat_le}
 use Rattle.std.specs.List.{fold}
@@ -106,7 +106,7 @@ place_kept present_are ss ps after cell label placing kept e =
     subst (ArePlacings ss) (sym is.all)
     (place_more ss ps after cell label placing present_are kept is)
 
--- ---- one less
+-- ---- one fewer
 
 filter_kept : (ss : List Submission) (ps : List Placement) (keep : Placement → Bool)
     → ArePlacings ss ps → ArePlacings ss (filter keep ps)

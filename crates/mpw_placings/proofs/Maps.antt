@@ -1,4 +1,4 @@
--- What a map of placings finds, adds and takes away, as what these do to the list of its placings.
+-- What a map of placements finds, adds and removes, in terms of the list of its placements.
 use Rattle.std.proofs.Common.{◌≡◌, ℕ, suc, Bool, true, false, cond, not, ◌&&◌, ◌||◌, List, [], ◌∷◌, ◌++◌, get_or, Some, None, is_some, refl, sym, ap, subst, ◌∙◌, append_assoc, append-nil, arith}
 use Rattle.std.specs.Prelude.{All, AllPairs, filter, if◌then◌else◌}
 use Rattle.std.specs.List.{find}
@@ -30,7 +30,7 @@ not_both true true h = absurd (h refl refl)
 
 -- ---- values
 
--- the roots of a map are those of its placings
+-- the roots of a map are those of its placements
 pub roots_is : (es : List (PlacementName × Root)) → values_of es ≡ roots_of (placements_of es)
 roots_is [] = refl
 roots_is (e ∷ es) = ap (λ l. e.1 ∷ l) (roots_is es)
@@ -50,7 +50,7 @@ lookup_is cell label (e ∷ es) = by (is_named cell label e.0) (lookup_is cell l
     by true rest = refl
     by false rest = rest
 
--- there is a root exactly where there is a placing
+-- there is a root exactly if there is a placement
 pub taken_is : (ps : List Placement) (cell label : List ℕ)
     → is_some (root_at ps cell label) ≡ is_taken ps cell label
 taken_is [] cell label = refl
@@ -101,7 +101,7 @@ pub apart_right : (xs ys : List Placement) → AllPairs DifferInName (xs ++ ys)
 apart_right [] ys apart = apart
 apart_right (x ∷ xs) ys apart = apart_right xs ys (apart_rest x (xs ++ ys) apart)
 
--- what stands behind some placings has another name than each
+-- a placement after others has another name than each
 new_behind : (ps : List Placement) (q : Placement) (rest : List Placement)
     → AllPairs DifferInName (ps ++ q ∷ rest) → is_taken ps q.cell q.label ≡ false
 new_behind [] q rest apart = refl
@@ -116,7 +116,7 @@ new_behind (p ∷ ps) q rest apart =
 abbrev same_name : PlacementName → PlacementName → Bool
 same_name a b = name_eq a.cell b.cell && name_eq a.label b.label
 
--- a new name goes last
+-- a new name is added at the end
 inserted : (es : List (PlacementName × Root)) (name : PlacementName) (root : Root)
     → is_taken (placements_of es) name.cell name.label ≡ false
     → insert_entry same_name es name root ≡ es ++ (name, root) ∷ []
@@ -159,7 +159,7 @@ pub placings_inserted : (es fs : List (PlacementName × Root))
 placings_inserted es fs apart = ap placements_of (all_inserted es fs apart)
     ∙ map-append placement_of es fs
 
--- ---- one less
+-- ---- one fewer
 
 all_kept : (test : Placement → Bool) (ps : List Placement) → All (λ p. test p ≡ false) ps
     → filter (λ p. not (test p)) ps ≡ ps
@@ -169,7 +169,7 @@ all_kept test (p ∷ ps) none =
     ap (λ b. cond (not b) (p ∷ kept) kept) (All-head (λ q. test q ≡ false) p ps none)
     ∙ ap (λ l. p ∷ l) (all_kept test ps (All-tail (λ q. test q ≡ false) p ps none))
 
--- where there is none of that cell and label, all stay
+-- if there is none of that cell and label, all stay
 pub none_removed : (cell label : List ℕ) (ps : List Placement) → None ≡ root_at ps cell label
     → ps ≡ filter (λ p. not (is_at cell label p)) ps
 none_removed cell label [] none = refl
@@ -184,7 +184,7 @@ none_removed cell label (p ∷ ps) none = by (is_at cell label p) none (none_rem
     by true none rest = absurd cc
     by false none rest = ap (λ l. p ∷ l) (rest none)
 
--- the first placing of that cell and label is the only one
+-- the first placement of that cell and label is the only one
 pub placing_removed : (cell label : List ℕ) (es : List (PlacementName × Root))
     → AllPairs DifferInName (placements_of es)
     → placements_of (remove_entry (is_named cell label) es)

@@ -1,4 +1,4 @@
--- Settled placings and the latest ones, as one list.
+-- Settled placements and the latest ones, as one list.
 use Rattle.std.proofs.Common.{◌≡◌, ℕ, ◌<◌, ◌≤◌, Bool, true, false, cond, not, List, [], ◌∷◌, ◌++◌, length, Some, None, refl, sym, ap, subst, ◌∙◌, append_assoc, arith}
 use Rattle.std.specs.Prelude.{AllPairs, filter}
 use Rattle.std.specs.List.{find}
@@ -18,7 +18,7 @@ use Rattle.mpw_placings.proofs.Tests.{apart_from_all}
 
 -- ---- what is found
 
--- the root under a cell and a label is that of the settled ones where they have one, and else that of the latest
+-- the root under a cell and a label is that of the settled ones if they have one, else that of the latest
 pub root_settled : (xs ys : List Placement) (cell label : List ℕ) (root : Root)
     → Some root ≡ root_at xs cell label → Some root ≡ root_at (xs ++ ys) cell label
 root_settled [] ys cell label root e = absurd cc
@@ -48,7 +48,7 @@ root_latest (x ∷ xs) ys cell label e = by (is_at cell label x) e (root_latest 
 
 -- ---- a change
 
--- where all placings are the settled and the latest ones, one more goes behind both
+-- if all placements are the settled and the latest ones, one more comes after both
 module _ (settled latest all : List Placement) (is : settled ++ latest ≡ all) where
   pub one_more : (p : Placement) → IsTable settled latest → is_taken all p.cell p.label ≡ false
       → length all < 4096 → IsTable (settled ++ latest) (p ∷ [])
@@ -73,7 +73,7 @@ module _ (settled latest all : List Placement) (is : settled ++ latest ≡ all) 
       (sym (list_any-append (is_at cell label) settled latest)
       ∙ ap (λ ps. is_taken ps cell label) is ∙ new)).1
 
--- and what is left of each part is left of the whole
+-- and removing from each part removes from the whole
 pub some_less : (settled latest : List Placement) (keep : Placement → Bool)
     → IsTable settled latest → IsTable (filter keep settled) (filter keep latest)
 some_less settled latest keep table =

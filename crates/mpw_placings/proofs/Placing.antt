@@ -1,4 +1,5 @@
--- What placing gives, by the two calls that decide it: which number the cell's present submission has, and the refusal.
+-- The result of placing, by the two calls that decide it: the number of the cell's present submission, and
+-- the refusal.
 use Rattle.std.proofs.Common.{◌≡◌, ℕ, ◌+◌, ◌^◌, ◌<◌, false, length, List, [], ◌∷◌, ◌++◌, Option, Some, None, Ok, Err, sym, ap, ◌∙◌}
 use Rattle.std.specs.Prelude.{nat_lt, nat_le}
 use Rattle.std.proofs.lemmas.Bool.{leb-false}
@@ -39,7 +40,7 @@ module _ (ss : List Submission) (ps : List Placement) (cell label : List ℕ) (p
       ≡ Ok (ps ++ record { cell = cell; label = label; root = rooted number placing } ∷ [])
   placed number e f = decided number None e f
 
-  -- what isn't refused is new
+  -- a placement that isn't refused is new
   pub is_new : (number : ℕ) → None ≡ refusal ss ps cell label (rooted number placing)
       → is_taken ps cell label ≡ false
   is_new number e = (first_none (is_taken ps cell label) Known _ (sym e)).0

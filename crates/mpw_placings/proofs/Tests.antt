@@ -1,4 +1,4 @@
--- The tests of a placing, as what they mean.
+-- What the tests of a placement mean.
 use Rattle.std.proofs.Common.{◌≡◌, ℕ, ◌<◌, Bool, true, false, not, ◌&&◌, List, length, get_or, Option, Some, None, refl, ap, ◌∙◌}
 use Rattle.std.specs.Prelude.{IfSome, IsTrue, ◌↔◌, option_map}
 use Rattle.std.specs.Cmp.Lexicographic.{bytes_decides}
@@ -34,7 +34,7 @@ test_from_near : (t : Placing) (extent : Option Box2) → IsNear t extent
 test_from_near t None near = refl
 test_from_near t (Some box) near = ap not near
 
--- what isn't far fits
+-- a placement that isn't far fits
 pub root_from_test : (ss : List Submission) (root : Root) → root.submission < length ss
     → is_far (root_extent ss root) ≡ false → IsRoot ss root
 root_from_test ss root within e = record {
@@ -42,7 +42,7 @@ root_from_test ss root within e = record {
   near = near_from_test root.placing (extent ss root.submission) e;
 }
 
--- and what fits isn't far
+-- and one that fits isn't far
 pub far_is : (ss : List Submission) (root : Root) (fits : Bool) → root.submission < length ss
     → IsTrue fits ↔ IsRoot ss root → not fits ≡ is_far (root_extent ss root)
 far_is ss root fits within same = go fits refl (is_far (root_extent ss root)) refl
@@ -60,14 +60,14 @@ far_is ss root fits within same = go fits refl (is_far (root_extent ss root)) re
 both_and : (a b : Bool) → a ≡ true → b ≡ true → (a && b) ≡ true
 both_and a b e f = ap (λ c. c && b) e ∙ f
 
--- a placing is of its own cell and label
+-- a placement has its own cell and label
 pub is_at_itself : (cell label : List ℕ) (p : Placement) → p.cell ≡ cell → p.label ≡ label
     → is_at cell label p ≡ true
 is_at_itself cell label p c l =
     both_and (name_eq p.cell cell) (name_eq p.label label) ((bytes_decides p.cell cell).1 c)
     ((bytes_decides p.label label).1 l)
 
--- what has another name than all is apart from each
+-- a name that differs from all others differs from each
 pub apart_from_all : (ps : List Placement) (p : Placement) → is_taken ps p.cell p.label ≡ false
     → (k : ℕ) (d : Placement) → k < length ps → DifferInName (get_or ps k d) p
 apart_from_all ps p new k d within = λ c l.

@@ -1,3 +1,3 @@
--- What private functions and proofs alone need: no public contract speaks of it.
+-- Definitions for private functions and proofs alone. No public contract uses them.
 pub mod Maps
 pub mod Names

@@ -1,4 +1,4 @@
--- What holds of every table of placings that the rows make.
+-- What holds of every table of placements that the decision tables make.
 use Rattle.std.specs.Prelude.{[], ◌≡◌, ℕ, List, ◌++◌, Ok}
 use Rattle.mpw_geom.specs.declared.placing.Placing.{Placing}
 use Rattle.mpw_hier.specs.declared.submission.Submission.{Submission}
@@ -7,7 +7,7 @@ use Rattle.mpw_placings.specs.declared.placement.Placement.{Placement}
 use Rattle.mpw_placings.specs.Placements.{roots_of, ArePlacings}
 use Rattle.mpw_placings.specs.Rows.{placings_with, placings_without}
 
--- ---- what is true of placings stays so
+-- ---- what holds of placements is preserved
 
 abbrev pub NoneArePlacings : Type 0
 NoneArePlacings = (ss : List Submission) → ArePlacings ss []
@@ -27,7 +27,7 @@ LaterShelvesKeep =
     (ss later : List Submission) (ps : List Placement) → ArePlacings ss ps
     → ArePlacings (ss ++ later) ps
 
--- Later submissions change nothing of what placings show.
+-- Later submissions don't change the shapes of placements.
 abbrev pub PlacedAreShownAgain : Type 0
 PlacedAreShownAgain =
     (ss later : List Submission) (ps : List Placement)

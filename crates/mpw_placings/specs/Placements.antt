@@ -1,4 +1,4 @@
--- The placements on the wafer, here called placings. Each is known by its cell and label together.
+-- The placements on the wafer, here called placings. A cell and a label together identify each.
 use Rattle.std.specs.Prelude.{◌≡◌, ◌≢◌, ℕ, ◌≤◌, ◌^◌, Bool, false, ◌&&◌, not, List, map, slice_get, All, AllPairs, Option, Some, None}
 use Rattle.std.specs.List.{list_any, find, sum_by}
 use Rattle.mpw_geom.specs.Names.{name_eq}
@@ -12,23 +12,23 @@ use Rattle.mpw_tiles.specs.Snapshots.{AreRoots}
 use Rattle.mpw_placings.specs.declared.placement.Placement.{Placement}
 use Rattle.mpw_placings.specs.declared.placement.PlacementRef.{PlacementRef}
 
--- The placing that is lent.
+-- The placement that is lent.
 abbrev pub placement_shown : PlacementRef → Placement
 placement_shown p = record { cell = p.cell.now; label = p.label.now; root = p.root }
 
--- Whether the placing is of that cell and has that label.
+-- Whether the placement has that cell and that label.
 abbrev pub is_at : List ℕ → List ℕ → Placement → Bool
 is_at cell label p = name_eq p.cell cell && name_eq p.label label
 
--- Whether there is a placing of that cell and label.
+-- Whether there is a placement of that cell and label.
 abbrev pub is_taken : List Placement → List ℕ → List ℕ → Bool
 is_taken ps cell label = list_any (is_at cell label) ps
 
--- The placed submissions, in order: cells and labels are no part of what a run looks at.
+-- The placed submissions, in order. A run doesn't see cells and labels.
 abbrev pub roots_of : List Placement → List Root
 roots_of ps = map (λ p. p.root) ps
 
--- How many flat shapes the placings show together.
+-- The number of flat shapes of the placements together.
 abbrev pub shape_count : List Submission → List Placement → ℕ
 shape_count ss ps = sum_by (λ p. count ss p.root.submission) ps
 
@@ -49,16 +49,17 @@ version_placed ss (Some p) = version_of (slice_get ss p.root.submission)
 unfoldable pub version_at : List Submission → List Placement → List ℕ → List ℕ → Option ℕ
 version_at ss ps cell label = version_placed ss (find (is_at cell label) ps)
 
--- Two placings differ in their cells or in their labels.
+-- Two placements differ in their cells or in their labels.
 abbrev pub DifferInName : Placement → Placement → Type 0
 DifferInName p q = p.cell ≡ q.cell → p.label ≢ q.label
 
--- A placing is of a submission of its cell.
+-- A placement is of a submission of its cell.
 abbrev pub IsOfItsCell : List Submission → Placement → Type 0
 IsOfItsCell ss p = IsOfCell ss p.cell p.root.submission
 
--- Placings on a shelf: no two have the same cell and label, each is of a submission of its cell, all show at most 2^20 shapes
--- together, and a snapshot can have their roots: at most 4096, each on the shelf and near where it is placed.
+-- Placements that fit a shelf: no two have the same cell and label, each is of a submission of its cell, all
+-- have at most 2^20 shapes together, and a snapshot can have their roots: at most 4096, each on the shelf and
+-- near its place.
 pub record ArePlacings (ss : List Submission) (ps : List Placement) : Type 0 where
   pub apart : AllPairs DifferInName ps
   pub cells : All (IsOfItsCell ss) ps

@@ -1,4 +1,4 @@
--- What placing and taking away make of a table of placings, with the tests of each in order.
+-- How placing and removing change a table of placements, with the tests of each in order.
 use Rattle.std.specs.Prelude.{◌≡◌, ℕ, ◌+◌, ◌^◌, not, nat_lt, nat_le, List, [], ◌∷◌, ◌++◌, length, filter, Option, Some, None, Result, Ok, Err, if◌then◌else◌}
 use Rattle.mpw_geom.specs.declared.placing.Placing.{Placing}
 use Rattle.mpw_hier.specs.declared.submission.Submission.{Submission}
@@ -11,8 +11,9 @@ use Rattle.mpw_placings.specs.declared.fault.PlacingFault.TheVariants.{NoCell, K
 use Rattle.mpw_placings.specs.declared.placement.Placement.{Placement}
 use Rattle.mpw_placings.specs.Placements.{is_at, is_taken, is_far, shape_count}
 
--- Why a submission on the shelf can't be placed behind these under that cell and label: the cell has that label already, what
--- the submission shows lies too far where it is placed, all placings together show too many shapes, or there are too many.
+-- Why a submission on the shelf can't be placed after these under that cell and label: the cell has that
+-- label already, a shape of the submission would be too far away, all placements together have too many
+-- shapes, or there are too many.
 abbrev pub refusal : List Submission → List Placement → List ℕ → List ℕ → Root → Option PlacingFault
 refusal ss ps cell label root =
     if is_taken ps cell label then Some Known
@@ -26,7 +27,7 @@ abbrev pub behind : List Placement → Placement → Option PlacingFault
 behind ps p None = Ok (ps ++ p ∷ [])
 behind ps p (Some fault) = Err fault
 
--- The submission of that number goes behind the others, if no test refuses it.
+-- The submission of that number is added after the others, if no test refuses it.
 abbrev pub placed_root : List Submission → List Placement → List ℕ → List ℕ → Root
     → Result (List Placement) PlacingFault
 placed_root ss ps cell label root =
@@ -38,18 +39,18 @@ placed_number ss ps cell label placing None = Err NoCell
 placed_number ss ps cell label placing (Some number) =
     placed_root ss ps cell label (record { submission = number; placing = placing })
 
--- The placings with the present submission of the cell placed under that label.
+-- The placements with the present submission of the cell placed under that label.
 unfoldable pub placings_with : List Submission → List Placement → List ℕ → List ℕ → Placing
     → Result (List Placement) PlacingFault
 placings_with ss ps cell label placing = placed_number ss ps cell label placing (present ss cell)
 
--- The placings without the one of that cell and label.
+-- The placements without the one of that cell and label.
 unfoldable pub placings_without : List Placement → List ℕ → List ℕ
     → Result (List Placement) PlacingFault
 placings_without ps cell label =
     if is_taken ps cell label then Ok (filter (λ p. not (is_at cell label p)) ps) else Err Unknown
 
--- What a change gives is what its row tells, unless memory ran out.
+-- The result of a change is that of its decision table, unless memory ran out.
 abbrev pub Refuses : PlacingFault → Result (List Placement) PlacingFault → Type 0
 Refuses Memory told = Unit {0}
 Refuses fault told = told ≡ Err fault

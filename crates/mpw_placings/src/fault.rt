@@ -1,4 +1,4 @@
-//! Why a submission can't be placed, or a placing not be taken away.
+//! Why a submission can't be placed, or a placement can't be removed.
 
 ghost use Rattle.std.specs.Prelude.{◌≡◌};
 ghost use Rattle.mpw_placings.specs.declared.fault.PlacingFault.TheVariants.{Memory};
@@ -6,28 +6,28 @@ ghost use Rattle.mpw_placings.specs.declared.fault.PlacingFault.TheVariants.{Mem
 use std::alloc::AllocError;
 use thiserror::Error;
 
-/// Why a submission can't be placed, in the order of the tests, or a placing not be taken away.
+/// Why a submission can't be placed, in the order of the tests, or a placement can't be removed.
 #[derive(Clone, Copy, Debug, PartialEq, Eq, Error)]
 pub enum PlacingFault {
     /// The cell has no submission.
     #[error("the cell has no submission")]
     NoCell,
-    /// There is a placing of that cell and label.
+    /// There is a placement of that cell and label.
     #[error("the cell is placed under that label already")]
     Known,
-    /// What the submission shows would reach beyond 2^30 nm.
+    /// A shape of the submission would reach beyond 2^30 nm.
     #[error("a shape would lie beyond 2^30 nm")]
     Extent,
-    /// All placings together would show more than 2^20 flat shapes.
+    /// All placements together would have more than 2^20 flat shapes.
     #[error("more than 2^20 shapes")]
     Shapes,
-    /// There are 4096 placings.
+    /// There are 4096 placements.
     #[error("there are 4096 placings already")]
     Full,
-    /// There is no placing of that cell and label.
+    /// There is no placement of that cell and label.
     #[error("the cell is not placed under that label")]
     Unknown,
-    /// There was no room; the placings are as they were.
+    /// Memory ran out. The placements are unchanged.
     #[error("out of memory")]
     Memory,
 }

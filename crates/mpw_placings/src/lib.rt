@@ -1,10 +1,9 @@
-//! The placings on the wafer: which submissions are placed, and where.
+//! The placements on the wafer, here called placings: which submissions are placed, and where.
 //!
-//! A placing is known by its cell and its label together, and keeps the submission that was the cell's
-//! present one when it was made. [`Placings`] is the table of them, which copies share: [`Placings::place`]
-//! and [`Placings::unplace`] make the changed table and leave the old one. What is true of each table that
-//! they make, on its shelf and on that shelf after others have come, is the law [`each_change_keeps`]:
-//! so a run's snapshot can have [`Placings::roots`] without a further test. [`Wafer`] has them beside the deck of their checks.
+//! A placement is identified by its cell and its label together. It has the submission that was the cell's present one when it was made.
+//! [`Placings`] is the table of them, which copies share. [`Placings::place`] and [`Placings::unplace`] make the changed table and leave
+//! the old one unchanged. The law [`each_change_keeps`] says what holds of each table that they make, on its shelf and on that shelf after
+//! later submissions. So a run's snapshot can have [`Placings::roots`] without a further test. [`Wafer`] has the table and the deck.
 #![tactic(auto)]
 
 mod fault;

@@ -1,4 +1,4 @@
-//! The tests that a placing passes before it stands in the table. None takes memory.
+//! The tests that a placement passes before it is added to the table. None takes memory.
 
 ghost use Rattle.std.specs.Prelude.{◌≡◌, ◌<◌, ◌≤◌, ◌^◌, length};
 ghost use Rattle.mpw_walk.specs.Roots.{root_extent, roots_count};
@@ -7,7 +7,7 @@ ghost use Rattle.mpw_placings.specs.Placements.{is_far};
 use mpw_hier::Shelf;
 use mpw_walk::Root;
 
-/// Whether what a submission on the shelf shows reaches beyond -2^30 to 2^30 nm where it is placed.
+/// Whether a shape of a submission on the shelf reaches beyond -2^30 to 2^30 nm at its place.
 pub(crate) fn is_far(shelf: &Shelf, root: &Root) -> bool
     requires { root.now.submission < length shelf.now }
     ensures { result ≡ is_far (root_extent shelf.now root.now) }
@@ -15,10 +15,10 @@ pub(crate) fn is_far(shelf: &Shelf, root: &Root) -> bool
     !root.fits(shelf)
 }
 
-/// The most flat shapes that all placings on a wafer may show together, 2^20. (A snapshot may show more.)
+/// The most flat shapes of all placements on a wafer together, 2^20. (A snapshot may have more.)
 pub const MAX_SHAPES: u64 = 1 << 20;
 
-/// How many flat shapes the roots show. Linear in the roots.
+/// The number of flat shapes of the roots. Linear in the roots.
 pub(crate) fn shape_count(shelf: &Shelf, roots: &[Root]) -> u64
     requires { length roots.now ≤ 4096 }
     ensures count { result ≡ roots_count shelf.now roots.now }

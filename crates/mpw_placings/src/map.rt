@@ -1,7 +1,7 @@
-//! Placings in a map that copies share.
+//! Placements in a map that copies share.
 //!
-//! The map has them in the order in which they were made, and finds one by its cell and its label. It never changes: with one
-//! more or one less it is made anew, which takes a hash for each.
+//! The map has them in the order in which they were made, and finds one by its cell and its label. It never changes. Adding or removing one
+//! makes a new map, with a hash for each.
 
 ghost use Rattle.std.specs.Prelude.{◌≡◌, ◌++◌, ◌∷◌, [], AllPairs, false, filter, not, length, slice_get, IfOk};
 ghost use Rattle.std.specs.Option.{option_map};
@@ -17,9 +17,9 @@ use std::alloc::{AllocError, Global};
 use std::marker::Model;
 use std::sync::Arc;
 
-/// Placings in order, no two of the same cell and label, which contracts see as that list.
+/// Placements in order, no two of the same cell and label. Contracts see that list.
 pub(crate) struct PlacementMap {
-    /// None without placings.
+    /// None if there are no placements.
     roots: Option<Arc<IndexMap<PlacementName, Root>>>,
 }
 
@@ -42,14 +42,14 @@ impl Model for PlacementMap {
 }
 
 impl PlacementMap {
-    /// The map without placings. It takes no memory.
+    /// The map without placements. It takes no memory.
     pub(crate) fn new() -> PlacementMap
         ensures { result ≡ [] }
     {
         PlacementMap { roots: None }
     }
 
-    /// How many placings there are.
+    /// The number of placements.
     pub(crate) fn len(&self) -> usize
         ensures { result ≡ length self.now }
     {
@@ -70,7 +70,7 @@ impl PlacementMap {
         }
     }
 
-    /// The placing at a place.
+    /// The placement at an index.
     pub(crate) fn get(&self, place: usize) -> Option<PlacementRef<'_>>
         ensures { option_map placement_shown result ≡ slice_get self.now place }
     {
@@ -87,7 +87,7 @@ impl PlacementMap {
         }
     }
 
-    /// The root of the placing under that cell and label: a hash and a comparison.
+    /// The root of the placement under that cell and label. Cost: a hash and a comparison.
     pub(crate) fn root(&self, cell: &Name, label: &Name) -> Option<Root>
         ensures { result ≡ root_at self.now cell.now label.now }
     {
@@ -97,7 +97,7 @@ impl PlacementMap {
         }
     }
 
-    /// The same placings: a count.
+    /// The same placements. Cost: a count.
     pub(crate) fn copy(&self) -> Result<PlacementMap, AllocError>
         ensures { IfOk result (λ map. map ≡ self.now) }
     {
@@ -106,7 +106,7 @@ impl PlacementMap {
         })
     }
 
-    /// A map of its own of the same placings: a hash for each.
+    /// An unshared map of the same placements. Cost: a hash for each.
     fn own_roots(&self, alloc: Global) -> Result<IndexMap<PlacementName, Root>, AllocError>
         ensures { IfOk result (λ roots. placements_of roots.entries ≡ self.now) }
     {
@@ -116,7 +116,7 @@ impl PlacementMap {
         }
     }
 
-    /// The placings with another behind them: a hash for each.
+    /// The placements with another after them. Cost: a hash for each.
     pub(crate) fn with(
         &self,
         alloc: Global,
@@ -133,7 +133,7 @@ impl PlacementMap {
         })
     }
 
-    /// The placings with others behind them: a hash for each.
+    /// The placements with others after them. Cost: a hash for each.
     pub(crate) fn joined(
         &self,
         alloc: Global,
@@ -150,7 +150,7 @@ impl PlacementMap {
         })
     }
 
-    /// The placings without the one of that cell and label: a hash for each, or a count where there is none.
+    /// The placements without the one of that cell and label. Cost: a hash for each, or a count if there is none.
     pub(crate) fn without(
         &self,
         alloc: Global,

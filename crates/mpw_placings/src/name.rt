@@ -1,4 +1,4 @@
-//! What a placing is known by: its cell and its label together.
+//! What identifies a placement: its cell and its label together.
 
 ghost use Rattle.std.specs.Prelude.{◌≡◌};
 
@@ -6,7 +6,7 @@ use indexmap::Equivalent;
 use mpw_geom::Name;
 use std::alloc::AllocError;
 
-/// A cell and a label, by which a map finds the placing of them.
+/// A cell and a label, by which a map finds their placement.
 #[derive(PartialEq, Eq, Hash)]
 pub(crate) struct PlacementName {
     pub(crate) cell: Name,
@@ -32,7 +32,7 @@ impl Clone for PlacementName {
     }
 }
 
-/// A cell and a label that are lent, to look up the placing of them: so a look-up copies no name.
+/// A borrowed cell and label, to look up their placement. So a look-up copies no name.
 #[derive(Clone, Copy, PartialEq, Eq, Hash)]
 pub(crate) struct PlacementNameRef<'a> {
     pub(crate) cell: &'a Name,

@@ -1,4 +1,4 @@
-//! One placing on the wafer.
+//! One placement on the wafer.
 
 ghost use Rattle.std.specs.Prelude.{◌≡◌};
 ghost use Rattle.mpw_placings.specs.Internal.Maps.{placement_of};
@@ -7,11 +7,11 @@ use crate::name::PlacementName;
 use mpw_geom::Name;
 use mpw_walk::Root;
 
-/// A submission that is placed on the wafer. It is known by its cell and its label together.
+/// A submission that is placed on the wafer. Its cell and its label together identify it.
 pub struct Placement {
     /// The cell of the submission.
     pub cell: Name,
-    /// A name of which the cell has no other placement.
+    /// The label. The cell has no other placement with this label.
     pub label: Name,
     /// The submission, by number, with its orientation and displacement.
     pub root: Root,
@@ -30,7 +30,7 @@ impl Drop for Placement {
 }
 
 impl Placement {
-    /// What it is known by, and what is placed.
+    /// What identifies it, and what is placed.
     pub(crate) fn into_entry(self) -> (PlacementName, Root)
         ensures { placement_of result ≡ self }
     {
@@ -39,12 +39,12 @@ impl Placement {
     }
 }
 
-/// A placing as the table lends it.
+/// A placement as the table lends it.
 #[derive(Clone, Copy)]
 pub struct PlacementRef<'a> {
     /// The cell of the submission.
     pub cell: &'a Name,
-    /// A name of which the cell has no other placement.
+    /// The label. The cell has no other placement with this label.
     pub label: &'a Name,
     /// The submission, by number, with its orientation and displacement.
     pub root: Root,

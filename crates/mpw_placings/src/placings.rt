@@ -1,7 +1,7 @@
-//! The table of placings, which copies share. A change makes a new one.
+//! The table of placements, which copies share. A change makes a new one.
 //!
-//! Most placings stand in a map that copies share, and the latest in a small one beside it: so one more copies the small map
-//! alone. Where that is full, the next placing makes a map of all, of which each of the latest so pays a part.
+//! Most placements are in a map that copies share, and the latest in a small map next to it. So adding one copies the small map alone. If
+//! that is full, the next placement makes a map of all. Each of the latest pays for a part of it.
 
 ghost use Rattle.std.specs.Prelude.{◌≡◌, ◌<◌, ◌≤◌, ◌^◌, ◌++◌, ◌∷◌, [], false, length, slice_get, IfOk};
 ghost use Rattle.std.specs.Option.{option_map};
@@ -20,11 +20,10 @@ use mpw_walk::Root;
 use std::alloc::{AllocError, Global};
 use std::marker::Model;
 
-/// How many placings stand beside the settled ones at most.
+/// The greatest number of placements next to the settled ones.
 const LATEST: usize = 32;
 
-/// Placings in the order in which they were made, at most 4096, which contracts see as that list. Copies
-/// share them.
+/// Placements in the order in which they were made, at most 4096. Contracts see that list. Copies share them.
 pub struct Placings {
     settled: PlacementMap,
     /// Those that were made after the settled ones.
@@ -52,7 +51,7 @@ impl Model for Placings {
 }
 
 impl Placings {
-    /// The table without placings. Takes no memory.
+    /// The table without placements. It takes no memory.
     pub fn new(_alloc: Global) -> Placings
         ensures { result ≡ [] }
     {
@@ -62,7 +61,7 @@ impl Placings {
         }
     }
 
-    /// How many placings there are, 0 to 4096.
+    /// The number of placements, 0 to 4096.
     pub fn len(&self) -> usize
         ensures len { result ≡ length self.now }
         ensures few { length self.now ≤ 4096 }
@@ -70,7 +69,7 @@ impl Placings {
         self.settled.len() + self.latest.len()
     }
 
-    /// The placing at a place, from 0 in the order in which they were made; none from their number on. Takes no memory.
+    /// The placement at an index, from 0 in the order in which they were made. None from their number on. It takes no memory.
     pub fn get(&self, place: usize) -> Option<PlacementRef<'_>>
         ensures { option_map placement_shown result ≡ slice_get self.now place }
     {
@@ -82,10 +81,10 @@ impl Placings {
         }
     }
 
-    /// The same placings, in constant time and without further memory.
+    /// The same placements. Constant time; it takes no memory.
     ///
     /// # Errors
-    /// Where no more copies can be counted.
+    /// No more copies can be counted.
     pub fn copy(&self) -> Result<Placings, AllocError>
         ensures { IfOk result (λ placings. placings ≡ self.now) }
     {
@@ -95,10 +94,10 @@ impl Placings {
         })
     }
 
-    /// The placed submissions, in order, as a run's snapshot has them. Linear in the placings.
+    /// The placed submissions, in order, as a run's snapshot has them. Linear in the placements.
     ///
     /// # Errors
-    /// Want of memory.
+    /// Out of memory.
     pub fn roots(&self, alloc: Global) -> Result<Vec<Root>, AllocError>
         ensures { IfOk result (λ roots. roots.items ≡ roots_of self.now) }
     {
@@ -108,7 +107,7 @@ impl Placings {
         Ok(roots)
     }
 
-    /// The root of the placing under that cell and label: a hash and a comparison in each map.
+    /// The root of the placement under that cell and label. Cost: a hash and a comparison in each map.
     fn root(&self, cell: &Name, label: &Name) -> Option<Root>
         ensures { result ≡ root_at self.now cell.now label.now }
     {
@@ -118,15 +117,15 @@ impl Placings {
         }
     }
 
-    /// Whether a placing is of that cell and has that label: two hashes at most.
+    /// Whether a placement has that cell and that label. Cost: at most two hashes.
     fn is_taken(&self, cell: &Name, label: &Name) -> bool
         ensures { result ≡ is_taken self.now cell.now label.now }
     {
         self.root(cell, label).is_some()
     }
 
-    /// The version of the submission that is placed under that cell and label; none where there is no such
-    /// placing. It takes two hashes at most, and no memory.
+    /// The version of the submission that is placed under that cell and label, or none if there is no such placement. Cost: at most two
+    /// hashes. It takes no memory.
     #[tactic(auto, unfolding(crate::specs::Placements::version_at))]
     pub fn version(&self, shelf: &Shelf, cell: &Name, label: &Name) -> Option<u32>
         ensures { result ≡ version_at shelf.now self.now cell.now label.now }
@@ -136,7 +135,7 @@ impl Placings {
         Some(submission.version)
     }
 
-    /// How many flat shapes all placings show. Linear in the placings.
+    /// The number of flat shapes of all placements. Linear in the placements.
     fn shape_count(&self, shelf: &Shelf) -> u64
         ensures count { result ≡ shape_count shelf.now self.now }
         ensures most { result ≤ 2 ^ 53 }
@@ -144,7 +143,7 @@ impl Placings {
         shape_count(shelf, self.settled.roots()) + shape_count(shelf, self.latest.roots())
     }
 
-    /// The first test that a placing under that cell and label doesn't pass.
+    /// The first test that a placement under that cell and label doesn't pass.
     fn refusal(&self, shelf: &Shelf, cell: &Name, label: &Name, root: &Root) -> Option<PlacingFault>
         requires { root.now.submission < length shelf.now }
         ensures { result ≡ refusal shelf.now self.now cell.now label.now root.now }
@@ -164,7 +163,7 @@ impl Placings {
         None
     }
 
-    /// The table with a placing behind the others: a hash for each of the latest, or for each of all where these are many.
+    /// The table with a placement after the others. Cost: a hash for each of the latest, or for each of all if there are many of these.
     fn with(&self, alloc: Global, placement: Placement) -> Result<Placings, AllocError>
         requires new { is_taken self.now placement.cell placement.label ≡ false }
         requires room { length self.now < 4096 }
@@ -183,14 +182,13 @@ impl Placings {
         }
     }
 
-    /// The table with the cell's present submission placed behind the others under that label. This table
-    /// stays as it is. Linear in the placings, whose shapes are counted; at one in 32 it hashes each placing.
+    /// The table with the cell's present submission placed after the others under that label. This table is unchanged. Linear in the
+    /// placements, whose shapes are counted. One call in 32 hashes each placement.
     ///
     /// # Errors
-    /// In this order: `NoCell` where the cell has no submission, `Known` where it is placed under that
-    /// label, `Extent` where what it shows would reach beyond -2^30 to 2^30 nm, `Shapes` where all placings
-    /// together would show more than 2^20 flat shapes, `Full` where there are 4096 placings; or want of
-    /// memory.
+    /// In this order: `NoCell` if the cell has no submission, `Known` if it is placed under that label, `Extent` if a shape would reach
+    /// beyond -2^30 to 2^30 nm, `Shapes` if all placements together would have more than 2^20 flat shapes, `Full` if there are 4096
+    /// placements; or `Memory`.
     #[tactic(auto, unfolding(crate::specs::Rows::placings_with))]
     pub fn place(
         &self,
@@ -221,11 +219,11 @@ impl Placings {
         Ok(self.with(alloc, placement)?)
     }
 
-    /// The table without the placing under that cell and label. This table stays as it is. It hashes each placing, or
-    /// each of the latest where it is one of these.
+    /// The table without the placement under that cell and label. This table is unchanged. It hashes each placement, or each of the latest
+    /// if it is one of these.
     ///
     /// # Errors
-    /// `Unknown` where there is no such placing, or want of memory.
+    /// `Unknown` if there is no such placement, or `Memory`.
     #[tactic(auto, unfolding(crate::specs::Rows::placings_without))]
     pub fn unplace(
         &self,

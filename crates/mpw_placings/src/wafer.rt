@@ -1,4 +1,4 @@
-//! The wafer: what is placed on it, and the deck by which it is checked.
+//! The wafer: the placed cells, and the deck that they are checked by.
 
 ghost use Rattle.std.specs.Prelude.{◌≡◌, [], IfOk, None};
 
@@ -6,11 +6,11 @@ use crate::Placings;
 use mpw_deck::Deck;
 use std::alloc::{AllocError, Global};
 
-/// The placings on the wafer, and the deck that it is checked by, where there is one. Copies share both.
+/// The placements on the wafer, and the deck, if there is one. Copies share both.
 pub struct Wafer {
     /// In the order in which they were made, at most 4096.
     pub placings: Placings,
-    /// The last one that was brought; none at first.
+    /// The last one that was uploaded, or none at first.
     pub deck: Option<Deck>,
 }
 
@@ -33,7 +33,7 @@ fn deck_copy(deck: &Option<Deck>) -> Result<Option<Deck>, AllocError>
 }
 
 impl Wafer {
-    /// The wafer without placings and without a deck. Takes no memory.
+    /// The wafer without placements and without a deck. It takes no memory.
     pub fn new(alloc: Global) -> Wafer
         ensures placings { result.placings ≡ [] }
         ensures deck { result.deck ≡ None }
@@ -44,10 +44,10 @@ impl Wafer {
         }
     }
 
-    /// The same wafer, in constant time and without further memory.
+    /// The same wafer. Constant time; it takes no memory.
     ///
     /// # Errors
-    /// Where no more copies can be counted.
+    /// No more copies can be counted.
     pub fn copy(&self) -> Result<Wafer, AllocError>
         ensures { IfOk result (λ wafer. wafer ≡ self.now) }
     {
@@ -55,10 +55,10 @@ impl Wafer {
         self.with_placings(placings)
     }
 
-    /// The wafer with these placings and the same deck, in constant time and without further memory.
+    /// The wafer with these placements and the same deck. Constant time; it takes no memory.
     ///
     /// # Errors
-    /// Where no more copies can be counted.
+    /// No more copies can be counted.
     pub fn with_placings(&self, placings: Placings) -> Result<Wafer, AllocError>
         ensures placings { IfOk result (λ wafer. wafer.placings ≡ placings) }
         ensures deck { IfOk result (λ wafer. wafer.deck ≡ self.now.deck) }

@@ -1,4 +1,4 @@
--- The acting roles of a connection answer what its session is permitted.
+-- The acting roles of a connection say what its session is permitted.
 use Rattle.std.proofs.Common.{◌≡◌, ℕ, Bool, true, false, ◌||◌, ◌&&◌, List, [], ◌∷◌, filter, None, Some, refl, ap, ◌∙◌}
 use Rattle.std.specs.List.{list_any}
 use Rattle.std.specs.Option.{option_map_or}
@@ -41,7 +41,7 @@ permits-acting p connection operation object =
       | Some s ↦ refl
     ]
 
--- where every session ended, nothing is permitted
+-- if every session ended, nothing is permitted
 pub nothing-permitted : (p : Policy) (connection : ℕ) (operation : Operation) (object : Object)
     → permits (rows.end_sessions p) connection operation object ≡ false
 nothing-permitted p connection operation object = refl

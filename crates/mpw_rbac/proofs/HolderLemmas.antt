@@ -49,7 +49,7 @@ module _ {E : Type 0} (f : E → List Name) where
       ap (λ l. is_broken h l set) (take-entry es i e at)
       ∙ broken-last h (map f (take i es)) (f e) set ∙ (λ j. before j || here j)
 
-  -- one who breaks it is enough
+  -- one holder who breaks it is enough
   pub broken-entry : (h : Hierarchy) (set : SeparationSet) (es : List E) (i : ℕ) (e : E)
       → slice_get es i ≡ Some e → breaks h (f e) set ≡ true → is_broken h (map f es) set ≡ true
   broken-entry h set [] i e at here = cc
@@ -66,7 +66,7 @@ filter-where p q there same (x ∷ xs) all =
     λ i. cond (same x s.0 i) (x ∷ filter-where p q there same xs s.1 i)
     (filter-where p q there same xs s.1 i)
 
--- where the others break no set, only the one who changes can
+-- if the others break no set, only the one that changes can
 module _ {K V : Type 0} (eq : K → K → Bool) (f : V → List Name) where
   any-changed : (test : V → Bool) (es : List (K × V)) (k : K) (v : V) → has_key eq es k ≡ true
       → list_any (λ (e : K × V). test e.1) es ≡ false
@@ -101,7 +101,7 @@ module _ {K V : Type 0} (eq : K → K → Bool) (f : V → List Name) where
       ∙ not_true (is_broken h (map (λ (e : K × V). f e.1) es) set) apart))
       sets holds)
 
--- where the other sets hold, only the new one can be broken
+-- if the other sets hold, only the new one can be broken
 none-broken : (p : SeparationSet → Bool) (sets : List SeparationSet)
     → list_all (λ set. not (p set)) sets ≡ true → filter p sets ≡ []
 none-broken p [] holds = refl

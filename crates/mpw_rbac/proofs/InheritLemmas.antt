@@ -1,4 +1,5 @@
--- A pair that breaks no set is accepted, one that would is refused, and one that is there goes.
+-- A pair that breaks no set is accepted, one that would is refused, and an existing one can be
+-- removed.
 use Rattle.std.proofs.Common.{◌≡◌, ℕ, true, Ok, Err, None, Some, refl, subst}
 use Rattle.mpw_roles.specs.Hierarchy.{Name, Hierarchy, is_immediate, with_pair, without_pair}
 use Rattle.mpw_roles.specs.Rows as roles
@@ -30,7 +31,7 @@ uninherit-ok p connection ok senior junior there =
     let f = administered-facts p connection ok in
     rw (f.0, f.1, there)
 
--- a broken set is told
+-- the refusal names a broken set
 pub holding-static : (p : Policy) (h : Hierarchy) (name : Name)
     → least_broken h p.ssd (assigned_lists p.users) ≡ Some name → holding p h ≡ Err (Ssd name)
 holding-static p h name some = rw some refl
@@ -40,7 +41,7 @@ pub holding-dynamic : (p : Policy) (h : Hierarchy) (name : Name)
     → least_broken h p.dsd (active_lists p.sessions) ≡ Some name → holding p h ≡ Err (Dsd name)
 holding-dynamic p h name none some = rw (none, some) refl
 
--- and is the refusal of the row
+-- and is the refusal of the decision table
 pub inherit-refused : (p : Policy) (connection : ℕ) → rows.administered p connection ≡ Ok p
     → (senior junior : Name) (after : Hierarchy) → roles.inherit p.roles senior junior ≡ Ok after
     → (fault : PolicyFault) → rows.IsFaultOf (holding p after) fault

@@ -1,4 +1,4 @@
--- Each change of the policy keeps what every policy keeps.
+-- Each change of the policy preserves what every policy preserves.
 use Rattle.std.proofs.Common.{[], ◌≡◌, ℕ, Bool, true, false, not, ◌||◌, inl, inr, ◌==◌, List, ◌∷◌, ◌++◌, map, Option, is_some, refl, sym, ap, ◌∙◌, true≢false}
 use Rattle.std.specs.Prelude.{nat_lt}
 use Rattle.std.specs.List.{list_all}
@@ -136,7 +136,7 @@ keep-activate p connection role there dynamic s = record {
   dynamic_proper = s.dynamic_proper;
 }
 
--- one session's active roles are fewer
+-- one session has fewer active roles
 abbrev dropped : Name → Option Session → Session
 dropped role o = record {
   user = option_map_or (λ (s : Session). s.user) o [];
@@ -170,7 +170,7 @@ keep-drop p connection role s =
       dynamic_proper = s.dynamic_proper;
     }
 
--- a set that holds for somebody forbids no one to have nothing
+-- a set that holds for somebody doesn't forbid having nothing
 somebody-positive : {X : Type 0} (h : Hierarchy) (f : X → List Name) (xs : List X)
     (set : SeparationSet) → (xs ≡ [] → ⊥) → is_broken h (map f xs) set ≡ false
     → nat_lt 0 set.cardinality ≡ true

@@ -1,4 +1,4 @@
--- Changes that leave fewer roles to users and sessions keep what every policy keeps.
+-- Changes that leave fewer roles to users and sessions preserve what every policy preserves.
 use Rattle.std.proofs.Common.{[], ◌≡◌, ℕ, Bool, true, false, cond, not, ◌||◌, List, ◌∷◌, ◌++◌, map, filter, Option, refl, sym, ap, ◌∙◌, true≢false}
 use Rattle.std.specs.Prelude.{nat_lt}
 use Rattle.std.specs.List.{list_any, list_all}
@@ -175,7 +175,7 @@ keep-delrole p role no_ssd no_dsd s =
     (left-proper p.roles role p.ssd no_ssd s.static_proper)
     (left-proper p.roles role p.dsd no_dsd s.dynamic_proper) s
 
--- one user's roles are fewer
+-- one user has fewer roles
 pub keep-deassign : (p : Policy) (user role : Name) → Sound p
     → Sound (trim (rows.with_assigned p user (without_name (assigned_roles p user) role)))
 keep-deassign p user role s =

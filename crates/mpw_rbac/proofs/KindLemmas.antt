@@ -1,4 +1,4 @@
--- The rows of a set of either kind, and what they leave.
+-- The decision tables of a set of either kind, and the policy after them.
 use Rattle.std.proofs.Common.{[], ◌≡◌, ℕ, Bool, true, false, cond, not, ◌⊎◌, inl, inr, List, ◌∷◌, ◌++◌, length, Ok, Err, Some, None, refl, sym, ap, subst, ◌∙◌}
 use Rattle.std.specs.Prelude.{nat_lt}
 use Rattle.std.specs.List.{list_all}
@@ -23,7 +23,7 @@ use Rattle.mpw_rbac.proofs.KeepLemmas.{kind-holds}
 use Rattle.mpw_rbac.proofs.LawLemmas.{sound-ssd, sound-dsd}
 use Rattle.mpw_rbac.proofs.RowFacts.{administered-facts}
 
--- sets of which those of one kind have changed
+-- sets of which only those of one kind have changed
 pub changed-sets : (kind : Kind) (old new : Sets) (left : List SeparationSet)
     → sets_of kind new ≡ left → sets_of (other kind) new ≡ sets_of (other kind) old
     → new ≡ sets_with kind old left
@@ -35,7 +35,7 @@ pub sound-made : (kind : Kind) (connection : ℕ) (set : SeparationSet)
 sound-made Static connection set = sound-ssd connection set
 sound-made Dynamic connection set = sound-dsd connection set
 
--- a new name is refused only where there is no room
+-- a new name is refused only if there is no room
 full-fault : (sets : List SeparationSet) (set : SeparationSet) (fault : SetsFault)
     → has_set sets set.name ≡ false → make sets set ≡ Err fault → (nat_lt (length sets) 64 ≡ false)
     × (fault ≡ set_faults.Full)
@@ -47,7 +47,7 @@ full-fault sets set fault new e = by (has_set sets set.name) (nat_lt (length set
     by false true n f = cc
     by false false n f = (refl, cc)
 
--- what the row of a new set answers, by whether the set is broken
+-- what the decision table of a new set answers, by whether the set is broken
 pub record TellsSet (kind : Kind) (p : Policy) (connection : ℕ) (set : SeparationSet) : Type 0 where
   pub made : is_broken p.roles (bound_lists kind p) set ≡ false
       → nat_lt (length (kind_sets kind p)) 64 ≡ true
@@ -58,7 +58,7 @@ pub record TellsSet (kind : Kind) (p : Policy) (connection : ℕ) (set : Separat
       → (fault ≡ set_faults.Memory) ⊎ (make (kind_sets kind p) set ≡ Err fault)
       → rows.IsFaultOf (make_set kind p connection set) (fault_of_sets fault)
 
--- a new name, and roles that are there
+-- a new name, and roles that exist
 module _ (kind : Kind) (p : Policy) (connection : ℕ) (set : SeparationSet)
     (ok : rows.administered p connection ≡ Ok p) (s : Sound p)
     (new : has_set (kind_sets kind p) set.name ≡ false)

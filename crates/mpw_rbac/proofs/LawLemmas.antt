@@ -1,4 +1,5 @@
--- What an accepted row leaves is its new policy, which keeps what every policy keeps.
+-- After a table that accepts, the policy is its new policy, which preserves what every policy
+-- preserves.
 use Rattle.std.proofs.Common.{◌≡◌, ℕ, Ok, true, subst, List}
 use Rattle.mpw_roles.specs.Decided.{decided}
 use Rattle.mpw_separation.specs.declared.set.Kind.TheVariants.{Static, Dynamic}
@@ -45,7 +46,7 @@ sound-drop_role connection role p q is s =
     sound (row.drop-tests p connection role) (row.dropped p connection role) q is
     (keep.keep-drop p connection role s)
 
--- an administrative request, from what it leaves where its tests have passed
+-- an administrative request, by the policy after it if its tests have passed
 abbrev pub Passed : ℕ → row.Administration → Policy → Type 0
 Passed connection request p = AllPass (row.administer-tests p connection (row.tests-of request p))
 

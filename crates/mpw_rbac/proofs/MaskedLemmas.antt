@@ -1,4 +1,4 @@
--- The masks beside users and sessions stay theirs.
+-- The masks of users and sessions stay right.
 use Rattle.std.proofs.Common.{◌≡◌, ℕ, zero, suc, ◌+◌, ◌<◌, Bool, true, false, cond, ◌&&◌, ◌||◌, List, [], ◌∷◌, ◌++◌, length, map, Option, None, Some, option_map, refl, sym, ap, subst, ◌∙◌, arith}
 use Rattle.std.specs.Prelude.{nat_lt, position, slice_get, slice_index_or, slice_set}
 use Rattle.std.specs.Option.{option_map_or}
@@ -42,7 +42,7 @@ pub below-tail : (h : Hierarchy) (l : List Name) (ls : List (List Name)) (m : Ma
 below-tail h l ls m ms w = let long = w.long in
     record { long = omega arith; exact = λ k inside. w.exact (suc k) (omega arith) }
 
--- a mask more at the end
+-- one more mask at the end
 pub below-last : (h : Hierarchy) (ls : List (List Name)) (ms : List Mask) (l : List Name) (m : Mask)
     → AreBelow h ls ms → IsBelow h l m → AreBelow h (ls ++ l ∷ []) (ms ++ m ∷ [])
 below-last h [] [] l m are here = below-cons h l [] m [] here (below-nil h)
@@ -115,7 +115,7 @@ masks-put h (e ∷ es) (x ∷ xs) n v m is here =
     later (Some j) rest = below-cons h e.1.roles (assigned_lists (insert_entry name_eq es n v)) x
         (slice_set xs j m) (below-head h e.1.roles (assigned_lists es) x xs is) rest
 
--- nobody's roles, and one senior more
+-- nobody's roles, and one more senior
 pub none-below : (h : Hierarchy) (place : ℕ) → false ≡ is_place_below h [] place
 none-below h place = never (nat_lt place (length h))
   where
@@ -137,7 +137,7 @@ senior-more h seniors role place = sym (and_or (nat_lt place (length h))
         (is_below h ss (name_at h place)) (at_least h role (name_at h place)))
         ∙ ap (λ b. at_least h s (name_at h place) || b) (last ss)
 
--- a pair more: who is authorized for its senior is authorized for the junior's roles too
+-- one more pair: a user authorized for its senior is authorized for the junior's roles too
 below-with_pair : (h : Hierarchy) (s j : Name) → is_role h s ≡ true → (l : List Name) (b : Name)
     → is_below (with_pair h s j) l b ≡ (is_below h l b || (is_below h l s && at_least h j b))
 below-with_pair h s j there [] b = refl

@@ -1,4 +1,4 @@
--- The masks beside the sets stay theirs, and say which sets are broken.
+-- The masks of the sets stay right, and say which sets are broken.
 use Rattle.std.proofs.Common.{◌≡◌, ℕ, zero, suc, ◌+◌, ◌<◌, true, false, ◌||◌, List, [], ◌∷◌, ◌++◌, length, take, get_or, Some, Ok, sym, ap, subst, ◌∙◌, arith}
 use Rattle.std.specs.Prelude.{slice_get}
 use Rattle.std.proofs.lemmas.List.{take_more}
@@ -16,7 +16,7 @@ use Rattle.mpw_rbac.specs.declared.hierarchy.PairChange.TheVariants.{Inherit, Un
 use Rattle.mpw_rbac.proofs.SessionLemmas.{AreActive, active-head, active-tail}
 use Rattle.mpw_rbac.proofs.RowFacts.{inherited-pair, uninherited-pair}
 
--- a pair more or less moves no role
+-- adding or removing a pair moves no role
 pub names-inherited : (h : Hierarchy) (senior junior : Name) (after : Hierarchy)
     → hierarchy.inherit h senior junior ≡ Ok after → role_names after ≡ role_names h
 names-inherited h senior junior after made =
@@ -35,7 +35,7 @@ pub names-changed : (change : PairChange) (h : Hierarchy) (senior junior : Name)
 names-changed Inherit = names-inherited
 names-changed Uninherit = names-uninherited
 
--- a change of the sets keeps their masks
+-- a change of the sets keeps their masks right
 pub placed-after : (h k : Hierarchy) → k ≡ h → (old new : KeptSets)
     → (AreSetsPlaced (role_names k) old → AreSetsPlaced (role_names k) new)
     → AreSetsPlaced (role_names h) old → AreSetsPlaced (role_names h) new
@@ -60,7 +60,7 @@ broken-list h set (l ∷ ls) zero inside here = ap (λ b. b || is_broken h ls se
 broken-list h set (l ∷ ls) (suc i) inside here =
     or_right (breaks h l set) (is_broken h ls set) (broken-list h set ls i (omega arith) here)
 
--- the mask of the session at a place
+-- the mask of the session at an index
 pub acting-at : (h : Hierarchy) (es : List (ℕ × Active)) (i : ℕ) (e : ℕ × Active)
     → slice_get es i ≡ Some e → AreActive h es → IsBelow h e.1.session.active e.1.acting
 acting-at h [] i e at w = cc

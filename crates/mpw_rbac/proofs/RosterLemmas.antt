@@ -1,4 +1,4 @@
--- Names beside what is known of each: the table of users.
+-- Names with the data of each: the table of users.
 use Rattle.std.proofs.Common.{◌≡◌, ℕ, zero, suc, ◌≤◌, Bool, true, false, cond, not, ◌||◌, inl, inr, List, [], ◌∷◌, ◌++◌, length, map, take, drop, Option, None, Some, is_some, refl, sym, ap, ◌∙◌, true≢false, arith}
 use Rattle.std.specs.Prelude.{position, slice_get, slice_set, zip}
 use Rattle.std.specs.Option.{option_map}
@@ -59,12 +59,12 @@ nothing-past [] i past = refl
 nothing-past (u ∷ us) zero past = absurd (omega arith)
 nothing-past (u ∷ us) (suc i) past = nothing-past us i (omega arith)
 
--- a place is there where the key is
+-- there is an index exactly if there is the key
 pub key-place : (es : List (Name × User)) (n : Name)
     → is_some (position (name_eq n) (map key_of es)) ≡ has_key name_eq es n
 key-place es n = position-any (name_eq n) (map key_of es) ∙ any-map key_of (name_eq n) es
 
--- the value at the place of a key
+-- the value at the index of a key
 pub value-at-place : (es : List (Name × User)) (n : Name) (i : ℕ)
     → Some i ≡ position (name_eq n) (map key_of es)
     → slice_get (map value_of es) i ≡ value_at name_eq es n
@@ -102,7 +102,7 @@ value-nowhere (e ∷ es) n none =
     behind None is = refl
     behind (Some i) is = cc
 
--- another value of a user who is there
+-- other data of an existing user
 pub put-present : (ns : List Name) (us : List User) (n : Name) (v : User) (i : ℕ)
     → length ns ≡ length us → Some i ≡ position (name_eq n) ns
     → zip ns (slice_set us i v) ≡ insert_entry name_eq (zip ns us) n v
@@ -130,7 +130,7 @@ put-present (m ∷ ms) (u ∷ us) n v i long at =
         ap (λ k. zip (m ∷ ms) (slice_set (u ∷ us) k v)) next
         ∙ ap (λ (l : List (Name × User)). (m, u) ∷ l) (found j at)
 
--- a user more
+-- one more user
 pub put-new : (ns : List Name) (us : List User) (n : Name) (v : User) → length ns ≡ length us
     → contains_name ns n ≡ false
     → zip (ns ++ n ∷ []) (us ++ v ∷ []) ≡ insert_entry name_eq (zip ns us) n v
@@ -146,7 +146,7 @@ put-new (m ∷ ms) (u ∷ us) n v long none =
           (put-new ms us n v (omega arith) is)
     ] none
 
--- a user less
+-- one user fewer
 absent-names : (ns : List Name) (n : Name) → contains_name ns n ≡ false → without_name ns n ≡ ns
 absent-names [] n none = refl
 absent-names (m ∷ ms) n none =
@@ -216,7 +216,7 @@ users-fewer (m ∷ ms) (u ∷ us) n i long once at =
               ∙ ap (λ k. length (take k (u ∷ us) ++ drop (suc k) (u ∷ us))) (sym next),
         )
 
--- no name stands twice among fewer
+-- a name occurs only once in a smaller list too
 left-of : (xs : List Name) (r b : Name) → contains_name (without_name xs r) b ≡ true
     → contains_name xs b ≡ true
 left-of [] r b there = there

@@ -1,4 +1,4 @@
--- What the tests of a row tell of the policy that it leaves.
+-- What the tests of a decision table say of the policy after it.
 use Rattle.std.proofs.Common.{[], ◌≡◌, ℕ, Bool, true, false, cond, not, ◌||◌, ◌&&◌, List, ◌∷◌, ◌++◌, length, Result, Ok, Err, is_some, Option, Some, None, ◌==◌, refl, sym, ap, ◌∙◌}
 use Rattle.std.specs.Prelude.{nat_lt, filter}
 use Rattle.std.specs.List.{list_any}
@@ -115,7 +115,7 @@ module _ (p : Policy) (connection : ℕ) (ok : rows.administered p connection �
       (trim (rows.with_assigned p user (without_name (assigned_roles p user) role)))
   deassign-ok user role known = let f = administered-facts p connection ok in rw (f.0, f.1, known)
 
--- what an accepted command leaves
+-- the policy after an accepted request
 abbrev done : {A F : Type 0} → A → Result A F
 done a = Ok a
 
@@ -205,7 +205,7 @@ removed-set sets name after e =
     let a : Bool × SetsFault = (has_set sets name, set_faults.Unknown) in
     sym (left-value (a ∷ []) (without_set sets name) after e)
 
--- who is assigned a role is a user
+-- a user who is assigned a role exists
 pub assigned-user : (p : Policy) (user role : Name)
     → contains_name (assigned_roles p user) role ≡ true → is_user p user ≡ true
 assigned-user p user role there =
@@ -216,7 +216,7 @@ assigned-user p user role there =
     by None e = cc
     by (Some u) e = refl
 
--- only the roles that change are asked about
+-- only the roles that change are tested
 pub assign-same : (p : Policy) (user role : Name) → Sound p → is_user p user ≡ true
     → least_broken p.roles p.ssd (assigned_lists
     (rows.with_assigned p user (assigned_roles p user ++ role ∷ [])).users) ≡ least_broken

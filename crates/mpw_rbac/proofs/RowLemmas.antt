@@ -1,4 +1,4 @@
--- The rows of the policy, test by test.
+-- The decision tables of the policy, test by test.
 use Rattle.std.proofs.Common.{[], ◌≡◌, ℕ, Bool, true, false, cond, not, List, ◌∷◌, ◌++◌, length, Ok, Err, is_some, Option, Some, None, ◌==◌, refl, sym, ap, ◌∙◌}
 use Rattle.std.specs.Prelude.{nat_lt, nat_eq, is_none}
 use Rattle.std.specs.Option.{option_map_or}
@@ -18,7 +18,7 @@ use Rattle.mpw_rbac.specs.Table.{has_key, value_at, without_key, insert_entry}
 use Rattle.mpw_rbac.proofs.TableLemmas.{insert-new, insert-present, is_some-value_at}
 use Rattle.mpw_rbac.proofs.RowFacts.{ok_policy, none-passes}
 
--- what the hierarchy is where a role was added
+-- the hierarchy after a role was added
 pub added-role : (h : Hierarchy) (role : Name) (after : Hierarchy) → roles.add h role ≡ Ok after
     → after ≡ with_role h role
 added-role h role after ok = by (is_role h role) (nat_lt (length h) 512) ok
@@ -47,7 +47,7 @@ open-ok p connection user digest sessions closed login is =
     by None e = refl
     by (Some s) e = cc
 
--- where there is no session nothing ends
+-- if there is no session, nothing ends
 pub end-absent : (p : Policy) (connection : ℕ) → is_some (session_of p connection) ≡ false
     → rows.end_session p connection ≡ p
 end-absent p connection none = ap (λ s. record p { sessions = s }) (by p.sessions none)
@@ -63,7 +63,7 @@ end-absent p connection none = ap (λ s. record p { sessions = s }) (by p.sessio
           | false ↦ λ later. ap (λ l. e ∷ l) (by es later)
         ] n
 
--- a login is of a user
+-- a login is of an existing user
 pub login-user : (p : Policy) (user : Name) (digest : List ℕ) → rows.is_login p user digest ≡ true
     → is_user p user ≡ true
 login-user p user digest login =
@@ -126,7 +126,7 @@ drop-ok p connection role sessions there active is =
 pub ok-value : (p q : Policy) → ok_policy p ≡ Ok q → p ≡ q
 ok-value p q e = cc
 
--- an accepted row leaves its new policy
+-- after a table that accepts, the policy is its new policy
 pub decided-value : (tests : List rows.Test) (next q : Policy) → decided tests next ≡ Ok q
     → next ≡ q
 decided-value [] next q e = ok-value next q e

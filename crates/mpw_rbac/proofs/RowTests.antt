@@ -1,4 +1,5 @@
--- The tests of each row, and the policy that it leaves where all pass; and the administrative rows as one.
+-- The tests of each decision table, and the policy after it if all pass; and the administrative tables as
+-- one.
 use Rattle.std.proofs.Common.{ℕ, Bool, true, false, not, ◌||◌, ◌&&◌, List, [], ◌∷◌, ◌++◌, length, filter, Result}
 use Rattle.std.specs.Prelude.{nat_lt, is_none}
 use Rattle.std.specs.List.{list_any, list_all}
@@ -163,7 +164,7 @@ pub data Administration : Type 0 where
   RemoveStatic : Name → Administration
   RemoveDynamic : Name → Administration
 
--- the tests behind those that every one of them begins with
+-- the tests after those that every one of them begins with
 abbrev pub tests-of : Administration → Policy → List rows.Test
 tests-of (AddUser user digest) p = adduser-tests p user
 tests-of (DeleteUser user) p = deluser-tests p user

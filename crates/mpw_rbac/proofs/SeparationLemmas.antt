@@ -55,7 +55,7 @@ pub breaks-more : (h k : Hierarchy) (few many : List Name) (set : SeparationSet)
 breaks-more h k few many set pairs roles part is = reached-more (roles_below h few)
     (roles_below k many) set (roles_below-grows h k few many pairs roles part) is
 
--- what breaks no more sets keeps them
+-- a change that breaks no more sets preserves that they hold
 pub holds-less : (h k : Hierarchy) (hs ks : List (List Name))
     → ((set : SeparationSet) → is_broken h hs set ≡ true → is_broken k ks set ≡ true)
     → (sets : List SeparationSet) → sets_hold k sets ks ≡ true → sets_hold h sets hs ≡ true
@@ -66,7 +66,7 @@ holds-less h k hs ks less (x ∷ xs) holds =
     not (refuted (is_broken h hs x) (λ is. not_both (is_broken k ks x) (less x is)
     (not_true (is_broken k ks x) p.0)))) (holds-less h k hs ks less xs p.1)
 
--- where the least broken set is none, all hold
+-- if no set is the first broken one, all hold
 none-holds : (p : SeparationSet → Bool) (sets : List SeparationSet)
     → ((m : Name) → list_any (λ (set : SeparationSet). p set && name_eq m set.name) sets ≡ false)
     → list_all (λ set. not (p set)) sets ≡ true
@@ -245,7 +245,7 @@ all-filter_self p (x ∷ xs) =
       | false ↦ λ _. all-filter_self p xs
     ] refl
 
--- proper sets that are broken no more are kept
+-- proper sets that are no longer broken hold
 pub holds-proper : (h k : Hierarchy) (hs ks : List (List Name)) (sets : List SeparationSet)
     → ((set : SeparationSet) → is_proper k set ≡ true → is_broken h hs set ≡ true
     → is_broken k ks set ≡ true)

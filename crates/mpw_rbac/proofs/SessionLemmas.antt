@@ -1,4 +1,5 @@
--- Sessions by connection, each with its mask: what is found of a connection, and what a change of one leaves.
+-- Sessions by connection, each with its mask: what is found of a connection, and what remains after one
+-- changes.
 use Rattle.std.proofs.Common.{◌≡◌, ℕ, zero, suc, ◌+◌, Bool, true, false, cond, ◌==◌, List, [], ◌∷◌, ◌++◌, map, filter, Option, None, Some, option_map, refl, sym, ap, subst, ◌∙◌}
 use Rattle.std.specs.Prelude.{position, slice_index_or, slice_set}
 use Rattle.std.specs.Map.{lookup}
@@ -71,7 +72,7 @@ acting-found h (e ∷ es) connection a w at =
       | false ↦ λ later. acting-found h es connection a (active-tail h e es w) later
     ] at
 
--- what stands at a connection's first place is what is found of it
+-- the entry at a connection's first index is what is found of it
 pub found-at : (es : List (ℕ × Active)) (connection i : ℕ) (other : ℕ × Active)
     → Some i ≡ position (is_connected connection) es
     → Some (slice_index_or es i other).1 ≡ lookup (same_connection connection) es
@@ -96,7 +97,7 @@ found-at (x ∷ xs) connection i other at =
     later (Some j) rest next = let behind : i ≡ suc j = cc in
         ap (λ k. Some (slice_index_or (x ∷ xs) k other).1) behind ∙ rest j refl
 
--- without a place nothing is found
+-- without an index nothing is found
 pub found-nowhere : (es : List (ℕ × Active)) (connection : ℕ)
     → None ≡ position (is_connected connection) es → None ≡ lookup (same_connection connection) es
 found-nowhere [] connection nowhere = refl
@@ -114,7 +115,7 @@ found-nowhere (x ∷ xs) connection nowhere =
     later None rest next = rest refl
     later (Some j) rest next = cc
 
--- another session in its place, or one more behind the others
+-- another session at its index, or one more at the end
 pub put-at : (es : List (ℕ × Active)) (connection i : ℕ) (a : Active) (other : ℕ × Active)
     → Some i ≡ position (is_connected connection) es
     → slice_set es i ((slice_index_or es i other).0, a)
@@ -190,7 +191,7 @@ acting-insert h (e ∷ es) connection a w here =
           (acting-insert h es connection a (active-tail h e es w) here)
     ]
 
--- a session less
+-- one session fewer
 pub sessions-filter : (p : ℕ → Bool) (es : List (ℕ × Active))
     → sessions_in (filter (λ (e : ℕ × Active). p e.0) es) ≡ filter (λ (e : ℕ × Session). p e.0)
     (sessions_in es)
@@ -215,7 +216,7 @@ acting-filter h p (e ∷ es) w = elim (p e.0) as
       | false ↦ acting-filter h p es (active-tail h e es w)
     ]
 
--- what `retain_mut` leaves, where the closure changes each session by itself and writes its mask
+-- what `retain_mut` leaves, if the closure changes each session by itself and makes its mask
 pub sessions-retained : {F : Type 0} (R : F → ℕ × Active → Bool → F → ℕ × Active → Type 0)
     (p : Session → Bool) (change : Session → Session) (h : Hierarchy) (f : F)
     → ((e : ℕ × Active) (b : Bool) (g : F) (after : ℕ × Active) → R f e b g after

@@ -1,4 +1,4 @@
--- The policy that the fields show, and what it keeps where only its sets change.
+-- The policy that the fields show, and what it preserves if only its sets change.
 use Rattle.std.specs.Prelude.{◌≡◌}
 use Rattle.mpw_roles.specs.Hierarchy.{Hierarchy, role_names}
 use Rattle.mpw_separation.specs.Placed.{AreSetsPlaced, KeptSets}
@@ -15,7 +15,7 @@ shown p = policy_of p.users.users p.permissions.roles p.permissions.granted p.se
 abbrev IsKept : Inside → KeptSets → Type 0
 IsKept p sets = IsPolicy p.users p.permissions.roles p.permissions.granted sets p.sessions
 
--- other sets that leave it sound, and are placed where those before were
+-- other sets that leave it sound, with right masks if those before were right
 pub with-sets : (p : Inside) (h : Hierarchy) (sets : KeptSets) → IsKept p p.sets
     → h ≡ p.permissions.roles
     → (AreSetsPlaced (role_names h) p.sets → AreSetsPlaced (role_names h) sets)

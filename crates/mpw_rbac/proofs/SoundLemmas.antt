@@ -1,4 +1,4 @@
--- Each change of the policy keeps that every active role is authorized.
+-- Each change of the policy preserves that every active role is authorized.
 use Rattle.std.proofs.Common.{◌≡◌, ℕ, Bool, true, false, cond, not, ◌||◌, inl, inr, ◌==◌, List, [], ◌∷◌, ◌++◌, filter, None, Some, refl, sym, ap, ◌∙◌, true≢false}
 use Rattle.std.specs.List.{list_all}
 use Rattle.std.specs.Option.{option_map_or}
@@ -35,7 +35,7 @@ all-filter p keep (x ∷ xs) a =
     elim (keep x) as (λ b. list_all p (cond b (x ∷ filter keep xs) (filter keep xs)) ≡ true)
     [ true ↦ and_both (p x) _ parts.0 rest | false ↦ rest ]
 
--- where each user keeps what it was authorized for, and the sessions stay
+-- if each user keeps what it was authorized for, and the sessions stay
 pub sound-grows : (p q : Policy) → q.sessions ≡ p.sessions
     → ((u : Name) → is_user p u ≡ true → is_user q u ≡ true)
     → ((u r : Name) → contains_name (authorized p u) r ≡ true
@@ -111,7 +111,7 @@ sound-addrole p role sound =
     (assigned_roles p u) (pairs-with_role p.roles role) (roles-with_role p.roles role)
     (λ s is. is) r there) sound
 
--- a user is assigned more
+-- a user is assigned more roles
 assigned-more : (users : List (Name × User)) (user : Name) (value : User) (u s : Name)
     → (contains_name (option_map_or (λ (x : User). x.roles) (value_at name_eq users user) []) s
     ≡ true → contains_name value.roles s ≡ true)

@@ -1,4 +1,4 @@
--- The maps of the policy, in the words of its tables.
+-- The maps of the policy, in terms of its tables.
 use Rattle.std.proofs.Common.{◌≡◌, Bool, true, false, cond, ◌||◌, inl, inr, Option, List, [], ◌∷◌, ◌++◌, Some, is_some, refl, sym, ap, true≢false}
 use Rattle.std.specs.List.{list_any, list_all}
 use Rattle.mpw_roles.proofs.CallerLemmas.{or_cases, or_right}
@@ -33,9 +33,9 @@ module _ {K V : Type 0} (eq : K → K → Bool) where
         | false ↦ λ later. ap (λ l. e ∷ l) (insert-present es k v later)
       ] there
 
--- the value at a key is made of the one there
+-- the new value at a key is made from the present one
 module _ {K V : Type 0} (eq : K → K → Bool) (change : Option V → V) (test : V → Bool) where
-  -- the table then, by whether it is the first
+  -- the table after that, by whether it is the first
   abbrev changed : Bool → K × V → List (K × V) → K → List (K × V)
   changed first e es k =
       let v = change (cond first (Some e.1) (value_at eq es k)) in

@@ -1,4 +1,4 @@
--- What a session may do by one operation: the question that `permits` answers of each object (CheckAccess).
+-- What a session may do by one operation: the answer of `permits` for each object (CheckAccess).
 use Rattle.std.specs.Prelude.{ℕ}
 use Rattle.mpw_permissions.specs.declared.permission.Operation.{Operation}
 use Rattle.mpw_rbac.specs.Policy.{Policy}

@@ -1,4 +1,4 @@
--- The faults of the hierarchy and of the sets of separation, as those of the policy.
+-- The faults of the hierarchy and of the sets of separation, as faults of the policy.
 use Rattle.mpw_roles.specs.declared.fault.RolesFault.{RolesFault}
 use Rattle.mpw_roles.specs.declared.fault.RolesFault.TheVariants as roles
 use Rattle.mpw_separation.specs.declared.fault.SetsFault.{SetsFault}

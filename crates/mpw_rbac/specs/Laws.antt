@@ -1,4 +1,4 @@
--- Laws over the rows.
+-- Laws of the decision tables.
 use Rattle.std.specs.Prelude.{◌≡◌, true, List, Result, Ok}
 use Rattle.mpw_geom.specs.Names.{contains_name}
 use Rattle.mpw_roles.specs.Hierarchy.{Name}
@@ -6,7 +6,7 @@ use Rattle.mpw_rbac.specs.declared.refusal.Refusal.{Refusal}
 use Rattle.mpw_rbac.specs.Policy.{Policy}
 use Rattle.mpw_rbac.specs.Sound.{Sound}
 
--- where a row accepts, the policy that it leaves is sound where the one before was
+-- if a decision table accepts, the new policy is sound if the one before was
 abbrev pub KeepsSound : (Policy → Result Policy Refusal) → Type 0
 KeepsSound row = (p q : Policy) → row p ≡ Ok q → Sound p → Sound q
 

@@ -1,5 +1,5 @@
--- The masks that stand beside users, sessions and sets: the places of the roles that each user is authorized for, of those that
--- act in each session, and of each set's own roles.
+-- The masks of users, sessions and sets: the indexes of the roles that each user is authorized for, of those
+-- that act in each session, and of each set's own roles.
 use Rattle.std.specs.Prelude.{◌≡◌, ℕ, ◌<◌, List, length, map, slice_index_or, []}
 use Rattle.mpw_roles.specs.Hierarchy.{Name, Hierarchy, role_names}
 use Rattle.mpw_roles.specs.Places.{mask_at}
@@ -13,12 +13,12 @@ use Rattle.mpw_rbac.specs.declared.session.User.{User}
 use Rattle.mpw_rbac.specs.Policy.{policy_of, assigned_lists, active_lists}
 use Rattle.mpw_rbac.specs.Sound.{Sound}
 
--- users, and a mask for each at its place
+-- users, and a mask for each at the same index
 pub record KeptUsers : Type 0 where
   pub users : List (Name × User)
   pub masks : List Mask
 
--- sessions, and a mask for each at its place
+-- sessions, and a mask for each at the same index
 pub record KeptSessions : Type 0 where
   pub sessions : List (ℕ × Session)
   pub masks : List Mask
@@ -29,7 +29,7 @@ sessions_in entries = map (λ (entry : ℕ × Active). (entry.0, entry.1.session
 abbrev pub masks_in : List (ℕ × Active) → List Mask
 masks_in entries = map (λ (entry : ℕ × Active). entry.1.acting) entries
 
--- the mask at the place of each list of seniors is theirs
+-- the mask at the index of each list of seniors is that list's
 pub record AreBelow (hierarchy : Hierarchy) (lists : List (List Name)) (masks : List Mask) :
     Type 0 where
   pub long : length masks ≡ length lists
@@ -48,7 +48,7 @@ pub record AreUsers (hierarchy : Hierarchy) (table : List (Name × User)) (kept 
   pub same : kept.users ≡ table
   pub masks : AreAuthorized hierarchy kept
 
--- what every policy keeps: it is sound, and the masks beside its users, its sets and its sessions are theirs
+-- what every policy preserves: it is sound, and each mask of its users, its sets and its sessions is right
 pub record IsPolicy (users : KeptUsers) (roles : Hierarchy) (granted : List Grant) (sets : KeptSets)
     (sessions : KeptSessions) : Type 0 where
   pub sound : Sound (policy_of users.users roles granted sets.sets sessions.sessions)

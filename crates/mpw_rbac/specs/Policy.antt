@@ -68,12 +68,12 @@ session_of policy connection = value_at (λ a b. a == b) policy.sessions connect
 abbrev pub acting : Policy → Session → List Name
 acting policy session = roles_below policy.roles session.active
 
--- whether some acting role of the session was granted the operation on the object (CheckAccess)
+-- whether some acting role of the session has a grant of the operation on the object (CheckAccess)
 abbrev pub session_permits : Policy → Session → Operation → Object → Bool
 session_permits policy session operation object =
     list_any (is_granted_to (acting policy session) operation object) policy.granted
 
--- A role of the connection's session acts that was granted the operation on the object.
+-- An acting role of the connection's session has a grant of the operation on the object.
 abbrev pub permits : Policy → ℕ → Operation → Object → Bool
 permits policy connection operation object =
     option_map_or (λ (session : Session). session_permits policy session operation object)
@@ -100,7 +100,7 @@ assigned_lists users = map (λ entry. entry.1.roles) users
 abbrev pub active_lists : List (ℕ × Session) → List (List Name)
 active_lists sessions = map (λ entry. entry.1.active) sessions
 
--- what `whoami` tells: the user, and the active and the authorized roles, each by name
+-- what `whoami` shows: the user, and the active and the authorized roles, each in alphabetical order
 abbrev pub identity_of : Policy → Session → Identity
 identity_of policy session = record {
   user = session.user;
@@ -108,7 +108,7 @@ identity_of policy session = record {
   authorized = by_name (authorized policy session.user);
 }
 
--- the new desk: the officer, with the role `officer`, which may administer the desk
+-- the policy of a new desk: the officer, with the role `officer`, which may administer the desk
 abbrev pub new_policy : Name → List ℕ → Policy
 new_policy officer digest = record {
   users = (officer, record { digest = digest; roles = codes "officer" ∷ [] }) ∷ [];

@@ -1,4 +1,4 @@
--- The requests of the policy: each with its tests in order, and the policy that it leaves where all pass.
+-- The requests of the policy: each with its tests in order, and the policy after it if all pass.
 use Rattle.std.specs.Prelude.{◌≡◌, ℕ, Bool, true, false, not, ◌&&◌, ◌||◌, ◌==◌, List, [], ◌∷◌, ◌++◌, length, map, filter, nat_lt, Result, Err, is_some, is_none, Option, None, Some}
 use Rattle.std.specs.List.{list_any, list_all}
 use Rattle.std.specs.Option.{option_map_or}
@@ -46,12 +46,12 @@ abbrev pub administered : Policy → ℕ → Result Policy Refusal
 administered policy connection =
     decided (in_session policy connection ∷ administers policy connection ∷ []) policy
 
--- a fault is want of memory, or the refusal of the row
+-- a fault is out of memory, or the refusal of the decision table
 abbrev pub IsFaultOf : {A : Type 0} → Result A Refusal → PolicyFault → Type 0
 IsFaultOf row (Refused refusal) = row ≡ Err refusal
 IsFaultOf row Memory = Unit {0}
 
--- no set is broken, or the least name of one is told
+-- no set is broken; else the refusal names the first broken one in alphabetical order
 abbrev pub none_broken : (Name → Refusal) → Option Name → Test
 none_broken told None = (true, told [])
 none_broken told (Some name) = (false, told name)
@@ -66,7 +66,7 @@ abbrev pub dsd_holds : Policy → Test
 dsd_holds policy =
     none_broken Dsd (least_broken policy.roles policy.dsd (active_lists policy.sessions))
 
--- whether the user is known with this digest
+-- whether the user exists and has this digest
 abbrev pub is_login : Policy → Name → List ℕ → Bool
 is_login policy user digest = option_map_or (λ (u : User). pointwise nat_eq u.digest digest)
     (value_at name_eq policy.users user) false
@@ -95,7 +95,7 @@ abbrev pub close_session : Policy → ℕ → Result Policy Refusal
 close_session policy connection =
     decided (in_session policy connection ∷ []) (end_session policy connection)
 
--- the user of a connection's session, and its active roles; neither where it has none
+-- the user of a connection's session, and its active roles; none of them if it has no session
 abbrev pub user_of : Policy → ℕ → Name
 user_of policy connection =
     option_map_or (λ (s : Session). s.user) (session_of policy connection) []
@@ -132,7 +132,7 @@ drop_role policy connection role =
     ∷ (contains_name (active_roles policy connection) role, Unknown) ∷ [])
     (with_active policy connection (without_name (active_roles policy connection) role))
 
--- what the session is told of itself
+-- what `whoami` shows of the session
 abbrev pub whoami : Policy → ℕ → Result Identity Refusal
 whoami policy connection =
     decided (in_session policy connection ∷ [])
@@ -176,7 +176,7 @@ abbrev pub unassigned : List (Name × User) → Name → List (Name × User)
 unassigned users role = map (λ (entry : Name × User).
     (entry.0, record entry.1 { roles = without_name entry.1.roles role })) users
 
--- a role goes with its assignments, its grants and each pair that it is in
+-- a role is removed with its assignments, its grants and each pair that it is in
 abbrev pub without_role_of : Policy → Name → Policy
 without_role_of policy role = record policy {
   users = unassigned policy.users role;
@@ -184,7 +184,7 @@ without_role_of policy role = record policy {
   granted = ungranted policy.granted role;
 }
 
--- delete_role: a role of a set stays
+-- delete_role: a role that is in a set stays
 abbrev pub delrole : Policy → ℕ → Name → Result Policy Refusal
 delrole policy connection role =
     decided

@@ -1,4 +1,4 @@
--- What every policy that can be reached keeps.
+-- What every reachable policy preserves.
 use Rattle.std.specs.Prelude.{◌≡◌, ℕ, Bool, true, not, ◌&&◌, List, nat_lt}
 use Rattle.std.specs.List.{list_all}
 use Rattle.mpw_geom.specs.Names.{contains_name}
@@ -8,13 +8,13 @@ use Rattle.mpw_separation.specs.Separation.{is_broken}
 use Rattle.mpw_rbac.specs.Policy.{Policy, is_user, authorized, assigned_lists, active_lists}
 use Rattle.mpw_rbac.specs.declared.session.Session.{Session}
 
--- whether the user of a session is there, and authorized for each of its active roles
+-- whether the user of a session exists, and is authorized for each of its active roles
 abbrev pub is_authorized_session : Policy → Session → Bool
 is_authorized_session policy session =
     is_user policy session.user && list_all (contains_name (authorized policy session.user))
     session.active
 
--- each session is of a user, and every active role is authorized
+-- each session has a user who exists, and every active role is authorized
 abbrev pub active_authorized : Policy → Bool
 active_authorized policy =
     list_all (λ (entry : ℕ × Session). is_authorized_session policy entry.1) policy.sessions
@@ -23,12 +23,12 @@ active_authorized policy =
 abbrev pub sets_hold : Hierarchy → List SeparationSet → List (List Name) → Bool
 sets_hold hierarchy sets holders = list_all (λ set. not (is_broken hierarchy holders set)) sets
 
--- a set is of roles, and forbids no one to have none of them
+-- a set has roles that exist, and doesn't forbid having none of them
 abbrev pub is_proper : Hierarchy → SeparationSet → Bool
 is_proper hierarchy set = nat_lt 0 set.cardinality && list_all (is_role hierarchy) set.roles
 
--- every active role is authorized; the static sets hold for the authorized roles of every user, and the dynamic ones
--- for the acting roles of every session; and the sets are of roles
+-- every active role is authorized; the static sets hold for the authorized roles of every user, and the
+-- dynamic ones for the acting roles of every session; and the sets are proper
 pub record Sound (policy : Policy) : Type 0 where
   pub sessions : active_authorized policy ≡ true
   pub static : sets_hold policy.roles policy.ssd (assigned_lists policy.users) ≡ true

@@ -11,7 +11,7 @@ module _ {K V : Type 0} (eq : K → K → Bool) where
   value_at [] key = None
   value_at (entry ∷ entries) key = if eq key entry.0 then Some entry.1 else value_at entries key
 
-  -- the table with another value at a key that is there
+  -- the table with another value at an existing key
   abbrev pub with_value : List (K × V) → K → V → List (K × V)
   with_value [] key value = []
   with_value (entry ∷ entries) key value =
@@ -20,7 +20,8 @@ module _ {K V : Type 0} (eq : K → K → Bool) where
   abbrev pub without_key : List (K × V) → K → List (K × V)
   without_key entries key = filter (λ entry. not (eq key entry.0)) entries
 
-  -- the table with a value at a key: a key that is there keeps its place, and a new one goes last
+  -- the table with a value at a key: an existing key keeps its place, and a new one is added at
+  -- the end
   abbrev pub insert_entry : List (K × V) → K → V → List (K × V)
   insert_entry [] key value = (key, value) ∷ []
   insert_entry (entry ∷ entries) key value =

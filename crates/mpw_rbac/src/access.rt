@@ -1,4 +1,4 @@
-//! Which objects a session has access to by one operation: its acting roles are looked up once, for many objects.
+//! Which objects a session may access by one operation. Its acting roles are looked up once, for many objects.
 ghost use Rattle.std.specs.Prelude.{◌≡◌, ℕ, List};
 ghost use Rattle.std.specs.List.{list_any};
 ghost use Rattle.mpw_roles.specs.Mask.{has};
@@ -12,8 +12,8 @@ use mpw_permissions::{Object, Operation};
 use mpw_roles::Mask;
 use std::marker::Model;
 
-/// The access of a connection's session by one operation, of one policy. Making it takes no memory and costs a look through the
-/// sessions; each object asked about then costs a look-up.
+/// The access of a connection's session by one operation under one policy. Making it takes no memory, and costs a search of the sessions.
+/// Each object then costs a look-up.
 #[derive(Drop)]
 pub struct Access<'a> {
     policy: &'a Policy,
@@ -37,7 +37,7 @@ impl<'a> Model for Access<'a> {
 }
 
 impl Access<'_> {
-    /// Whether the session may do the operation to the object: what [`Policy::permits`] answers. It takes no memory.
+    /// Whether the session may do the operation on the object. The answer is that of [`Policy::permits`]. It takes no memory.
     pub fn permits(&self, object: &Object) -> bool
         ensures { result ≡ permits self.now.policy self.now.connection self.now.operation object.now }
     {
@@ -47,8 +47,8 @@ impl Access<'_> {
 }
 
 impl Policy {
-    /// What the connection's session may do by one operation, to ask about many objects. A connection without a session
-    /// may do nothing. It takes no memory.
+    /// What the connection's session may do by one operation, for questions about many objects. A connection without a session may do
+    /// nothing. It takes no memory.
     pub fn access(&self, connection: u32, operation: Operation) -> Access<'_>
         ensures { result ≡ record { policy = self.now; connection = connection; operation = operation } }
     {
@@ -60,7 +60,7 @@ impl Policy {
         }
     }
 
-    /// Whether the operation on the object was granted to one of the roles of a mask.
+    /// Whether a role of a mask has a grant of the operation on the object.
     fn is_granted_to(&self, roles: &Mask, operation: Operation, object: &Object) -> bool
         ensures { (seniors : List (List ℕ)) → ((place : ℕ) → has roles.now place ≡ is_place_below self.now.roles seniors place) → result ≡ list_any (is_granted_to (roles_below self.now.roles seniors) operation object.now) self.now.granted }
     {

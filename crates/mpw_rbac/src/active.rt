@@ -1,8 +1,8 @@
-//! The table of sessions, each with the places of the roles that act in it as a mask.
+//! The table of sessions. Each has a mask with the indexes of its acting roles.
 //!
-//! A connection's session is looked for one after another: there are few, one for each connection that is open.
-//! The masks are made for the policy's roles, and an invariant of the policy says so. A change of one session makes its mask;
-//! a change of users or roles makes each anew, a look-up for each active role.
+//! A connection's session is found by a linear search: there are few, one for each open connection. The masks are those of the policy's
+//! roles, by an invariant of the policy. A change of one session makes its mask. A change of users or roles makes all masks again, with a
+//! look-up for each active role.
 ghost use Rattle.std.specs.Prelude.{◌≡◌, ◌<◌, ℕ, true, not, ◌==◌, [], IfOk, IfSome, OnOk, OnErr, length, position};
 ghost use Rattle.std.specs.Map.{lookup};
 ghost use Rattle.std.specs.Option.{option_copied, option_map_or};
@@ -21,7 +21,7 @@ use mpw_roles::{Mask, Roles};
 use std::alloc::{AllocError, Global};
 use std::marker::Model;
 
-/// A session, and the places of the roles that act in it.
+/// A session, with a mask of the indexes of its acting roles.
 #[derive(Clone, Drop)]
 pub(crate) struct Active {
     pub(crate) session: Session,
@@ -29,7 +29,7 @@ pub(crate) struct Active {
 }
 
 impl Active {
-    /// The session with its mask: a look-up for each active role.
+    /// The session with its mask. Cost: a look-up for each active role.
     pub(crate) fn new(roles: &Roles, session: Session) -> Active
         ensures session { result.session ≡ session }
         ensures acting { IsBelow roles.now result.session.active result.acting }
@@ -62,7 +62,7 @@ impl Model for Sessions {
     ghost view = { λ kept. record { sessions = sessions_in kept.table.items; masks = masks_in kept.table.items } };
 }
 
-/// Writes the mask of a session anew.
+/// Makes the mask of a session again.
 fn remask(roles: &Roles, active: &mut Active)
     ensures session { active.new.session ≡ active.old.session }
     ensures acting { IsBelow roles.now active.new.session.active active.new.acting }
@@ -70,7 +70,7 @@ fn remask(roles: &Roles, active: &mut Active)
     active.acting = roles.mask_below(active.session.active.as_slice());
 }
 
-/// Keeps those active roles of a session that its user is authorized for, and says whether the user is there.
+/// Removes the active roles of a session that its user isn't authorized for. It returns whether the user exists.
 fn trim(users: &Users, roles: &Roles, active: &mut Active) -> bool
     ensures { IsTrimmed roles.now users.now active.old active.new result }
 {
@@ -79,7 +79,7 @@ fn trim(users: &Users, roles: &Roles, active: &mut Active) -> bool
     there
 }
 
-/// The first place of a connection.
+/// The first index of a connection.
 fn place_of(table: &[Connected], connection: u32) -> Option<usize>
     ensures place { result ≡ position (λ (e : ℕ × ActiveState). connection == e.0) table.now }
     ensures within { IfSome result (λ place. place < length table.now) }
@@ -102,7 +102,7 @@ fn session_of(table: &[Connected], connection: u32) -> Option<&Active>
     }
 }
 
-/// Another session at the first place of a connection, or one more behind the others.
+/// Replaces the session at the first index of a connection, or adds one at the end.
 fn put(table: &mut Vec<Connected>, connection: u32, active: Active) -> Result<(), AllocError>
     ensures ok { OnOk result (table.new.items ≡ insert_entry (λ a b. a == b) table.old.items connection active) }
     ensures err { OnErr result (table.new.items ≡ table.old.items) }
@@ -149,7 +149,7 @@ impl Sessions {
         }
     }
 
-    /// The places of the roles that act in the session of a connection; none where it has no session.
+    /// The indexes of the acting roles in the session of a connection. It is empty if the connection has no session.
     pub(crate) fn acting(&self, connection: u32) -> Mask
         ensures { (h : Hierarchy) → AreActing h self.now → IsBelow h (option_map_or (λ (s : SessionState). s.active) (value_at (λ a b. a == b) self.now.sessions connection) []) result }
     {
@@ -159,7 +159,7 @@ impl Sessions {
         }
     }
 
-    /// Another session of a connection; a new one goes last.
+    /// Sets the session of a connection. A new one is added at the end.
     pub(crate) fn insert(&mut self, connection: u32, active: Active) -> Result<(), AllocError>
         ensures ok { OnOk result (self.new.sessions ≡ insert_entry (λ a b. a == b) self.old.sessions connection active.session) }
         ensures acting { OnOk result ((h : Hierarchy) → AreActing h self.old → IsBelow h active.session.active active.acting → AreActing h self.new) }
@@ -169,7 +169,7 @@ impl Sessions {
         Ok(())
     }
 
-    /// The session of a connection goes, if it has one. It takes no memory.
+    /// Removes the session of a connection, if it has one. It takes no memory.
     pub(crate) fn remove(&mut self, connection: u32)
         ensures sessions { self.new.sessions ≡ without_key (λ a b. a == b) self.old.sessions connection }
         ensures acting { (h : Hierarchy) → AreActing h self.old → AreActing h self.new }
@@ -181,14 +181,14 @@ impl Sessions {
         );
     }
 
-    /// Every session goes. It takes no memory.
+    /// Removes every session. It takes no memory.
     pub(crate) fn clear(&mut self)
         ensures { self.new ≡ record { sessions = []; masks = [] } }
     {
         self.table.truncate(0);
     }
 
-    /// The masks after a change of roles. It takes no memory, and costs a look-up for each active role.
+    /// Makes the masks again after a change of roles. It takes no memory. Cost: a look-up for each active role.
     pub(crate) fn remask(&mut self, roles: &Roles)
         ensures same { self.new.sessions ≡ self.old.sessions }
         ensures acting { AreActing roles.now self.new }
@@ -203,8 +203,8 @@ impl Sessions {
         );
     }
 
-    /// Each session keeps those active roles that its user is authorized for, and a deleted user's sessions end. It takes no
-    /// memory, and costs a look-up for each active role.
+    /// Removes the active roles that a session's user isn't authorized for, and ends a deleted user's sessions. It takes no memory. Cost: a
+    /// look-up for each active role.
     pub(crate) fn trim(&mut self, users: &Users, roles: &Roles)
         requires { AreAuthorized roles.now users.now }
         ensures kept { self.new.sessions ≡ kept_sessions (users_and_roles users.now.users roles.now) self.old.sessions }

@@ -22,7 +22,7 @@ impl Policy {
     /// Adds a user with a digest and without roles (AddUser).
     ///
     /// # Errors
-    /// `NoSession`, `NotPermitted`, `Known`, `Full`, tested in this order; or `Memory`. The policy is then as it was.
+    /// `NoSession`, `NotPermitted`, `Known`, `Full`, tested in this order; or `Memory`. Then the policy is unchanged.
     pub fn adduser(
         &mut self,
         connection: u32,
@@ -62,7 +62,7 @@ impl Policy {
     /// Deletes a user, whose sessions end (DeleteUser).
     ///
     /// # Errors
-    /// `NoSession`, `NotPermitted`, `Unknown` user, tested in this order; or `Memory`. The policy is then as it was.
+    /// `NoSession`, `NotPermitted`, `Unknown` user, tested in this order; or `Memory`. Then the policy is unchanged.
     pub fn deluser(&mut self, connection: u32, user: &Name) -> Result<(), PolicyFault>
         ensures ok { OnOk result (rows.deluser self.old connection user.now ≡ Ok self.new) }
         ensures refused { IfErr result (IsFaultOf (rows.deluser self.old connection user.now)) }
@@ -82,7 +82,7 @@ impl Policy {
     /// Adds a role without pairs (AddRole).
     ///
     /// # Errors
-    /// `NoSession`, `NotPermitted`, `Known`, `Full`, tested in this order; or `Memory`. The policy is then as it was.
+    /// `NoSession`, `NotPermitted`, `Known`, `Full`, tested in this order; or `Memory`. Then the policy is unchanged.
     pub fn addrole(&mut self, connection: u32, role: Name) -> Result<(), PolicyFault>
         ensures ok { OnOk result (rows.addrole self.old connection role ≡ Ok self.new) }
         ensures refused { IfErr result (IsFaultOf (rows.addrole self.old connection role)) }
@@ -102,8 +102,7 @@ impl Policy {
     /// Deletes a role, with its assignments, its grants and each pair that it is in (DeleteRole).
     ///
     /// # Errors
-    /// `NoSession`, `NotPermitted`, `Unknown` role, `Used` by a separation set, tested in this order; or `Memory`. The
-    /// policy is then as it was.
+    /// `NoSession`, `NotPermitted`, `Unknown` role, `Used` by a separation set, tested in this order; or `Memory`. Then the policy is unchanged.
     pub fn delrole(&mut self, connection: u32, role: &Name) -> Result<(), PolicyFault>
         ensures ok { OnOk result (rows.delrole self.old connection role.now ≡ Ok self.new) }
         ensures refused { IfErr result (IsFaultOf (rows.delrole self.old connection role.now)) }
@@ -140,8 +139,7 @@ impl Policy {
     /// Assigns a role to a user (AssignUser).
     ///
     /// # Errors
-    /// `NoSession`, `NotPermitted`, `Unknown` user or role, `Known`, `Ssd`, tested in this order; or `Memory`. The policy
-    /// is then as it was.
+    /// `NoSession`, `NotPermitted`, `Unknown` user or role, `Known`, `Ssd`, tested in this order; or `Memory`. Then the policy is unchanged.
     pub fn assign(&mut self, connection: u32, user: &Name, role: &Name) -> Result<(), PolicyFault>
         ensures ok { OnOk result (rows.assign self.old connection user.now role.now ≡ Ok self.new) }
         ensures refused { IfErr result (IsFaultOf (rows.assign self.old connection user.now role.now)) }
@@ -157,7 +155,7 @@ impl Policy {
         Ok(())
     }
 
-    /// The tests of a new assignment but that of the sets.
+    /// The tests of a new assignment, without that of the sets.
     fn may_assign(&self, connection: u32, user: &Name, role: &Name) -> Result<(), PolicyFault>
         ensures administered { OnOk result (administered self.now connection ≡ Ok self.now) }
         ensures user { OnOk result (is_user self.now user.now ≡ true) }
@@ -175,11 +173,10 @@ impl Policy {
         Ok(())
     }
 
-    /// Takes an assignment back; the user's sessions lose what it authorized (DeassignUser).
+    /// Removes an assignment. The user's sessions lose what it authorized (DeassignUser).
     ///
     /// # Errors
-    /// `NoSession`, `NotPermitted`, `Unknown` assignment, tested in this order; or `Memory`. The policy is then as it
-    /// was.
+    /// `NoSession`, `NotPermitted`, `Unknown` assignment, tested in this order; or `Memory`. Then the policy is unchanged.
     pub fn deassign(&mut self, connection: u32, user: &Name, role: &Name) -> Result<(), PolicyFault>
         ensures ok { OnOk result (rows.deassign self.old connection user.now role.now ≡ Ok self.new) }
         ensures refused { IfErr result (IsFaultOf (rows.deassign self.old connection user.now role.now)) }
@@ -211,7 +208,7 @@ impl Policy {
         Ok(User { digest, roles })
     }
 
-    /// The user with one assigned role less.
+    /// The user with one assigned role fewer.
     fn assigned_without(&self, user: &Name, role: &Name) -> Result<User, AllocError>
         ensures { IfOk result (λ next. next ≡ record { digest = digest_of_user self.now user.now; roles = without_name (assigned_roles self.now user.now) role.now }) }
     {
@@ -224,26 +221,25 @@ impl Policy {
         Ok(User { digest, roles })
     }
 
-    /// The least name of the static sets that these assigned roles break.
+    /// The first name, in alphabetical order, of a static set that these assigned roles break.
     fn broken_by_assigned(&self, assigned: &[Name]) -> Option<&Name>
         ensures { option_copied result ≡ least_broken self.now.roles self.now.ssd (assigned.now ∷ []) }
     {
         first_broken(&self.sets, Kind::Static, self.permissions.roles(), assigned)
     }
 
-    /// Whether the role is one of a separation set.
+    /// Whether the role is in a separation set.
     fn is_used(&self, role: &Name) -> bool
         ensures { result ≡ (uses_role self.now.ssd role.now || uses_role self.now.dsd role.now) }
     {
         self.sets.sets().uses(role)
     }
 
-    /// Grants an operation on an object to a role (GrantPermission). It costs a copy of the last block of the grants and of one
-    /// bucket of the masks of the operation: all others stay shared, by a count for each at most.
+    /// Grants an operation on an object to a role (GrantPermission). Cost: a copy of the last block of the grants, and of one bucket of the
+    /// operation's masks. All others stay shared; each costs at most a count.
     ///
     /// # Errors
-    /// `NoSession`, `NotPermitted`, `Unknown` role, `Known`, `Full`, tested in this order; or `Memory`. The policy is
-    /// then as it was.
+    /// `NoSession`, `NotPermitted`, `Unknown` role, `Known`, `Full`, tested in this order; or `Memory`. Then the policy is unchanged.
     pub fn grant(&mut self, connection: u32, grant: Grant) -> Result<(), PolicyFault>
         ensures ok { OnOk result (rows.grant self.old connection grant ≡ Ok self.new) }
         ensures refused { IfErr result (IsFaultOf (rows.grant self.old connection grant)) }
@@ -254,7 +250,7 @@ impl Policy {
         Ok(())
     }
 
-    /// The permissions after one more grant, where the session may make it.
+    /// The permissions after one more grant, if the session may make it.
     fn permissions_with(&self, connection: u32, grant: &Grant) -> Result<Permissions, PolicyFault>
         ensures ok { IfOk result (λ next. rows.grant self.now connection grant.now ≡ Ok (record self.now { granted = next.granted })) }
         ensures same { IfOk result (λ next. next.roles ≡ self.now.roles) }
@@ -273,10 +269,10 @@ impl Policy {
         Ok(self.permissions.with(grant)?)
     }
 
-    /// Takes a grant back (RevokePermission).
+    /// Removes a grant (RevokePermission).
     ///
     /// # Errors
-    /// `NoSession`, `NotPermitted`, `Unknown` grant, tested in this order; or `Memory`. The policy is then as it was.
+    /// `NoSession`, `NotPermitted`, `Unknown` grant, tested in this order; or `Memory`. Then the policy is unchanged.
     pub fn revoke(&mut self, connection: u32, grant: &Grant) -> Result<(), PolicyFault>
         ensures ok { OnOk result (rows.revoke self.old connection grant.now ≡ Ok self.new) }
         ensures refused { IfErr result (IsFaultOf (rows.revoke self.old connection grant.now)) }

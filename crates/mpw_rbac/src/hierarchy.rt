@@ -19,12 +19,12 @@ use mpw_geom::Name;
 use mpw_permissions::Permissions;
 use mpw_roles::{Roles, RolesFault};
 
-/// What is done to an immediate pair of roles.
+/// A change of an immediate pair of roles.
 #[derive(Clone, Copy)]
 pub(crate) enum PairChange {
     /// The senior becomes an immediate senior of the junior.
     Inherit,
-    /// The senior is that no longer.
+    /// The senior no longer is an immediate senior of the junior.
     Uninherit,
 }
 
@@ -53,7 +53,7 @@ pub(crate) fn without_role(
     Ok(permissions.without_role(roles, role)?)
 }
 
-/// Changes a pair of the roles.
+/// Adds or removes a pair of the roles.
 fn change_pair(
     roles: &mut Roles,
     change: PairChange,
@@ -69,7 +69,7 @@ fn change_pair(
     }
 }
 
-/// With a pair more, or less.
+/// The permissions after a pair is added or removed.
 fn with_changed_pair(
     permissions: &Permissions,
     change: PairChange,
@@ -89,8 +89,7 @@ impl Policy {
     /// Makes the senior an immediate senior of the junior (AddInheritance).
     ///
     /// # Errors
-    /// `NoSession`, `NotPermitted`, `Unknown` role, `Known`, `Loop`, `Ssd`, `Dsd`, tested in this order; or `Memory`. The
-    /// policy is then as it was.
+    /// `NoSession`, `NotPermitted`, `Unknown` role, `Known`, `Loop`, `Ssd`, `Dsd`, tested in this order; or `Memory`. Then the policy is unchanged.
     pub fn inherit(
         &mut self,
         connection: u32,
@@ -114,11 +113,10 @@ impl Policy {
         Ok(())
     }
 
-    /// Takes back that the senior is an immediate senior of the junior; sessions lose what the pair authorized
-    /// (DeleteInheritance).
+    /// Removes an immediate pair of roles. Sessions lose what the pair authorized (DeleteInheritance).
     ///
     /// # Errors
-    /// `NoSession`, `NotPermitted`, `Unknown` pair, tested in this order; or `Memory`. The policy is then as it was.
+    /// `NoSession`, `NotPermitted`, `Unknown` pair, tested in this order; or `Memory`. Then the policy is unchanged.
     pub fn uninherit(
         &mut self,
         connection: u32,

@@ -1,8 +1,8 @@
-//! The access control policy of the desk: users, roles, grants, separation sets and sessions
-//! (ANSI INCITS 359-2004, core RBAC with a general role hierarchy and separation of duty).
+//! The access control policy of the desk: users, roles, grants, separation sets and sessions (ANSI INCITS 359-2004, core RBAC with a
+//! general role hierarchy and separation of duty).
 //!
-//! [`Policy`] answers each request by the tests of its row, in their order: the first that fails refuses it, and a
-//! refused request changes nothing.
+//! [`Policy`] answers each request by the tests of its decision table, in their order. The first that fails refuses the request. A refused
+//! request changes nothing.
 #![tactic(auto)]
 
 mod access;

@@ -77,14 +77,14 @@ impl Policy {
         self.users.roster().get(user)
     }
 
-    /// Whether that is a user.
+    /// Whether the user exists.
     pub(crate) fn is_user(&self, user: &Name) -> bool
         ensures { result ≡ is_user self.now user.now }
     {
         self.users.roster().contains(user)
     }
 
-    /// Whether that is a role.
+    /// Whether the role exists.
     pub(crate) fn is_role(&self, role: &Name) -> bool
         ensures { result ≡ is_role self.now.roles role.now }
     {
@@ -101,29 +101,29 @@ impl Policy {
         }
     }
 
-    /// Whether that was granted.
+    /// Whether the grant exists.
     pub(crate) fn has_grant(&self, grant: &Grant) -> bool
         ensures { result ≡ list_any (grant_eq grant.now) self.now.granted }
     {
         self.permissions.has_grant(grant)
     }
 
-    /// Whether one more user fits.
+    /// Whether there is room for one more user.
     pub(crate) fn has_room_for_user(&self) -> bool
         ensures { result ≡ nat_lt (length self.now.users) max_users }
     {
         self.users.roster().len() < MAX_USERS
     }
 
-    /// Whether one more grant fits.
+    /// Whether there is room for one more grant.
     pub(crate) fn has_room_for_grant(&self) -> bool
         ensures { result ≡ nat_lt (length self.now.granted) max_grants }
     {
         self.permissions.has_room(MAX_GRANTS)
     }
 
-    /// Whether some acting role of the connection's session was granted the operation on the object (CheckAccess). It takes
-    /// no memory, and costs a look through the sessions, a look-up of the object, and an `and` of eight words.
+    /// Whether some acting role of the connection's session has a grant of the operation on the object (CheckAccess). It takes no memory.
+    /// Cost: a search of the sessions, a look-up of the object, and an `and` of eight words.
     pub fn permits(&self, connection: u32, operation: Operation, object: &Object) -> bool
         ensures { result ≡ permits self.now connection operation object.now }
     {
@@ -156,10 +156,10 @@ impl Policy {
         }
     }
 
-    /// The new desk's policy: one user, the officer, with the role `officer`, which may administer the desk.
+    /// The policy of a new desk: one user, the officer, with the role `officer`, which may administer the desk.
     ///
     /// # Errors
-    /// Where there is no room for it.
+    /// `Memory` if out of memory.
     pub fn new(alloc: Global, officer: Name, digest: Digest) -> Result<Policy, PolicyFault>
         ensures ok { IfOk result (λ policy. policy ≡ new_policy officer digest) }
         ensures memory { IfErr result (λ fault. fault ≡ PolicyFault.Memory) }
@@ -175,10 +175,10 @@ impl Policy {
         })
     }
 
-    /// The same policy. Users, roles, grants and their masks are shared, a count each; sets and sessions are copied.
+    /// The same policy. Users, roles, grants and their masks are shared, with a count each. Sets and sessions are copied.
     ///
     /// # Errors
-    /// Where there is no room for it.
+    /// `AllocError` if out of memory.
     pub fn copy(&self) -> Result<Policy, AllocError>
         ensures { IfOk result (λ policy. policy ≡ self.now) }
     {
@@ -225,7 +225,7 @@ fn first_users(
     Users::new(roles)?.with(roles, &officer, value)
 }
 
-/// The grant of a new desk: that the officer may administer it.
+/// The grant of a new desk: the officer may administer it.
 fn first_grant(role: Name) -> Grant
     ensures { result ≡ record { operation = Operation.Admin; object = Object.Desk; role = role } }
 {

@@ -11,30 +11,30 @@ use std::alloc::AllocError;
 use std::error::Error;
 use std::fmt;
 
-/// What the written policy answers in place of a change.
+/// What the written policy answers instead of a change.
 #[derive(Drop)]
 pub enum Refusal {
     /// The connection has a session already.
     Opened,
-    /// No such user, or another token.
+    /// There is no such user, or the token is wrong.
     Login,
     /// The connection has no session.
     NoSession,
-    /// No acting role was granted the operation on the object.
+    /// No acting role has a grant of the operation on the object.
     NotPermitted(Operation, Object),
     /// The name is no role, or none that the user is authorized for.
     NotAuthorized(Name),
-    /// A static separation set would be broken: the least name of one.
+    /// A static separation set would be broken. The name is the first in alphabetical order.
     Ssd(Name),
-    /// A dynamic separation set would be broken: the least name of one.
+    /// A dynamic separation set would be broken. The name is the first in alphabetical order.
     Dsd(Name),
-    /// What is named isn't there.
+    /// The named item doesn't exist.
     Unknown,
     /// The pair would close a cycle.
     Loop,
-    /// What is to be added is there.
+    /// The item to be added exists already.
     Known,
-    /// The role is one of a separation set.
+    /// The role is in a separation set.
     Used,
     /// A table is at its limit.
     Full,
@@ -43,9 +43,9 @@ pub enum Refusal {
 /// Why a call changed nothing.
 #[derive(Drop)]
 pub enum PolicyFault {
-    /// The first test of the request's row that fails.
+    /// The first test of the request's decision table that fails.
     Refused(Refusal),
-    /// There was no room; the policy is as it was.
+    /// Memory ran out. The policy is unchanged.
     Memory,
 }
 

@@ -1,8 +1,7 @@
 //! The users, each with a digest and the assigned roles, in the order in which they were added.
 //!
-//! Names stand in a [`Register`], and what is known of a user behind a shared pointer. So a copy is a count for each
-//! user and for each of the latest names, and to look one up is a hash. A user less numbers the names anew: a hash for
-//! each.
+//! Names are in a [`Register`], and the data of each user in a shared pointer. So a copy costs a count for each user and for each of the
+//! latest names, and a look-up costs a hash. Removing a user numbers the names again, with a hash for each.
 ghost use Rattle.std.specs.Prelude.{◌≡◌, ◌<◌, ◌++◌, ◌∷◌, [], ℕ, List, length, map, position, take, drop, slice_get, zip, remove, is_some, true, IfOk, IfSome, OnOk};
 ghost use Rattle.std.specs.Option.{option_copied};
 ghost use Rattle.mpw_geom.specs.Names.{name_eq, without_name};
@@ -19,7 +18,7 @@ use mpw_roles::Register;
 use std::alloc::{AllocError, Global};
 use std::marker::Model;
 
-/// What is known of a user, which copies share.
+/// The data of a user, which copies share.
 pub(crate) type SharedUser = Shared<User>;
 
 /// The user without an assignment.
@@ -57,7 +56,7 @@ impl Model for Roster {
     ghost invariant = { λ roster. length roster.names ≡ length roster.values.items };
 }
 
-/// The users without the assignments of a role.
+/// The data of the users without the assignments of a role.
 fn values_without_assignments(
     alloc: Global,
     values: &[SharedUser],
@@ -85,7 +84,7 @@ fn names_of(alloc: Global, register: &Register) -> Result<Names, AllocError>
     Ok(names)
 }
 
-/// The values but that at a place.
+/// The values without the one at an index.
 fn values_without(
     alloc: Global,
     values: &[SharedUser],
@@ -99,7 +98,7 @@ fn values_without(
     Ok(values)
 }
 
-/// The names of a register but one, with numbers of their own.
+/// The names of a register without one, numbered again.
 fn names_without(alloc: Global, register: &Register, name: &Name) -> Result<Register, AllocError>
     requires { are_distinct register.now ≡ true }
     ensures { IfOk result (λ left. left ≡ without_name register.now name.now) }
@@ -109,7 +108,7 @@ fn names_without(alloc: Global, register: &Register, name: &Name) -> Result<Regi
     Register::of_names(alloc, names.as_slice())
 }
 
-/// Writes what is known of a user, who goes last where there is none with that name.
+/// Sets the data of a user. A new user is added at the end.
 fn put(
     alloc: Global,
     names: &mut Register,
@@ -147,7 +146,7 @@ impl Roster {
         self.names.len()
     }
 
-    /// The place of a user: a hash.
+    /// The index of a user. Cost: a hash.
     pub(crate) fn place(&self, user: &Name) -> Option<usize>
         ensures place { result ≡ position (name_eq user.now) (map (λ entry. entry.0) self.now) }
         ensures within { IfSome result (λ place. place < length self.now) }
@@ -155,14 +154,14 @@ impl Roster {
         self.names.number(user)
     }
 
-    /// What is known of each user, in the order of the users.
+    /// The data of each user, in the order of the users.
     pub(crate) fn values(&self) -> &[SharedUser]
         ensures { assigned_lists self.now ≡ map (λ (user : UserState). user.roles) result.now }
     {
         self.values.as_slice()
     }
 
-    /// The user at a place.
+    /// The user at an index.
     fn at(&self, place: usize) -> Option<&User>
         ensures { option_copied result ≡ slice_get (map (λ entry. entry.1) self.now) place }
     {
@@ -172,7 +171,7 @@ impl Roster {
         }
     }
 
-    /// What is known of a user: a hash.
+    /// The data of a user. Cost: a hash.
     pub(crate) fn get(&self, user: &Name) -> Option<&User>
         ensures { option_copied result ≡ value_at name_eq self.now user.now }
     {
@@ -182,14 +181,14 @@ impl Roster {
         }
     }
 
-    /// Whether that is a user: a hash.
+    /// Whether the user exists. Cost: a hash.
     pub(crate) fn contains(&self, user: &Name) -> bool
         ensures { result ≡ has_key name_eq self.now user.now }
     {
         self.place(user).is_some()
     }
 
-    /// The same users: a count for each.
+    /// The same users. Cost: a count for each.
     fn copy(&self, alloc: Global) -> Result<Roster, AllocError>
         ensures { IfOk result (λ roster. roster ≡ self.now) }
     {
@@ -198,7 +197,7 @@ impl Roster {
         Ok(Roster { names, values })
     }
 
-    /// Takes another value of a user, who goes last where there is none with that name.
+    /// Sets the data of a user. A new user is added at the end.
     fn put(self, alloc: Global, user: &Name, value: SharedUser) -> Result<Roster, AllocError>
         ensures { IfOk result (λ roster. roster ≡ insert_entry name_eq self user.now value) }
     {
@@ -210,7 +209,7 @@ impl Roster {
         Ok(Roster { names, values })
     }
 
-    /// The users with one more, or with another value of one: a count for each.
+    /// The users with one more, or with other data of one. Cost: a count for each.
     pub(crate) fn with(&self, alloc: Global, user: &Name, value: User) -> Result<Roster, AllocError>
         ensures { IfOk result (λ roster. roster ≡ insert_entry name_eq self.now user.now value) }
     {
@@ -218,7 +217,7 @@ impl Roster {
         self.copy(alloc)?.put(alloc, user, value)
     }
 
-    /// The users but one: a hash for each other one.
+    /// The users without one. Cost: a hash for each other one.
     pub(crate) fn without(&self, alloc: Global, user: &Name) -> Result<Roster, AllocError>
         ensures { IfOk result (λ roster. roster ≡ without_key name_eq self.now user.now) }
     {

@@ -20,8 +20,8 @@ use mpw_geom::Name;
 use mpw_roles::Roles;
 use mpw_separation::{Kind, PlacedSets, SeparationSet, SetsFault, lesser};
 
-/// The least name of the sets of the kind that some seniors break: a look-up for each of these, and an `and` of eight words for
-/// each set.
+/// The first name, in alphabetical order, of a set of the kind that some seniors break. Cost: a look-up for each of these, and an `and` of
+/// eight words for each set.
 pub(crate) fn first_broken<'a>(
     sets: &'a PlacedSets,
     kind: Kind,
@@ -36,8 +36,8 @@ pub(crate) fn first_broken<'a>(
     sets.first_broken(kind, &below)
 }
 
-/// The least name of the static sets that some user breaks. It takes no memory, and costs an `and` of eight words for
-/// each user and set.
+/// The first name, in alphabetical order, of a static set that some user breaks. It takes no memory. Cost: an `and` of eight words for each
+/// user and set.
 pub(crate) fn least_static<'a>(
     sets: &'a PlacedSets,
     roles: &Roles,
@@ -56,8 +56,8 @@ pub(crate) fn least_static<'a>(
     least
 }
 
-/// The least name of the dynamic sets that some session breaks. It takes no memory, and costs a look-up for each active role, and
-/// an `and` of eight words for each session and set.
+/// The first name, in alphabetical order, of a dynamic set that some session breaks. It takes no memory. Cost: a look-up for each active
+/// role, and an `and` of eight words for each session and set.
 pub(crate) fn least_dynamic<'a>(
     sets: &'a PlacedSets,
     roles: &Roles,
@@ -75,8 +75,7 @@ pub(crate) fn least_dynamic<'a>(
     least
 }
 
-/// Whether some user breaks the set. It takes no memory, and costs a look-up for each role of the set, and an `and` of eight
-/// words for each user.
+/// Whether some user breaks the set. It takes no memory. Cost: a look-up for each role of the set, and an `and` of eight words for each user.
 fn breaks_a_user(set: &SeparationSet, roles: &Roles, users: &Users) -> bool
     requires { AreAuthorized roles.now users.now }
     ensures { result ≡ is_broken roles.now (assigned_lists users.now.users) set.now }
@@ -91,8 +90,7 @@ fn breaks_a_user(set: &SeparationSet, roles: &Roles, users: &Users) -> bool
     false
 }
 
-/// Whether some session breaks the set. It takes no memory, and costs a look-up for each role of the set, and an `and` of eight
-/// words for each session.
+/// Whether some session breaks the set. It takes no memory. Cost: a look-up for each role of the set, and an `and` of eight words for each session.
 fn breaks_a_session(set: &SeparationSet, roles: &Roles, sessions: &[Connected]) -> bool
     requires { AreBelow roles.now (active_lists (sessions_in sessions.now)) (masks_in sessions.now) }
     ensures { result ≡ is_broken roles.now (active_lists (sessions_in sessions.now)) set.now }
@@ -107,7 +105,7 @@ fn breaks_a_session(set: &SeparationSet, roles: &Roles, sessions: &[Connected]) 
     false
 }
 
-/// Makes a set of the kind of these roles, for which the sets are placed.
+/// Makes a set of the kind. The sets' masks are those of these roles.
 fn make(
     sets: &mut PlacedSets,
     kind: Kind,
@@ -126,7 +124,7 @@ fn make(
     }
 }
 
-/// Takes a set of the kind away; the sets are placed for these roles. It takes no memory.
+/// Removes a set of the kind. The sets' masks are those of these roles. It takes no memory.
 fn remove(sets: &mut PlacedSets, kind: Kind, roles: &Roles, name: &Name) -> Result<(), SetsFault>
     ensures ok { OnOk result (set_rows.remove (sets_of kind sets.old.sets) name.now ≡ Ok (sets_of kind sets.new.sets)) }
     ensures refused { IfErr result (λ fault. set_rows.remove (sets_of kind sets.old.sets) name.now ≡ Err fault) }
@@ -140,7 +138,7 @@ fn remove(sets: &mut PlacedSets, kind: Kind, roles: &Roles, name: &Name) -> Resu
     }
 }
 
-/// How a broken set of the kind is told.
+/// The refusal of a broken set of the kind.
 fn set_refusal(kind: Kind, name: Name) -> Refusal
     ensures { result ≡ set_refusal kind name }
 {
@@ -154,8 +152,7 @@ impl Policy {
     /// Makes a static set (CreateSsdSet).
     ///
     /// # Errors
-    /// `NoSession`, `NotPermitted`, `Known`, `Unknown` role, `Ssd`, `Full`, tested in this order; or `Memory`. The policy
-    /// is then as it was.
+    /// `NoSession`, `NotPermitted`, `Known`, `Unknown` role, `Ssd`, `Full`, tested in this order; or `Memory`. Then the policy is unchanged.
     pub fn ssd(&mut self, connection: u32, set: SeparationSet) -> Result<(), PolicyFault>
         ensures ok { OnOk result (rows.ssd self.old connection set ≡ Ok self.new) }
         ensures refused { IfErr result (IsFaultOf (rows.ssd self.old connection set)) }
@@ -167,8 +164,7 @@ impl Policy {
     /// Makes a dynamic set (CreateDsdSet).
     ///
     /// # Errors
-    /// `NoSession`, `NotPermitted`, `Known`, `Unknown` role, `Dsd`, `Full`, tested in this order; or `Memory`. The policy
-    /// is then as it was.
+    /// `NoSession`, `NotPermitted`, `Known`, `Unknown` role, `Dsd`, `Full`, tested in this order; or `Memory`. Then the policy is unchanged.
     pub fn dsd(&mut self, connection: u32, set: SeparationSet) -> Result<(), PolicyFault>
         ensures ok { OnOk result (rows.dsd self.old connection set ≡ Ok self.new) }
         ensures refused { IfErr result (IsFaultOf (rows.dsd self.old connection set)) }
@@ -177,10 +173,10 @@ impl Policy {
         self.make_set(connection, Kind::Dynamic, set)
     }
 
-    /// Takes a static set away (DeleteSsdSet). It takes no memory.
+    /// Removes a static set (DeleteSsdSet). It takes no memory.
     ///
     /// # Errors
-    /// `NoSession`, `NotPermitted`, `Unknown` set, tested in this order. The policy is then as it was.
+    /// `NoSession`, `NotPermitted`, `Unknown` set, tested in this order. Then the policy is unchanged.
     pub fn unssd(&mut self, connection: u32, name: &Name) -> Result<(), PolicyFault>
         ensures ok { OnOk result (rows.unssd self.old connection name.now ≡ Ok self.new) }
         ensures refused { IfErr result (IsFaultOf (rows.unssd self.old connection name.now)) }
@@ -190,10 +186,10 @@ impl Policy {
         self.remove_set(connection, Kind::Static, name)
     }
 
-    /// Takes a dynamic set away (DeleteDsdSet). It takes no memory.
+    /// Removes a dynamic set (DeleteDsdSet). It takes no memory.
     ///
     /// # Errors
-    /// `NoSession`, `NotPermitted`, `Unknown` set, tested in this order. The policy is then as it was.
+    /// `NoSession`, `NotPermitted`, `Unknown` set, tested in this order. Then the policy is unchanged.
     pub fn undsd(&mut self, connection: u32, name: &Name) -> Result<(), PolicyFault>
         ensures ok { OnOk result (rows.undsd self.old connection name.now ≡ Ok self.new) }
         ensures refused { IfErr result (IsFaultOf (rows.undsd self.old connection name.now)) }
@@ -222,7 +218,7 @@ impl Policy {
         Ok(())
     }
 
-    /// The tests of a new set but those of whom it binds and of its room.
+    /// The tests of a new set, without those of the users or sessions that it binds and of room.
     fn may_make_set(
         &self,
         connection: u32,
@@ -244,7 +240,7 @@ impl Policy {
         Ok(())
     }
 
-    /// Takes a set of the kind away. It takes no memory.
+    /// Removes a set of the kind. It takes no memory.
     fn remove_set(&mut self, connection: u32, kind: Kind, name: &Name) -> Result<(), PolicyFault>
         ensures ok { OnOk result (kinds.remove_set kind self.old connection name.now ≡ Ok self.new) }
         ensures refused { IfErr result (IsFaultOf (kinds.remove_set kind self.old connection name.now)) }

@@ -1,4 +1,4 @@
-//! Users and sessions, as the policy's tables keep them.
+//! Users and sessions, as the policy's tables store them.
 use mpw_geom::{Name, Names};
 
 /// The SHA-256 of a token.
@@ -8,7 +8,7 @@ pub type Digest = [u8; 32];
 pub struct User {
     /// The SHA-256 of the user's token, which opens sessions (FIPS 180-4).
     pub digest: Digest,
-    /// Those at or below them are the ones that the user is authorized for.
+    /// The assigned roles. The user is authorized for those at or below them.
     pub roles: Names,
 }
 
@@ -24,7 +24,7 @@ impl Drop for User {
 pub struct Session {
     /// Who opened it.
     pub user: Name,
-    /// Those at or below them act. Each is one that the user is authorized for.
+    /// The active roles. Those at or below them act. The user is authorized for each active role.
     pub active: Names,
 }
 
@@ -36,7 +36,7 @@ impl Drop for Session {
     }
 }
 
-/// What a session is told of itself: its user, and the active and the authorized roles, each by name.
+/// What `whoami` shows of a session: its user, and the active and the authorized roles, each in alphabetical order.
 #[derive(Drop)]
 pub struct Identity {
     /// The session's user.

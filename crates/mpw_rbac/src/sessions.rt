@@ -1,4 +1,4 @@
-//! Sessions: of one connection and one user each, with the active roles that the session chose.
+//! Sessions: each has one connection, one user, and the active roles that it chose.
 ghost use Rattle.std.specs.Prelude.{◌≡◌, ◌≢◌, true, false, is_some, [], ◌∷◌, ◌++◌, IfOk, IfErr, OnOk, OnErr, Ok, Err};
 ghost use Rattle.std.specs.Option.{option_copied};
 ghost use Rattle.mpw_geom.specs.Names.{contains_name, without_name, by_name};
@@ -15,7 +15,7 @@ use mpw_roles::Below;
 use mpw_separation::Kind;
 use std::alloc::AllocError;
 
-/// The names in their order.
+/// The names in alphabetical order.
 fn sorted(names: Names) -> Result<Names, AllocError>
     ensures { IfOk result (λ sorted. sorted ≡ by_name names) }
 {
@@ -28,8 +28,7 @@ impl Policy {
     /// Begins the connection's session for a user, without active roles (CreateSession).
     ///
     /// # Errors
-    /// `Opened`, then `Login` where the user is unknown or the digest another; or `Memory`. The policy is then as it
-    /// was.
+    /// `Opened`, then `Login` if the user is unknown or the digest is wrong; or `Memory`. Then the policy is unchanged.
     pub fn open(&mut self, connection: u32, user: &Name, digest: &Digest) -> Result<(), PolicyFault>
         ensures ok { OnOk result (rows.open_session self.old connection user.now digest.now ≡ Ok self.new) }
         ensures refused { IfErr result (IsFaultOf (rows.open_session self.old connection user.now digest.now)) }
@@ -53,7 +52,7 @@ impl Policy {
     /// Ends the connection's session (DeleteSession). It takes no memory.
     ///
     /// # Errors
-    /// `NoSession`. The policy is then as it was.
+    /// `NoSession`. Then the policy is unchanged.
     pub fn close(&mut self, connection: u32) -> Result<(), PolicyFault>
         ensures ok { OnOk result (rows.close_session self.old connection ≡ Ok self.new) }
         ensures refused { IfErr result (IsFaultOf (rows.close_session self.old connection)) }
@@ -74,7 +73,7 @@ impl Policy {
         self.sessions.remove(connection);
     }
 
-    /// Ends every session, as a desk does that begins anew. It takes no memory.
+    /// Ends every session, as a restart of the desk does. It takes no memory.
     pub fn end_all(&mut self)
         ensures { self.new ≡ end_sessions self.old }
     {
@@ -84,7 +83,7 @@ impl Policy {
     /// Makes a role active in the connection's session (AddActiveRole).
     ///
     /// # Errors
-    /// `NoSession`, `NotAuthorized`, `Known`, `Dsd`, tested in this order; or `Memory`. The policy is then as it was.
+    /// `NoSession`, `NotAuthorized`, `Known`, `Dsd`, tested in this order; or `Memory`. Then the policy is unchanged.
     pub fn activate(&mut self, connection: u32, role: &Name) -> Result<(), PolicyFault>
         ensures ok { OnOk result (rows.activate self.old connection role.now ≡ Ok self.new) }
         ensures refused { IfErr result (IsFaultOf (rows.activate self.old connection role.now)) }
@@ -99,7 +98,7 @@ impl Policy {
         Ok(())
     }
 
-    /// The tests of a role that is to be active but that of the sets.
+    /// The tests of a role that is to be activated, without that of the sets.
     fn activation_begins(&self, connection: u32, role: &Name) -> Result<(), PolicyFault>
         ensures session { OnOk result (is_some (session_of self.now connection) ≡ true) }
         ensures authorized { OnOk result (contains_name (authorized self.now (user_of self.now connection)) role.now ≡ true) }
@@ -118,10 +117,10 @@ impl Policy {
         Ok(())
     }
 
-    /// Lets a role of the connection's session be active no longer (DropActiveRole).
+    /// Makes an active role of the connection's session inactive (DropActiveRole).
     ///
     /// # Errors
-    /// `NoSession`, then `Unknown` where the role isn't active; or `Memory`. The policy is then as it was.
+    /// `NoSession`, then `Unknown` if the role isn't active; or `Memory`. Then the policy is unchanged.
     pub fn drop_role(&mut self, connection: u32, role: &Name) -> Result<(), PolicyFault>
         ensures ok { OnOk result (rows.drop_role self.old connection role.now ≡ Ok self.new) }
         ensures refused { IfErr result (IsFaultOf (rows.drop_role self.old connection role.now)) }
@@ -138,7 +137,7 @@ impl Policy {
         Ok(())
     }
 
-    /// What the connection's session is told of itself.
+    /// What `whoami` shows of the connection's session.
     ///
     /// # Errors
     /// `NoSession`; or `Memory`.
@@ -152,7 +151,7 @@ impl Policy {
         Ok(self.identity(session)?)
     }
 
-    /// What a session is told of itself.
+    /// What `whoami` shows of a session.
     fn identity(&self, session: &Session) -> Result<Identity, AllocError>
         ensures { IfOk result (λ identity. identity ≡ identity_of self.now session.now) }
     {
@@ -173,7 +172,7 @@ impl Policy {
         self.session(connection).is_some()
     }
 
-    /// Whether the user is known with this digest.
+    /// Whether the user exists and has this digest.
     fn is_login(&self, user: &Name, digest: &Digest) -> bool
         ensures { result ≡ is_login self.now user.now digest.now }
     {
@@ -204,7 +203,7 @@ impl Policy {
         }
     }
 
-    /// The connection's session with one more active role: its juniors act too.
+    /// The connection's session with one more active role. Its juniors act too.
     fn with_active_role(&self, connection: u32, role: &Name) -> Result<Active, AllocError>
         requires { is_some (session_of self.now connection) ≡ true }
         ensures acting { IfOk result (λ next. IsBelow self.now.roles next.session.active next.acting) }
@@ -225,7 +224,7 @@ impl Policy {
         })
     }
 
-    /// The connection's session with one active role less.
+    /// The connection's session with one active role fewer.
     fn without_active_role(&self, connection: u32, role: &Name) -> Result<Active, AllocError>
         requires { is_some (session_of self.now connection) ≡ true }
         ensures acting { IfOk result (λ next. IsBelow self.now.roles next.session.active next.acting) }
@@ -240,7 +239,7 @@ impl Policy {
         Ok(Active::new(self.permissions.roles(), Session { user, active }))
     }
 
-    /// The least name of the dynamic sets that the roles break which act in a session.
+    /// The first name, in alphabetical order, of a dynamic set that the acting roles of a session break.
     fn broken_by_active(&self, active: &Active) -> Option<&Name>
         ensures { IsBelow self.now.roles active.now.session.active active.now.acting → option_copied result ≡ least_broken self.now.roles self.now.dsd (active.now.session.active ∷ []) }
     {
@@ -248,7 +247,7 @@ impl Policy {
         self.sets.first_broken(Kind::Dynamic, &active.acting)
     }
 
-    /// The roles that a user is authorized for: a look-up.
+    /// The roles that a user is authorized for. Cost: a look-up.
     fn below_authorized(&self, user: &Name) -> Below<'_>
         ensures { result ≡ authorized self.now user.now }
     {
@@ -256,7 +255,7 @@ impl Policy {
         self.permissions.roles().at_places(&authorized)
     }
 
-    /// The roles that a user is authorized for, by name.
+    /// The roles that a user is authorized for, in alphabetical order.
     fn authorized_by_name(&self, user: &Name) -> Result<Names, AllocError>
         ensures { IfOk result (λ names. names ≡ by_name (authorized self.now user.now)) }
     {

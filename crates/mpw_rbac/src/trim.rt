@@ -1,4 +1,4 @@
-//! What a change of users or roles takes from a session.
+//! What a session loses by a change of users or roles.
 ghost use Rattle.std.specs.Prelude.{◌≡◌, filter};
 ghost use Rattle.mpw_geom.specs.Names.{contains_name};
 ghost use Rattle.mpw_rbac.specs.Masked.{AreAuthorized};
@@ -11,7 +11,7 @@ use mpw_geom::{Name, Names};
 use mpw_roles::{Below, Roles};
 use std::mem;
 
-/// Keeps those of the names that are among the roles below.
+/// Removes the names that aren't among the roles below.
 fn keep_below(below: &Below, names: &mut Names, empty: Names)
     ensures { names.new ≡ filter (contains_name below.now) names.old }
 {
@@ -24,7 +24,7 @@ fn keep_below(below: &Below, names: &mut Names, empty: Names)
     *names = Names::from_vec(items);
 }
 
-/// Keeps those active roles of a session that its user is authorized for, and says whether the user is there: a look-up for each
+/// Removes the active roles of a session that its user isn't authorized for. It returns whether the user exists. Cost: a look-up for each
 /// active role.
 pub(crate) fn keep(users: &Users, roles: &Roles, session: &mut Session) -> bool
     ensures user { result ≡ is_user (users_and_roles users.now.users roles.now) session.old.user }

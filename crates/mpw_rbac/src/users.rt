@@ -1,9 +1,7 @@
-//! The roster of users, which copies of the policy share, and beside it for each user the places of the roles that the
-//! user is authorized for, as a mask.
+//! The roster of users, which copies of the policy share. Each user has a mask with the indexes of the roles that the user is authorized for.
 //!
-//! The masks are made for the policy's roles, and an invariant of the policy says so. A change of one user makes that
-//! user's mask, and a pair more joins the junior's mask into those that need it; any other change of roles makes them
-//! anew, a look-up for each assigned role.
+//! The masks are those of the policy's roles, by an invariant of the policy. A change of one user makes that user's mask. A new pair adds
+//! the junior's mask to those that need it. Any other change of roles makes all masks again, with a look-up for each assigned role.
 ghost use Rattle.std.specs.Prelude.{◌≡◌, ◌||◌, ◌&&◌, ◌<◌, ◌++◌, ◌∷◌, [], ℕ, List, length, map, slice_set, true, IfOk, IfSome};
 ghost use Rattle.std.specs.Option.{option_map_or};
 ghost use Rattle.mpw_geom.specs.Names.{name_eq};
@@ -25,7 +23,7 @@ use std::alloc::{AllocError, Global};
 use std::marker::Model;
 use std::sync::Arc;
 
-/// Users in the order in which they were added. A copy is two counts; a change is a roster of its own.
+/// Users in the order in which they were added. A copy costs two counts. A change makes a new roster.
 pub(crate) struct Users {
     roster: Arc<Roster>,
     masks: Arc<Vec<Mask>>,
@@ -50,7 +48,7 @@ impl Model for Users {
     ghost invariant = { λ kept. length kept.masks.value.items ≡ length kept.roster.value };
 }
 
-/// The masks of the roles that each user is authorized for: a look-up for each assigned role.
+/// The masks of the roles that each user is authorized for. Cost: a look-up for each assigned role.
 fn masks_of(roles: &Roles, users: &[SharedUser]) -> Result<Vec<Mask>, AllocError>
     ensures { IfOk result (λ masks. AreBelow roles.now (map (λ (user : UserState). user.roles) users.now) masks.items) }
 {
@@ -61,7 +59,7 @@ fn masks_of(roles: &Roles, users: &[SharedUser]) -> Result<Vec<Mask>, AllocError
     Ok(masks)
 }
 
-/// The users with one more, or with another value of one, shared.
+/// The users with one more, or with other data of one, shared.
 fn with_user(
     alloc: Global,
     roster: &Roster,
@@ -73,7 +71,7 @@ fn with_user(
     Ok(Arc::new(alloc, roster.with(alloc, user, value)?)?)
 }
 
-/// The masks with another one at a place, or with one more at the end.
+/// The masks with another one at an index, or with one more at the end.
 fn masks_with(
     alloc: Global,
     masks: &[Mask],
@@ -92,7 +90,7 @@ fn masks_with(
     Ok(next)
 }
 
-/// The masks of users after one more pair of these roles: a copy of the masks.
+/// The masks of users after one more pair of these roles. Cost: a copy of the masks.
 fn joined_masks(
     roles: &Roles,
     masks: &[Mask],
@@ -111,7 +109,7 @@ fn joined_masks(
     Ok(next)
 }
 
-/// The mask at the place of a user among some; none where there is no such user.
+/// The mask at the index of a user. It is empty if there is no such user.
 fn mask_of(roster: &Roster, masks: &Vec<Mask>, user: &Name) -> Mask
     requires { length masks.now.items ≡ length roster.now }
     ensures { (h : Hierarchy) → AreBelow h (assigned_lists roster.now) masks.now.items → IsBelow h (assigned_roles (users_and_roles roster.now h) user.now) result }
@@ -123,7 +121,7 @@ fn mask_of(roster: &Roster, masks: &Vec<Mask>, user: &Name) -> Mask
 }
 
 impl Users {
-    /// The users of a roster, with these masks of theirs.
+    /// The users of a roster, with these masks.
     fn with_masks(roles: &Roles, roster: Arc<Roster>, masks: Vec<Mask>) -> Result<Users, AllocError>
         requires { AreBelow roles.now (assigned_lists roster.value) masks.items }
         ensures { IfOk result (AreUsers roles.now roster.value) }
@@ -157,21 +155,21 @@ impl Users {
         &self.roster
     }
 
-    /// The masks of the users, each at its user's place.
+    /// The masks of the users, in the order of the users.
     pub(crate) fn masks(&self) -> &[Mask]
         ensures { result.now ≡ self.now.masks }
     {
         self.masks.as_slice()
     }
 
-    /// The places of the roles that a user is authorized for; none where there is no such user.
+    /// The indexes of the roles that a user is authorized for. It is empty if there is no such user.
     pub(crate) fn authorized_places(&self, user: &Name) -> Mask
         ensures { (h : Hierarchy) → AreAuthorized h self.now → IsBelow h (assigned_roles (users_and_roles self.now.users h) user.now) result }
     {
         mask_of(&self.roster, &self.masks, user)
     }
 
-    /// The users with one more, or with another value of one: a count for each user, and a copy of the masks.
+    /// The users with one more, or with other data of one. Cost: a count for each user, and a copy of the masks.
     pub(crate) fn with(&self, roles: &Roles, user: &Name, value: User) -> Result<Users, AllocError>
         requires { AreAuthorized roles.now self.now }
         ensures { IfOk result (AreUsers roles.now (insert_entry name_eq self.now.users user.now value)) }
@@ -184,7 +182,7 @@ impl Users {
         Users::with_masks(roles, roster, masks)
     }
 
-    /// The users but one.
+    /// The users without one.
     pub(crate) fn without(&self, roles: &Roles, user: &Name) -> Result<Users, AllocError>
         ensures { IfOk result (AreUsers roles.now (without_key name_eq self.now.users user.now)) }
     {
@@ -207,15 +205,15 @@ impl Users {
         )
     }
 
-    /// The same users among other roles: other masks.
+    /// The same users with the masks of other roles.
     pub(crate) fn among(&self, roles: &Roles) -> Result<Users, AllocError>
         ensures { IfOk result (AreUsers roles.now self.now.users) }
     {
         Users::of(roles, self.roster.clone()?)
     }
 
-    /// The same users after one more pair of these roles: whoever is authorized for the senior is for the junior's roles
-    /// too. A copy of the masks.
+    /// The same users after one more pair of these roles: each user authorized for the senior is authorized for the junior's roles too.
+    /// Cost: a copy of the masks.
     pub(crate) fn with_joined_masks(
         &self,
         roles: &Roles,
@@ -232,7 +230,7 @@ impl Users {
         Ok(Users { roster, masks })
     }
 
-    /// The same users with the same masks: two counts.
+    /// The same users with the same masks. Cost: two counts.
     pub(crate) fn copy(&self) -> Result<Users, AllocError>
         ensures { IfOk result (λ users. users ≡ self.now) }
     {

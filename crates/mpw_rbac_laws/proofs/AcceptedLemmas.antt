@@ -1,4 +1,4 @@
--- Which rows administer, and which tell no set of separation of duty.
+-- Which decision tables administer, and which denials name no set of separation of duty.
 use Rattle.std.proofs.Common.{◌≡◌, ℕ, false, List, Err}
 use Rattle.mpw_roles.specs.Hierarchy.{Name}
 use Rattle.mpw_separation.specs.declared.set.Kind.{Kind}

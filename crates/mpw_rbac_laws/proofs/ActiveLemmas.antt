@@ -1,4 +1,4 @@
--- Each session that an administrative request leaves was there, with all of its active roles.
+-- Each session after an administrative request was there before, with all of its active roles.
 use Rattle.std.proofs.Common.{◌≡◌, ℕ, Bool, true, false, cond, not, ◌||◌, ◌==◌, List, [], ◌∷◌, map, filter, Ok, refl, sym, ap, subst, ◌∙◌}
 use Rattle.std.specs.List.{list_any, list_all}
 use borrow.Author.Tests.{eq-eqb}
@@ -26,7 +26,7 @@ less-session : (e : ℕ × Session) (active : List Name) → IsPart active e.1.a
 less-session e active part = both (e.0 == e.0) _ (eq-eqb e.0 e.0 refl)
     (both (name_eq e.1.user e.1.user) _ (name_eq-refl e.1.user) (all-part active e.1.active part))
 
--- each session, changed to one that it has been
+-- each session, changed to one that it was before
 was-there : (f : ℕ × Session → ℕ × Session) (keep : ℕ × Session → Bool)
     → ((e : ℕ × Session) → is_session_of (f e) e ≡ true) → (es : List (ℕ × Session))
     → list_all (λ (new : ℕ × Session). list_any (is_session_of new) es) (map f (filter keep es))

@@ -1,4 +1,4 @@
--- What sound means for one user and for one session.
+-- What soundness means for one user and for one session.
 use Rattle.std.proofs.Common.{◌≡◌, ℕ, Bool, true, false, cond, not, ◌||◌, ◌==◌, List, [], ◌∷◌, Some, refl, sym, ap, ◌∙◌, true≢false}
 use Rattle.std.specs.Prelude.{nat_lt, count_by}
 use Rattle.std.specs.List.{list_any, list_all}
@@ -21,7 +21,7 @@ apart : (a b : Bool) → (a || b) ≡ false → (a ≡ false) × (b ≡ false)
 apart true b e = absurd (true≢false e)
 apart false b e = (refl, e)
 
--- what nobody of a table passes, its entry at a key does not
+-- if no entry of a table passes, its entry at a key doesn't
 entry-fails : {K V : Type 0} (eq : K → K → Bool) (test : V → Bool) (es : List (K × V)) (k : K)
     (v : V) → list_any (λ (e : K × V). test e.1) es ≡ false → value_at eq es k ≡ Some v
     → test v ≡ false

@@ -95,7 +95,7 @@ pub denies-undsd : (connection : ℕ) (name : List ℕ)
     → DeniesRightly connection (λ p. rows.undsd p connection name)
 denies-undsd connection name = denies-administration connection (row.RemoveDynamic name)
 
--- a denial that only one of the tests tells
+-- a denial that comes from only one of the tests
 told-by : (denial : Refusal) (before : List rows.Test) (t : rows.Test) (later : List rows.Test)
     (next : Policy) → NoneDenies denial before → NoneDenies denial later
     → decided (before ++ t ∷ later) next ≡ refused denial → (t.0 ≡ false) × (t.1 ≡ denial)
@@ -123,7 +123,7 @@ passed-before denial (x ∷ xs) later next none is =
       | false ↦ λ e. absurd (none.0 (refusal-same x.1 denial e))
     ] is
 
--- the name of a broken set of a kind is told
+-- the denial names a broken set of a kind
 told-named : (kind : Kind) (o : Option Name) (name : Name)
     → (rows.none_broken (set_refusal kind) o).0 ≡ false
     → (rows.none_broken (set_refusal kind) o).1 ≡ set_refusal kind name → o ≡ Some name
@@ -184,7 +184,7 @@ least-inherit_dynamic p connection senior junior name is =
     ++ rows.ssd_holds next ∷ []) (rows.dsd_holds next) [] next
     (f.5, (admin-dynamic name, (f.1, (f.0, (f.4, (ssd-dynamic name _, tt)))))) tt is)
 
--- where a dynamic set is told, the static ones hold
+-- if a denial names a dynamic set, the static ones hold
 pub static-first : (p : Policy) (connection : ℕ) (senior junior name : List ℕ)
     → rows.inherit p connection senior junior ≡ Err (Dsd name)
     → sets_hold (row.inherited p senior junior).roles p.ssd (assigned_lists p.users) ≡ true
@@ -236,7 +236,7 @@ least-dsd p connection set name is = least-made Dynamic p connection set name is
 activation-same : (role other : Name) → NotAuthorized role ≡ NotAuthorized other → other ≡ role
 activation-same role other e = cc
 
--- an activation is denied for the role that was asked for
+-- an activation is denied for the requested role
 pub denies-activate : (p : Policy) (connection : ℕ) (role other : List ℕ)
     → rows.activate p connection role ≡ Err (NotAuthorized other)
     → (other ≡ role) × (contains_name (authorized p (rows.user_of p connection)) role ≡ false)
@@ -250,7 +250,7 @@ denies-activate p connection role other is =
     (f.0, (dsd-activation other _, tt)) is in
     (activation-same role other told.1, told.0)
 
--- the requests of a session want no permission
+-- the requests of a session about itself need no permission
 pub denies-open_session : (connection : ℕ) (user digest : List ℕ)
     → DeniesRightly connection (λ p. rows.open_session p connection user digest)
 denies-open_session connection user digest p op obj is =

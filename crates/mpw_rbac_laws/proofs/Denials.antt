@@ -1,4 +1,4 @@
--- How parts of tests deny.
+-- What parts of tests deny.
 use Rattle.std.proofs.Common.{[], ◌≡◌, ℕ, true, false, cond, List, ◌∷◌, Option, None, Some, Result, Err, refl, sym, ◌∙◌, true≢false}
 use Rattle.mpw_roles.specs.Decided.{decided}
 use Rattle.mpw_roles.specs.Hierarchy.{Name}
@@ -78,7 +78,7 @@ pub activation-permission : (role : Name) (operation : Operation) (object : Obje
     → NotAuthorized role ≡ NotPermitted operation object → ⊥
 activation-permission role operation object e = cc
 
--- what is told of a broken set of a kind
+-- the refusal of a broken set of a kind
 pub kind-plain : (kind : Kind) (name : Name) → IsPlain (set_refusal kind name)
 kind-plain Static name = ssd-plain name
 kind-plain Dynamic name = dsd-plain name
@@ -87,11 +87,11 @@ pub kind-admin : (kind : Kind) (name : Name) → NotPermitted Admin Desk ≡ set
 kind-admin Static name = admin-static name
 kind-admin Dynamic name = admin-dynamic name
 
--- the sets of a kind tell no such denial
+-- the sets of a kind have no such denial
 abbrev pub NoneOfKind : Kind → Refusal → Type 0
 NoneOfKind kind denial = (o : Option Name) → (rows.none_broken (set_refusal kind) o).1 ≡ denial → ⊥
 
--- a request that doesn't test the one kind tells none of it by the other
+-- a request that doesn't test the one kind has no such denial from the other
 pub none-of_kind : (told kind : Kind) (name : Name) (request : row.Administration)
     → row.tests_kind told request ≡ false → row.tests_kind kind request ≡ true
     → NoneOfKind kind (set_refusal told name)
@@ -100,7 +100,7 @@ none-of_kind Static Dynamic name request none some = dsd-static name
 none-of_kind Dynamic Static name request none some = ssd-dynamic name
 none-of_kind Dynamic Dynamic name request none some = absurd (true≢false (sym some ∙ none))
 
--- an administrative request tells no denial but of what it tests
+-- an administrative request is denied only for what it tests
 pub none-tells : (denial : Refusal) → IsPlain denial → (request : row.Administration)
     → ((kind : Kind) → row.tests_kind kind request ≡ true → NoneOfKind kind denial) → (p : Policy)
     → NoneDenies denial (row.tests-of request p)

@@ -1,4 +1,4 @@
--- The tables of a policy name users and roles that are there, and keep their limits.
+-- The tables of a policy name users and roles that exist, and stay within their limits.
 use Rattle.std.proofs.Common.{[], ◌≡◌, ◌≤◌, ℕ, Bool, true, false, cond, not, Some, List, ◌∷◌, ◌++◌, map, filter, length, refl, sym, ap, ◌∙◌, arith}
 use Rattle.std.specs.Prelude.{nat_lt}
 use Rattle.std.specs.List.{list_all}
@@ -136,7 +136,7 @@ pub all-without : (h : Hierarchy) (names : List Name) (role : Name)
     → list_all (is_role h) names ≡ true → list_all (is_role h) (without_name names role) ≡ true
 all-without h names role = all-filter (is_role h) (λ other. not (name_eq role other)) names
 
--- ---- a role that goes
+-- ---- a role that is removed
 
 module _ (h : Hierarchy) (role : Name) where
   left : Hierarchy

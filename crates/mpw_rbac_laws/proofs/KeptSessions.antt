@@ -1,4 +1,4 @@
--- What an accepted row on sessions leaves keeps its tables.
+-- After an accepted request of a session, the tables are still sound.
 use Rattle.std.proofs.Common.{[], ◌≡◌, ℕ, Ok, true, refl, sym, subst, List, ◌∷◌, arith}
 use Rattle.mpw_roles.specs.Decided.{decided}
 use Rattle.mpw_rbac_laws.specs.Existing.{assigns_roles, leads_to_roles, grants_roles, KeepsLimits, AreTablesSound, KeepsTables}
@@ -11,7 +11,8 @@ use Rattle.mpw_rbac_laws.proofs.SoundRows as law
 use Rattle.mpw_rbac.proofs.RowLemmas.{decided-value}
 use Rattle.mpw_rbac.proofs.RowTests as row
 
--- the policy that a row leaves is its next one, which names what is there and keeps the limits
+-- the policy after a table is its next one, which names users and roles that exist and stays within the
+-- limits
 pub kept : (tests : List rows.Test) (next q : Policy) → decided tests next ≡ Ok q → Sound q
     → assigns_roles next.roles next.users ≡ true → leads_to_roles next.roles next.roles ≡ true
     → grants_roles next.roles next.granted ≡ true → KeepsLimits next → AreTablesSound q
@@ -41,7 +42,7 @@ kept-new_desk officer digest =
       };
     }
 
--- a row of sessions leaves the other tables as they are
+-- a request of a session leaves the other tables unchanged
 of-sessions : (p : Policy) (sessions : List (ℕ × Session)) (tests : List rows.Test) (q : Policy)
     → decided tests (record p { sessions = sessions }) ≡ Ok q → Sound q → AreTablesSound p
     → AreTablesSound q

@@ -1,4 +1,4 @@
--- What an accepted row leaves keeps its tables.
+-- After an accepted request, the tables are still sound.
 use Rattle.std.proofs.Common.{[], ◌≡◌, ◌≤◌, ℕ, Ok, true, not, refl, List, ◌∷◌, ◌++◌, length, arith}
 use Rattle.std.specs.List.{list_all}
 use Rattle.mpw_geom.specs.Names.{name_eq, without_name}
@@ -82,7 +82,7 @@ kept-delrole connection role p q is k =
       there.fewer (λ (g : Grant). not (name_eq role g.role)) p.granted,
     ))
 
--- a row of assignments gives one user other roles
+-- a request of an assignment gives one user other roles
 of-assigned : (p : Policy) (user : Name) (roles : List Name) (sessions : List (ℕ × Session))
     (tests : List rows.Test) (q : Policy)
     → decided tests (record (rows.with_assigned p user roles) { sessions = sessions }) ≡ Ok q
@@ -137,7 +137,7 @@ kept-revoke connection old p q is k =
     (all-filter _ (λ other. not (grant_eq old other)) p.granted k.names.grants)
     (grind (arith, k.limits, there.fewer (λ other. not (grant_eq old other)) p.granted))
 
--- a row of pairs gives one role other juniors
+-- a request of a pair gives one role other juniors
 of-juniors : (p : Policy) (senior : Name) (juniors : List Name) (sessions : List (ℕ × Session))
     (tests : List rows.Test) (q : Policy)
     → decided tests (record p {
@@ -176,7 +176,7 @@ kept-uninherit connection senior junior p q is k =
     (there.all-without p.roles (immediate_juniors p.roles senior) junior
     (there.roles-linked p.roles p.roles senior k.names.pairs)) k
 
--- a row of sets leaves the other tables as they are
+-- a request of a set leaves the other tables unchanged
 of-sets : (p : Policy) (ssd dsd : List SeparationSet) (tests : List rows.Test) (q : Policy)
     → decided tests (record p { ssd = ssd; dsd = dsd }) ≡ Ok q → Sound q → length ssd ≤ 64
     → length dsd ≤ 64 → AreTablesSound p → AreTablesSound q

@@ -1,4 +1,4 @@
--- Each accepted row keeps that every active role is authorized.
+-- Each accepted request preserves that every active role is authorized.
 use Rattle.std.proofs.Common.{[], ◌≡◌, ℕ, Ok, true, refl, subst, List, ◌∷◌}
 use Rattle.mpw_roles.specs.Decided.{decided}
 use Rattle.mpw_roles.specs.Hierarchy.{is_role}

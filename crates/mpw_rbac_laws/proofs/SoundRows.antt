@@ -1,4 +1,4 @@
--- Each accepted row leaves a sound policy.
+-- After each accepted request the policy is sound.
 use Rattle.std.proofs.Common.{[], ℕ, Ok, ◌||◌, refl, List, ◌∷◌}
 use Rattle.mpw_roles.specs.Hierarchy.{is_role}
 use Rattle.mpw_separation.specs.declared.set.Kind.TheVariants.{Static, Dynamic}

@@ -1,5 +1,5 @@
--- What the tables of every policy that requests lead to keep: they name users and roles that are there, and hold no more than
--- their limits.
+-- What the tables of every policy that requests lead to preserve: they name users and roles that exist, and
+-- have no more rows than their limits allow.
 use Rattle.std.specs.Prelude.{◌≡◌, ◌≤◌, ℕ, Bool, true, ◌&&◌, List, length, Result, Ok}
 use Rattle.std.specs.List.{list_all}
 use Rattle.mpw_roles.specs.Hierarchy.{Name, Hierarchy, is_role, max_roles}
@@ -12,7 +12,7 @@ use Rattle.mpw_rbac.specs.declared.session.User.{User}
 use Rattle.mpw_rbac.specs.Policy.{Policy, is_user, max_users, max_grants}
 use Rattle.mpw_rbac.specs.Sound.{Sound}
 
--- each assigned role of each user is a role
+-- each assigned role of each user exists
 abbrev pub assigns_roles : Hierarchy → List (Name × User) → Bool
 assigns_roles hierarchy users =
     list_all (λ (entry : Name × User). list_all (is_role hierarchy) entry.1.roles) users
@@ -26,12 +26,12 @@ leads_to_roles hierarchy pairs =
 abbrev pub grants_roles : Hierarchy → List Grant → Bool
 grants_roles hierarchy granted = list_all (λ (grant : Grant). is_role hierarchy grant.role) granted
 
--- each set is of roles
+-- each set has roles that exist
 abbrev pub sets_name_roles : Hierarchy → List SeparationSet → Bool
 sets_name_roles hierarchy sets =
     list_all (λ (set : SeparationSet). list_all (is_role hierarchy) set.roles) sets
 
--- each session is of a user, and its active roles are roles
+-- each session has a user who exists, and its active roles are roles
 abbrev pub is_session_there : Policy → Session → Bool
 is_session_there policy session =
     is_user policy session.user && list_all (is_role policy.roles) session.active
@@ -52,12 +52,12 @@ pub record KeepsLimits (policy : Policy) : Type 0 where
   pub static : length policy.ssd ≤ max_sets
   pub dynamic : length policy.dsd ≤ max_sets
 
--- what a policy keeps that requests lead to
+-- what holds of a policy that requests lead to
 pub record AreTablesSound (policy : Policy) : Type 0 where
   pub sound : Sound policy
   pub names : NamesAreThere policy
   pub limits : KeepsLimits policy
 
--- where a row accepts, the policy that it leaves keeps it too
+-- if a table accepts, the policy after it preserves this
 abbrev pub KeepsTables : (Policy → Result Policy Refusal) → Type 0
 KeepsTables row = (p q : Policy) → row p ≡ Ok q → AreTablesSound p → AreTablesSound q

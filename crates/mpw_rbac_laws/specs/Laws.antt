@@ -1,4 +1,4 @@
--- Laws over the rows.
+-- Laws of the decision tables.
 use Rattle.std.specs.Prelude.{◌≡◌, ℕ, Bool, true, false, ◌&&◌, ◌==◌, List, Result, Ok, Err, Some}
 use Rattle.std.specs.List.{list_any, list_all}
 use Rattle.mpw_geom.specs.Names.{name_eq, contains_name}
@@ -13,7 +13,7 @@ use Rattle.mpw_rbac.specs.declared.session.Session.{Session}
 use Rattle.mpw_rbac.specs.Policy.{Policy, permits, session_permits, assigned_lists, active_lists}
 use Rattle.mpw_rbac.specs.Sound.{active_authorized}
 
--- where a row accepts, the policy that it leaves keeps that every active role is authorized
+-- if a table accepts, the policy after it preserves that every active role is authorized
 abbrev pub KeepsAuthorization : (Policy → Result Policy Refusal) → Type 0
 KeepsAuthorization row =
     (p q : Policy) → row p ≡ Ok q → active_authorized p ≡ true → active_authorized q ≡ true
@@ -24,28 +24,30 @@ PermitsNoLess policy user few many operation object =
     session_permits policy (record { user = user; active = few }) operation object ≡ true
     → session_permits policy (record { user = user; active = many }) operation object ≡ true
 
--- where a row denies a permission, the connection's session lacks it
+-- if a table denies a permission, the connection's session lacks it
 abbrev pub DeniesRightly : ℕ → (Policy → Result Policy Refusal) → Type 0
 DeniesRightly connection row =
     (p : Policy) (operation : Operation) (object : Object)
     → row p ≡ Err (NotPermitted operation object) → permits p connection operation object ≡ false
 
--- the name is the least of the static sets that some user of the policy breaks
+-- the name is the first, in alphabetical order, of the static sets that some user of the policy
+-- breaks
 abbrev pub IsLeastStatic : Policy → Name → Type 0
 IsLeastStatic policy name =
     IsLeast (broken_names policy.roles policy.ssd (assigned_lists policy.users)) (Some name)
 
--- the name is the least of the dynamic sets that some session of the policy breaks
+-- the name is the first, in alphabetical order, of the dynamic sets that some session of the
+-- policy breaks
 abbrev pub IsLeastDynamic : Policy → Name → Type 0
 IsLeastDynamic policy name =
     IsLeast (broken_names policy.roles policy.dsd (active_lists policy.sessions)) (Some name)
 
--- whether a session is another one's, with no other active roles
+-- whether a session is the same as another one, with no other active roles
 abbrev pub is_session_of : ℕ × Session → ℕ × Session → Bool
 is_session_of new old = (new.0 == old.0)
     && (name_eq new.1.user old.1.user && list_all (contains_name old.1.active) new.1.active)
 
--- where a row accepts, each session that it leaves was there, and has no more active roles
+-- if a table accepts, each session after it was there before, and has no more active roles
 abbrev pub AddsNoActive : (Policy → Result Policy Refusal) → Type 0
 AddsNoActive row =
     (p q : Policy) → row p ≡ Ok q → list_all

@@ -1,12 +1,12 @@
-//! Laws of what accepted requests needed, and of which requests a set of separation of duty is told. Each function has an
-//! empty body: its contract is the law.
+//! Laws of what accepted requests needed, and of which requests a denial can name a set of separation of duty. Each function has an empty
+//! body. Its contract is the law.
 ghost use Rattle.std.specs.Prelude.{ℕ, List};
 ghost use Rattle.mpw_separation.specs.Set.{SeparationSet};
 ghost use Rattle.mpw_rbac_laws.specs.Accepted.{NeedsAdministration, NeedsNoPermission, TellsNoDynamic, TellsNoStatic};
 ghost use Rattle.mpw_rbac.specs.Rows as rows;
 ghost use Rattle.mpw_permissions.specs.declared.permission.Grant.{Grant};
 
-/// A request that administers the desk is accepted only of a session that may.
+/// A request that administers the desk is accepted only if the session may administer it.
 pub fn administration_needs_its_permission()
     ensures adduser { (connection : ℕ) (user digest : List ℕ) → NeedsAdministration connection (λ p. rows.adduser p connection user digest) }
     ensures deluser { (connection : ℕ) (user : List ℕ) → NeedsAdministration connection (λ p. rows.deluser p connection user) }
@@ -24,8 +24,7 @@ pub fn administration_needs_its_permission()
     ensures undsd { (connection : ℕ) (name : List ℕ) → NeedsAdministration connection (λ p. rows.undsd p connection name) }
 {}
 
-/// A denial for a static set is told of `assign`, `inherit` and `ssd` alone, and one for a dynamic set of `activate`, `inherit` and
-/// `dsd`.
+/// Only `assign`, `inherit` and `ssd` are denied for a static set, and only `activate`, `inherit` and `dsd` for a dynamic one.
 pub fn sets_are_told_where_they_are_tested()
     ensures open_session_static { (connection : ℕ) (user digest : List ℕ) → TellsNoStatic (λ p. rows.open_session p connection user digest) }
     ensures open_session_dynamic { (connection : ℕ) (user digest : List ℕ) → TellsNoDynamic (λ p. rows.open_session p connection user digest) }
@@ -59,7 +58,7 @@ pub fn sets_are_told_where_they_are_tested()
     ensures undsd_dynamic { (connection : ℕ) (name : List ℕ) → TellsNoDynamic (λ p. rows.undsd p connection name) }
 {}
 
-/// `open`, `close`, `activate` and `drop` are never denied for want of a permission.
+/// `open`, `close`, `activate` and `drop` are never denied because a permission is missing.
 pub fn own_requests_need_no_permission()
     ensures open_session { (connection : ℕ) (user digest : List ℕ) → NeedsNoPermission (λ p. rows.open_session p connection user digest) }
     ensures close_session { (connection : ℕ) → NeedsNoPermission (λ p. rows.close_session p connection) }

@@ -1,4 +1,4 @@
-//! Laws over the rows of tests of the policy. Each function has an empty body: its contract is the law.
+//! Laws of the decision tables of the policy. Each function has an empty body. Its contract is the law.
 ghost use Rattle.std.specs.Prelude.{◌≡◌, ℕ, List, [], ◌∷◌, ◌++◌, true, false, Ok, Err, None, Some, nat_lt, count_by};
 ghost use Rattle.std.specs.List.{list_all};
 ghost use Rattle.mpw_geom.specs.Names.{contains_name};
@@ -15,7 +15,7 @@ ghost use Rattle.mpw_permissions.specs.declared.permission.Operation.{Operation}
 ghost use Rattle.mpw_rbac.specs.declared.refusal.Refusal.TheVariants as Refusal;
 ghost use Rattle.mpw_rbac.specs.declared.session.Session.{Session};
 
-/// Every active role is authorized for the session's user in the new desk, and stays so over each accepted request.
+/// In the policy of a new desk, every active role is authorized for the session's user. Each accepted request preserves this.
 pub fn each_request_keeps_authorization()
     ensures new_desk { (officer digest : List ℕ) → active_authorized (new_policy officer digest) ≡ true }
     ensures end_session { (connection : ℕ) → KeepsAuthorization (λ p. Ok (rows.end_session p connection)) }
@@ -40,8 +40,8 @@ pub fn each_request_keeps_authorization()
     ensures undsd { (connection : ℕ) (name : List ℕ) → KeepsAuthorization (λ p. rows.undsd p connection name) }
 {}
 
-/// The new desk is sound, and each accepted request leaves a sound policy: every active role is authorized, the static
-/// sets hold for every user, and the dynamic ones for every session.
+/// The policy of a new desk is sound, and stays sound after each accepted request: every active role is authorized, the static sets hold
+/// for every user, and the dynamic ones for every session.
 pub fn each_request_keeps_separation()
     ensures new_desk { (officer digest : List ℕ) → Sound (new_policy officer digest) }
     ensures end_session { (connection : ℕ) → KeepsSound (λ p. Ok (rows.end_session p connection)) }
@@ -66,7 +66,7 @@ pub fn each_request_keeps_separation()
     ensures undsd { (connection : ℕ) (name : List ℕ) → KeepsSound (λ p. rows.undsd p connection name) }
 {}
 
-/// Where every session ended, no connection has one, and no connection is permitted anything.
+/// If every session ended, no connection has one, and no connection is permitted anything.
 pub fn ended_sessions_permit_nothing()
     ensures sessions { (p : PolicyState) (connection : ℕ) → session_of (rows.end_sessions p) connection ≡ None }
     ensures permits { (p : PolicyState) (connection : ℕ) (operation : Operation) (object : Object) → permits (rows.end_sessions p) connection operation object ≡ false }
@@ -77,8 +77,8 @@ pub fn more_active_roles_never_permit_less()
     ensures { (policy : PolicyState) (user : List ℕ) (few many : List (List ℕ)) (operation : Operation) (object : Object) → IsPart few many → PermitsNoLess policy user few many operation object }
 {}
 
-/// A request is denied for want of a permission only where the session has no such permission: a request of a session never
-/// is. A role's activation is denied only where the session's user is not authorized for the role, which the denial names.
+/// A request is denied for a permission only if the session lacks that permission. A request of a session about itself never is. The
+/// activation of a role is denied only if the session's user is not authorized for the role, which the denial names.
 pub fn denied_only_without_the_permission()
     ensures adduser { (connection : ℕ) (user digest : List ℕ) → DeniesRightly connection (λ p. rows.adduser p connection user digest) }
     ensures addrole { (connection : ℕ) (role : List ℕ) → DeniesRightly connection (λ p. rows.addrole p connection role) }
@@ -102,8 +102,8 @@ pub fn denied_only_without_the_permission()
     ensures activation { (p : PolicyState) (connection : ℕ) (role other : List ℕ) → rows.activate p connection role ≡ Err (Refusal.NotAuthorized other) → (other ≡ role) × (contains_name (authorized p (rows.user_of p connection)) role ≡ false) }
 {}
 
-/// A request is denied for a separation set only where the policy that it asks for would break the set, and the set is
-/// the least of its kind that it would break.
+/// A request is denied for a separation set only if the requested policy would break the set, and the set is the first of its kind, in
+/// alphabetical order, that it would break.
 pub fn denied_only_for_the_least_broken_set()
     ensures assign { (p : PolicyState) (connection : ℕ) (user role name : List ℕ) → rows.assign p connection user role ≡ Err (Refusal.Ssd name) → IsLeastStatic (rows.with_assigned p user (assigned_roles p user ++ role ∷ [])) name }
     ensures inherit_static { (p : PolicyState) (connection : ℕ) (senior junior name : List ℕ) → rows.inherit p connection senior junior ≡ Err (Refusal.Ssd name) → IsLeastStatic (record p { roles = with_pair p.roles senior junior }) name }
@@ -113,8 +113,8 @@ pub fn denied_only_for_the_least_broken_set()
     ensures dsd { (p : PolicyState) (connection : ℕ) (set : SeparationSet) (name : List ℕ) → rows.dsd p connection set ≡ Err (Refusal.Dsd name) → IsLeastDynamic (record p { dsd = p.dsd ++ set ∷ [] }) name }
 {}
 
-/// Of the requests that change users, roles, pairs, grants or sets none makes a role active: each session that is left
-/// was there, with all the roles that it has. So a role that left a session doesn't come back by a later assignment.
+/// No request that changes users, roles, pairs, grants or sets makes a role active: each session that is left was there before, with all
+/// the roles that it has. So a role that left a session doesn't come back by a later assignment.
 pub fn only_activation_adds_active_roles()
     ensures end_session { (connection : ℕ) → AddsNoActive (λ p. Ok (rows.end_session p connection)) }
     ensures end_sessions { AddsNoActive (λ p. Ok (rows.end_sessions p)) }
@@ -135,20 +135,19 @@ pub fn only_activation_adds_active_roles()
     ensures undsd { (connection : ℕ) (name : List ℕ) → AddsNoActive (λ p. rows.undsd p connection name) }
 {}
 
-/// In a sound policy fewer roles than its cardinality of each static set are authorized for any user, and fewer of each
-/// dynamic set act in any session (ANSI INCITS 359-2004, 6.3 and 6.4).
+/// In a sound policy, every user is authorized for fewer roles of each static set than its cardinality, and in every session fewer roles of
+/// each dynamic set act (ANSI INCITS 359-2004, 6.3 and 6.4).
 pub fn sound_policies_keep_duties_apart()
     ensures static_sets { (p : PolicyState) → Sound p → (user : List ℕ) → is_user p user ≡ true → list_all (λ set. nat_lt (count_by (contains_name (authorized p user)) set.roles) set.cardinality) p.ssd ≡ true }
     ensures dynamic_sets { (p : PolicyState) → Sound p → (connection : ℕ) (session : Session) → session_of p connection ≡ Some session → list_all (λ set. nat_lt (count_by (contains_name (acting p session)) set.roles) set.cardinality) p.dsd ≡ true }
 {}
 
-/// The static sets are tested before the dynamic ones: a pair is denied for a dynamic set only where the hierarchy with
-/// the pair breaks no static set.
+/// The static sets are tested before the dynamic ones: a pair is denied for a dynamic set only if the hierarchy with the pair breaks no static set.
 pub fn static_sets_are_tested_first()
     ensures { (p : PolicyState) (connection : ℕ) (senior junior name : List ℕ) → rows.inherit p connection senior junior ≡ Err (Refusal.Dsd name) → sets_hold (with_pair p.roles senior junior) p.ssd (assigned_lists p.users) ≡ true }
 {}
 
-/// In a sound policy there is nothing to trim, so a request that only adds leaves what a trim of it would.
+/// In a sound policy there is nothing to trim. So a request that only adds leaves the policy that a trim of it would.
 pub fn trim_leaves_sound_policies()
     ensures { (p : PolicyState) → Sound p → trim p ≡ p }
 {}

@@ -1,7 +1,7 @@
-//! Laws of the access control policy that none of its calls rests on (ANSI INCITS 359-2004): what each request keeps, what is
-//! denied and why, and what roles permit.
+//! Laws of the access control policy that none of its calls needs (ANSI INCITS 359-2004): what each request preserves, what is denied and
+//! why, and what roles permit.
 //!
-//! Each function does nothing: its contract is the law, and it speaks of the definitions of `mpw_rbac` alone. No program links this crate.
+//! Each function does nothing. Its contract is the law, and speaks of the definitions of `mpw_rbac` alone. No program links this crate.
 #![tactic(auto)]
 
 mod accepted;

@@ -1,4 +1,4 @@
-//! A law of the policy's tables. The function has an empty body: its contract is the law.
+//! A law of the policy's tables. The function has an empty body. Its contract is the law.
 ghost use Rattle.std.specs.Prelude.{ℕ, List, Ok};
 ghost use Rattle.mpw_separation.specs.Set.{SeparationSet};
 ghost use Rattle.mpw_rbac_laws.specs.Existing.{AreTablesSound, KeepsTables};
@@ -6,8 +6,8 @@ ghost use Rattle.mpw_rbac.specs.Policy.{new_policy};
 ghost use Rattle.mpw_rbac.specs.Rows as rows;
 ghost use Rattle.mpw_permissions.specs.declared.permission.Grant.{Grant};
 
-/// The tables of the new desk name users and roles that are there, hold no more than their limits, and are sound; and those
-/// that each accepted request leaves do too.
+/// The tables of a new desk name users and roles that exist, have no more rows than their limits allow, and are sound. Each accepted
+/// request preserves this.
 pub fn each_request_keeps_the_tables()
     ensures new_desk { (officer digest : List ℕ) → AreTablesSound (new_policy officer digest) }
     ensures end_session { (connection : ℕ) → KeepsTables (λ p. Ok (rows.end_session p connection)) }

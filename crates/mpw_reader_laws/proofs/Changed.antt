@@ -1,4 +1,4 @@
--- What is told of a good text that is cut off, or in which a record is changed.
+-- What is reported of a good text that is cut off, or in which a record is changed.
 use Rattle.std.proofs.Common.{Bool, true, false, cond, eqb, ltb, ◌||◌}
 use Rattle.std.proofs.Common.{◌≡◌, ℕ, ◌+◌, ◌-◌, ◌*◌, ◌%◌, ◌<◌, ◌≤◌, List, [], ◌∷◌, ◌++◌, length, map, drop, take, Option, Some, Result, Ok, Err, refl, sym, ap, subst, ◌∙◌, inl, inr, arith, length-drop, length-take, take-append-drop, take-take}
 use Rattle.std.specs.Prelude.{◌⊎◌, slice_index}
@@ -44,7 +44,7 @@ pub read_so : (os : List RecordOutcome) (told : Result (List Structure) ReadFaul
     → Tells whole os told → library os ≡ told
 read_so os told t = t (length os) (omega arith)
 
--- the reader of a good text waits behind each front of its records
+-- the reader of a good text waits after each front of its records
 pub waits_there : (text : List ℕ) (ss : List Structure) (before : List RawRecord)
     (o : RecordOutcome) (rest : List RecordOutcome) → library_of text ≡ Ok ss
     → outcomes_of text ≡ records_then before (o ∷ rest)
@@ -67,7 +67,7 @@ waits_there text ss before o rest good parts g os = go (library_course nothing_y
         (nothing_behind text taken e after o rest last
         (parts ∙ ap (λ (l : List RawRecord). records_then l (o ∷ rest)) is))
 
--- where a text's record begins
+-- where a record of a text begins
 pub record_starts : (text : List ℕ) (r : RawRecord) (h : HasRecord text r)
     → Stands text 0 h.before (Ok r) h.behind × RecordAt text (place 0 h.before) r
 record_starts text r h =
@@ -181,7 +181,7 @@ front_short text q r n a le lt =
         let t = a.told in
         is_past bytes four (ap is_odd (sym told) ∙ even) (omega (arith, told, t, long, lt, le))
 
--- ---- the record in which a place lies
+-- ---- the record that a place is in
 
 record Found (p : ℕ) (rs : List RawRecord) (n : ℕ) : Type 0 where
   before : List RawRecord
@@ -242,7 +242,7 @@ pub all_ok : (rs : List RawRecord) → map (λ r. Ok r) rs ≡ records_then rs [
 all_ok [] = refl
 all_ok (r ∷ rs) = ap (λ (os : List RecordOutcome). Ok r ∷ os) (all_ok rs)
 
--- a record of a good text, by its place among them
+-- a record of a good text, by its index among them
 has_record : (text : List ℕ) (rs before : List RawRecord) (r : RawRecord) (after : List RawRecord)
     → outcomes_of text ≡ map (λ r. Ok r) rs → rs ≡ before ++ r ∷ after → HasRecord text r
 has_record text rs before r after whole is = record {

@@ -1,4 +1,4 @@
--- How far the elements' readers get.
+-- How far the readers of elements get.
 use Rattle.std.proofs.Common.{◌≡◌, ℕ, ◌||◌, Bool, true, false, cond, eqb, ℤ, pos, List, [], ◌∷◌, Some, None, Result, Ok, Err, refl, ap, inr}
 use Rattle.std.proofs.lemmas.Bool.{eqb-true}
 use Rattle.mpw_geom.specs.declared.plane.Point.{Point}
@@ -20,7 +20,7 @@ use Rattle.mpw_elements.specs.Grammar.{boundary, path, orientation, single, arra
 use Rattle.mpw_reader_laws.specs.FirstFault.{IsFaultOf}
 use Rattle.mpw_reader_laws.proofs.Progress.{Progress, Progresses, Held, as_progress, cons_progress, done_progress, err_progress, choice_progress, tested_progress, then_progress, demanding, held_demanded, fielded, fielded_progress, expected_progress, opting, held_optional}
 
--- ENDEL, and what was read
+-- ENDEL, and the value that was read
 module _ (start : ℕ) {X : Type 0} (x : X) where
   abbrev ending : List RecordOutcome → Reading X
   ending all = expected start ENDEL all >>= λ last. Ok (x, last.1)
@@ -116,7 +116,7 @@ module _ {X : Type 0} (start : ℕ) (K : Orient → RawRecord → List RecordOut
   abbrev magnified_at : Bool → RawRecord → List RecordOutcome → Reading X
   magnified_at m = opting start MAG magnification_of tt (λ (u : Unit {0}). angle_at m)
 
-  -- what stands behind STRANS
+  -- what comes after STRANS
   abbrev turned : RawRecord → List RecordOutcome → Reading X
   turned r os = mirrored_of r >>= λ m. fielded start (magnified_at m) os
 
@@ -189,7 +189,7 @@ module _ {X : Type 0} (start : ℕ) (K : Orient → RawRecord → List RecordOut
 -- ---- references
 
 module _ (start unit : ℕ) where
-  -- a name, an orientation, and what stands behind them
+  -- a name, an orientation, and what comes after them
   module _ (at : List ℕ → Orient → RawRecord → List RecordOutcome → Reading Reference)
       (held : (name : List ℕ) (orient : Orient) → Held (at name orient)) where
     reference_progress : (h : RawRecord) → Progresses (λ all. expected start SNAME all
@@ -283,7 +283,7 @@ ignored_progress start h (r ∷ rs) =
     go false false p q more =
         cons_progress (ignored start) (ignored start) h r rs (λ os. rw (p, q) refl) more
 
--- what a reader reads, seen by a function
+-- the value of a reader, mapped by a function
 pub mapped_progress : {V X : Type 0} (P : List RecordOutcome → Reading V) (f : V → X)
     (h : RawRecord) → Progresses P h → Progresses (λ all. P all >>= λ x. Ok (f x.0, x.1)) h
 mapped_progress P f h p =

@@ -1,4 +1,4 @@
--- What is told of a refused text is its first fault.
+-- The fault that is reported of a refused text is its first fault.
 use Rattle.std.proofs.Common.{◌≡◌, ℕ, zero, suc, ◌+◌, ◌^◌, ◌<◌, ◌≤◌, Bool, true, false, cond, eqb, List, [], ◌∷◌, ◌++◌, length, drop, take, Option, Some, None, Result, Ok, Err, refl, sym, ap, subst, ◌∙◌, arith, length-drop, length-append, length-take, take-append-drop}
 use Rattle.std.proofs.lemmas.Bool.{eqb-true}
 use Rattle.std.proofs.lemmas.List.{drop-append-le, drop_all}
@@ -70,7 +70,7 @@ split_outcomes (suc most) text offset le lt =
         ok (eqb r.kind ENDLIB) refl more
         (omega (arith, f.whole, l, le)) (omega (arith, f.header, lt))
 
--- ---- two ways to part a list
+-- ---- two ways to split a list
 
 same_split : (p : ℕ) (xs ys : List RawRecord) (o u : RecordOutcome) (os us : List RecordOutcome)
     → records_then xs (o ∷ os) ≡ records_then ys (u ∷ us) → place p xs ≡ place p ys → xs ≡ ys
@@ -88,7 +88,7 @@ same_split p (x ∷ xs) (y ∷ ys) o u os us e k =
     ∙ ap (λ (l : List RawRecord). y ∷ l)
     (same_split (p + (4 + length x.bytes)) xs ys o u os us others same)
 
--- ---- the records before a place at which the reader waits go on
+-- ---- the records before a place at which the reader waits can go on
 
 -- a record without data, of a type
 abbrev probe : ℕ → List ℕ
@@ -202,7 +202,7 @@ module _ (before : List RawRecord) (r : RawRecord) (f : ReadFault)
 
 module _ (text : List ℕ) (fault : ReadFault) (few : length text < 2 ^ 63)
     (told : library_of text ≡ Err fault) where
-  -- the reader waits behind these records, and told is the fault of what stands there
+  -- the reader waits after these records, and reports the fault of the next outcome
   abbrev Waiting : List RawRecord → RecordOutcome → Type 0
   Waiting before o = (rest : List RecordOutcome)
       → outcomes_of text ≡ records_then before (o ∷ rest) → IsFront before
@@ -241,7 +241,7 @@ module _ (text : List ℕ) (fault : ReadFault) (few : length text < 2 ^ 63)
   abbrev Refusing : List RawRecord → ReadFault → Type 0
   Refusing rs f = (os : List RecordOutcome) → library (records_then rs os) ≡ Err f
 
-  -- a front of the records with which the reader has told a fault
+  -- a front of the records at which the reader has reported a fault
   failed : (n : ℕ) (rs : List RawRecord) (os : List RecordOutcome) → length rs < n
       → outcomes_of text ≡ records_then rs os → (f : ReadFault)
       → IsFaultOf (last_of nothing_yet rs) f → Refusing rs f → IsFirstFault text fault

@@ -49,7 +49,7 @@ among (x ∷ xs) (y ∷ ys) r os e =
     let others : records_then xs [] ≡ records_then ys (Ok r ∷ os) = cc in
     cons_begins x y xs ys r first (among xs ys r os others)
 
--- how two ways to part a list differ
+-- how two ways to split a list differ
 pub data Compared (xs ys : List RawRecord) (o u : RecordOutcome) : Type 0 where
   same : xs ≡ ys → o ≡ u → Compared xs ys o u
   shorter : (r : RawRecord) → o ≡ Ok r → Begins ys xs r → Compared xs ys o u

@@ -42,7 +42,7 @@ module _ {V : Type 0} (kind : ℕ) (Q : RawRecord → List RecordOutcome → Rea
       go [] = Progress.waits (λ g os. refl) (λ e os is. same e os ∙ k.refuses e os is)
       go (r ∷ rs) = cons_progress nexting (demanding kind Q r) h r rs (same r) (k.progress r rs)
 
--- ---- what stands next in a structure
+-- ---- what is next in a structure
 
 module _ (unit : ℕ) where
   abbrev found : RawRecord → List RecordOutcome → Reading Item
@@ -73,9 +73,9 @@ module _ (unit : ℕ) where
   unfolding item
   item_waits g os = refl
 
--- ---- loops that may take so many steps
+-- ---- loops with a bound on their steps
 
--- with as many steps as there are records, or more
+-- with at least as many steps as there are records
 abbrev pub Tells : {V : Type 0} → (ℕ → List RecordOutcome → Result V ReadFault)
     → List RecordOutcome → Result V ReadFault → Type 0
 Tells L os told = (most : ℕ) → length os ≤ most → L most os ≡ told
@@ -100,7 +100,7 @@ loop_progress L h rs (Loops.fails front after is f at e) =
 loop_progress L h rs (Loops.gives taken after is v e) =
     Progress.gives taken after is v (λ os. e os _ (omega arith))
 
--- a reader can't tell one fault for every fault that stands next
+-- a reader can't report one fault for every next fault
 pub one_fault : {V : Type 0} (f g : ReadFault) (told : Reading V) → told ≡ Err f → told ≡ Err g
     → f ≡ g
 one_fault f g told a b = let e = sym a ∙ b in cc
@@ -135,7 +135,7 @@ module _ (unit : ℕ) where
       (fs : List Element) (g : RawRecord) (ss : List RawRecord) → length ss < n
       → Loops (rows fs) g ss
 
-  -- the elements up to ENDSTR, behind others
+  -- the elements up to ENDSTR, after others
   elements_loops : (n : ℕ) (es : List Element) (h : RawRecord) (rs : List RawRecord)
       → length rs < n → Loops (rows es) h rs
   elements_loops zero es h rs lt = absurd (omega (arith, lt))

@@ -1,4 +1,4 @@
--- No fault is told before what was changed in a good text.
+-- No fault is reported before the change in a good text.
 use Rattle.std.proofs.Common.{◌≡◌, ℕ, ◌≤◌, List, ◌∷◌, ◌++◌, Ok, Err, refl, sym, ap, subst, ◌∙◌, arith, append_assoc}
 use Rattle.mpw_structures.specs.declared.structures.Structure.{Structure}
 use Rattle.mpw_records.specs.declared.fault.ReadFault.{ReadFault}
@@ -15,7 +15,7 @@ use Rattle.mpw_reader_laws.proofs.Offsets as offsets
 use Rattle.mpw_reader_laws.proofs.FirstFault.{first_fault_is_told}
 use Rattle.mpw_reader_laws.proofs.FirstRefused.{Begins, among, Compared, compared}
 
--- a fault stands where the records before it end
+-- a fault is where the records before it end
 fault_place : (text : List ℕ) (fault : ReadFault) (before : List RawRecord) (o : RecordOutcome)
     (rest : List RecordOutcome) → outcomes_of text ≡ records_then before (o ∷ rest)
     → IsFaultThere o fault → fault.offset ≡ place 0 before
@@ -26,7 +26,7 @@ fault_place text fault before (Ok r) rest parts is =
     let s = stands text 0 before (Ok r) rest (omega arith) parts in
     offsets.fault_offset r fault is ∙ (record_at text (place 0 before) r s.within s.is).offset
 
--- what stands first where a text is read on
+-- the first outcome that is left to read
 record First (os : List RecordOutcome) : Type 0 where
   first : RecordOutcome
   others : List RecordOutcome
@@ -36,7 +36,7 @@ first_of : (text : List ℕ) (p : ℕ) → First (outcomes_from text p)
 unfolding outcomes
 first_of text p = record { first = front text p; others = _; is = refl }
 
--- records of a good text with which no library goes on
+-- records of a good text with which no library's records begin
 module _ (text : List ℕ) (ss : List Structure) (r : RawRecord) (good : library_of text ≡ Ok ss)
     (has : HasRecord text r) where
   goes_on : (before : List RawRecord) (x : RawRecord) → EndsThere before (Ok x)

@@ -73,8 +73,9 @@ opening_progress =
 
 -- ---- libraries
 
--- what the reader of a library does with these records, whatever stands behind them: it waits, inside a part that ENDLIB can't
--- end or between two structures; or it has told the fault of the last record of a front of them; or it has come to ENDLIB
+-- what the reader of a library does with these records, whatever comes after them: it waits, inside a part
+-- that ENDLIB can't end or between two structures; or it has reported the fault of the last record of a front
+-- of them; or it has reached ENDLIB
 pub data Course {X : Type 0} (L : ℕ → List RecordOutcome → Result X ReadFault) (h : RawRecord)
     (rs : List RawRecord) : Type 0 where
   inside : ((g : ReadFault) (os : List RecordOutcome)
@@ -95,7 +96,7 @@ pub data Course {X : Type 0} (L : ℕ → List RecordOutcome → Result X ReadFa
       → ((os : List RecordOutcome) → Tells L (records_then (taken ++ e ∷ []) os) (Ok x))
       → Course L h rs
 
--- where a reader is the same behind some records as another from its start
+-- if a reader after some records is the same as another from its start
 module _ {X : Type 0} (L M : ℕ → List RecordOutcome → Result X ReadFault) (taken : List RawRecord)
     (step : (os : List RecordOutcome) (told : Result X ReadFault) → Tells M os told
     → Tells L (records_then taken os) told) where

@@ -1,4 +1,4 @@
--- A fault of a record is told at the record's offset.
+-- A fault of a record is reported at the record's offset.
 use Rattle.std.proofs.Common.{◌≡◌, ℕ, Bool, true, false, cond, drop, Option, Some, None, Result, Ok, Err, sym, ap}
 use Rattle.mpw_geom.specs.declared.plane.Point.{Point}
 use Rattle.mpw_records.specs.declared.fault.Code.{Code}
@@ -11,7 +11,7 @@ use Rattle.mpw_elements.specs.Values.{corners_of, centre_of, origin_of, path_typ
 use Rattle.mpw_library.specs.Grammar.{unit_or_fault, unit_of}
 use Rattle.mpw_reader_laws.specs.FirstFault.{IsFaultOf}
 
--- a test whose fault stands at a record
+-- a test whose fault is at a record
 abbrev IsAt : {W : Type 0} → RawRecord → Result W ReadFault → Type 0
 IsAt h t = (f : ReadFault) → t ≡ Err f → f.offset ≡ h.offset
 

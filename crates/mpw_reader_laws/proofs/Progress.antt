@@ -1,4 +1,4 @@
--- How far a reader gets with a list of records, whatever stands behind them.
+-- How far a reader gets with a list of records, whatever comes after them.
 use Rattle.std.proofs.Common.{◌≡◌, ℕ, Bool, true, false, cond, eqb, List, [], ◌∷◌, ◌++◌, Result, Ok, Err, refl, sym, ap, subst, ◌∙◌, append_assoc}
 use Rattle.std.proofs.lemmas.Bool.{eqb-true}
 use Rattle.mpw_records.specs.declared.fault.Code.TheVariants.{Unexpected}
@@ -10,13 +10,14 @@ use Rattle.mpw_elements.specs.Derivation.{records_then}
 use Rattle.mpw_reader_laws.specs.FirstFault.{IsFaultOf}
 use Rattle.mpw_elements.proofs.DerivedFields.{records_both, done}
 
--- the last of some records, behind one that was read before them
+-- the last of some records, after one that was read before them
 abbrev pub last_of : RawRecord → List RawRecord → RawRecord
 last_of h [] = h
 last_of h (r ∷ rs) = last_of r rs
 
--- what a reader does with these records, whatever stands behind them: it waits for what is next, and no ENDLIB may be that; or
--- it has told the fault of the last record of a front of them; or it has given a value behind such a front
+-- what a reader does with these records, whatever comes after them: it waits for the next, which can't be
+-- ENDLIB; or it has reported the fault of the last record of a front of them; or it has returned a value
+-- after such a front
 pub data Progress {V : Type 0} (P : List RecordOutcome → Reading V) (h : RawRecord)
     (rs : List RawRecord) : Type 0 where
   waits : ((g : ReadFault) (os : List RecordOutcome) → P (records_then rs (Err g ∷ os)) ≡ Err g)
@@ -44,7 +45,7 @@ as_progress P Q h rs same (Progress.fails front after is f at e) =
 as_progress P Q h rs same (Progress.gives taken after is v e) =
     Progress.gives taken after is v (λ os. same (records_then taken os) ∙ e os)
 
--- a record, and a reader of what stands behind it
+-- a record, and a reader of what comes after it
 pub cons_progress : {V : Type 0} (P Q : List RecordOutcome → Reading V) (h r : RawRecord)
     (rs : List RawRecord) → ((os : List RecordOutcome) → P (Ok r ∷ os) ≡ Q os) → Progress Q r rs
     → Progress P h (r ∷ rs)
@@ -101,7 +102,7 @@ module _ {V X : Type 0} (P : List RecordOutcome → Reading V) (Q : V → List R
       ap (then_reader P Q) (records_both taken rs os)
       ∙ ap (λ (y : Reading V). y >>= λ x. Q x.0 x.1) (e (records_then rs os))
 
-  -- a reader, and what it does behind its value
+  -- a reader, and what it does after its value
   pub then_progress : (h : RawRecord) → Progresses P h
       → ((v : V) (g : RawRecord) → Progresses (Q v) g) → Progresses (then_reader P Q) h
   then_progress h p q rs = go (p rs)
@@ -185,7 +186,7 @@ module _ {V : Type 0} (start : ℕ) (K : RawRecord → List RecordOutcome → Re
       go true p more = cons_progress fielded fielded h r rs (over p) more
       go false p more = cons_progress fielded (K r) h r rs (kept p) (k.progress r rs)
 
--- ---- one step behind two
+-- ---- one step after two
 
 pub bind_bind : {A B C : Type 0} (t : Result A ReadFault) (f : A → Result B ReadFault)
     (g : B → Result C ReadFault) → ((t >>= f) >>= g) ≡ (t >>= λ x. f x >>= g)

@@ -14,7 +14,7 @@ use Rattle.mpw_elements.specs.Derivation.{records_then}
 
 -- ---- what the bytes begin with
 
--- the tests of a record, with the data's behind them
+-- the tests of a record, with those of the data after them
 abbrev pub checks : (short odd past : Bool) → Option Code → Option Code
 checks short odd past rest =
     cond short (Some Short) (cond odd (Some BadLength) (cond past (Some Short) rest))
@@ -104,7 +104,7 @@ module _ (offset a b c d : ℕ) (others : List ℕ) where
       of : List ℕ → RawRecord
       of bytes = record { offset = offset; kind = c; data_type = d; bytes = bytes }
 
--- where a record lies within what two texts begin with, both begin with it
+-- if a record is within what two texts begin with, both begin with it
 pub record_same : (offset : ℕ) (bytes more others : List ℕ) → first_fault (bytes ++ more) ≡ None
     → told_length (bytes ++ more) ≤ length bytes
     → SameRecord offset (bytes ++ more) (bytes ++ others)
@@ -121,7 +121,7 @@ record_same offset bytes more others e le =
         (subst (λ (l : List ℕ). first_fault (l ++ more) ≡ None) h.is e)
         (subst (λ (l : List ℕ). told_length l ≤ length l) h.is within))
 
--- ---- the records of a text, one behind the other
+-- ---- the records of a text, one after another
 
 pub record RecordAt (text : List ℕ) (p : ℕ) (r : RawRecord) : Type 0 where
   pub offset : r.offset ≡ p
@@ -164,7 +164,7 @@ fault_offset text p f e = go (first_fault (drop p text)) e
         let same : record { code = code; offset = p } ≡ f = cc in
         sym (ap (λ (g : ReadFault). g.offset) same)
 
--- where what stands behind these records begins
+-- where the text after these records begins
 abbrev pub place : ℕ → List RawRecord → ℕ
 place p [] = p
 place p (r ∷ rs) = place (p + (4 + length r.bytes)) rs
@@ -183,7 +183,7 @@ first_is : (text : List ℕ) (p : ℕ) (o : RecordOutcome) (os : List RecordOutc
 unfolding outcomes
 first_is text p o os e = cc
 
--- nothing is read behind ENDLIB, and behind another record what stands there
+-- nothing is read after ENDLIB, and after another record what is there
 pub record Behind (text : List ℕ) (p : ℕ) (r : RawRecord) (os : List RecordOutcome) : Type 0 where
   pub at : RecordAt text p r
   pub is : front text p ≡ Ok r
@@ -207,7 +207,7 @@ pub some_behind : (rs : List RawRecord) (o : RecordOutcome) (os : List RecordOut
 some_behind [] o os e = cc
 some_behind (r ∷ rs) o os e = cc
 
--- a record with something behind it is not ENDLIB
+-- a record with something after it is not ENDLIB
 pub onward : (last : Bool) (xs ys : List RecordOutcome) → cond last [] xs ≡ ys → ([] ≡ ys → ⊥)
     → (last ≡ false) × (xs ≡ ys)
 onward true xs ys e some = absurd (some e)
@@ -240,7 +240,7 @@ module _ (front_bytes more others : List ℕ) where
   abbrev other : List ℕ
   other = front_bytes ++ others
 
-  -- a record in those bytes stands in both
+  -- a record in those bytes is in both
   pub front_same : (p : ℕ) (r : RawRecord) → p ≤ length one → front one p ≡ Ok r
       → p + (4 + length r.bytes) ≤ length front_bytes → front other p ≡ Ok r
   front_same p r le e within =

@@ -1,4 +1,4 @@
--- A good text that is cut off, or in which a record is changed: what is told of it.
+-- A good text that is cut off, or in which a record is changed: what is reported of it.
 use Rattle.std.specs.Prelude.{◌≡◌, ◌<◌, ◌≤◌, ◌⊎◌, ℕ, ◌+◌, ◌*◌, ◌^◌, ◌%◌, List, ◌∷◌, ◌++◌, length, take, drop, Ok, Err}
 use Rattle.mpw_structures.specs.declared.structures.Structure.{Structure}
 use Rattle.mpw_records.specs.declared.fault.Code.{Code}
@@ -9,7 +9,7 @@ use Rattle.mpw_records.specs.Records.{RawRecord, RecordOutcome, front, outcomes_
 use Rattle.mpw_elements.specs.Derivation.{records_then}
 use Rattle.mpw_library.specs.Grammar.{library_of}
 
--- A record stands in a text.
+-- A text has the record.
 pub record HasRecord (text : List ℕ) (r : RawRecord) : Type 0 where
   pub before : List RawRecord
   pub behind : List RecordOutcome
@@ -23,14 +23,15 @@ end_of r = r.offset + (4 + length r.bytes)
 abbrev pub IsRefused : List ℕ → Code → ℕ → Type 0
 IsRefused text code offset = library_of text ≡ Err (record { code = code; offset = offset })
 
--- Where a text agrees with a good one up to a record's start, and no record stands there, that record's fault is told.
+-- If a text agrees with a good one up to a record's start, and no record is there, the fault of that place is
+-- reported.
 abbrev pub ChangedRecordsAreTold : Type 0
 ChangedRecordsAreTold =
     (text changed : List ℕ) (ss : List Structure) (r : RawRecord) (fault : ReadFault)
     → library_of text ≡ Ok ss → HasRecord text r → take r.offset changed ≡ take r.offset text
     → front changed r.offset ≡ Err fault → library_of changed ≡ Err fault
 
--- And whatever it is told behind that start, no fault is told before it.
+-- And if a fault is reported after that start, none is reported before it.
 abbrev pub FaultsComeNoEarlier : Type 0
 FaultsComeNoEarlier =
     (text changed : List ℕ) (ss : List Structure) (r : RawRecord) (fault : ReadFault)
@@ -46,7 +47,7 @@ pub record IsCutShort (text : List ℕ) (n : ℕ) : Type 0 where
   pub ends : n < end_of r
   pub short : IsRefused (take n text) Short r.offset
 
--- A text cut off behind ENDLIB is of the same structures.
+-- A text cut off after ENDLIB has the same structures.
 pub record IsCutBehind (text : List ℕ) (n : ℕ) (ss : List Structure) : Type 0 where
   pub r : RawRecord
   pub has : HasRecord text r
@@ -54,7 +55,7 @@ pub record IsCutBehind (text : List ℕ) (n : ℕ) (ss : List Structure) : Type 
   pub ends : end_of r ≤ n
   pub same : library_of (take n text) ≡ Ok ss
 
--- So is each front of a good text: no front that lacks a byte of ENDLIB is good.
+-- This holds of each front of a good text: no front that lacks a byte of ENDLIB is good.
 abbrev pub FrontsAreShort : Type 0
 FrontsAreShort =
     (text : List ℕ) (ss : List Structure) (n : ℕ) → library_of text ≡ Ok ss
@@ -64,8 +65,8 @@ FrontsAreShort =
 abbrev pub with_length : List ℕ → ℕ → (high low : ℕ) → List ℕ
 with_length text offset high low = take offset text ++ high ∷ low ∷ drop (offset + 2) text
 
--- A record of a good text whose length is made odd or less than 4 has a bad length; made longer than what is left of the text, it
--- is short.
+-- If the length of a record of a good text is made odd or less than 4, it is a bad length. If it is made
+-- longer than what is left of the text, the text is short.
 abbrev pub LengthsAreTested : Type 0
 LengthsAreTested =
     (text : List ℕ) (ss : List Structure) (r : RawRecord) (high low : ℕ) → library_of text ≡ Ok ss

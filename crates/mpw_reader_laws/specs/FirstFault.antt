@@ -1,4 +1,4 @@
--- Where a refused text has its first fault: at the first record with which no text goes on.
+-- Where a refused text has its first fault: at the first record that no library's records have there.
 use Rattle.std.specs.Prelude.{◌≡◌, ◌<◌, ◌^◌, ◌⊎◌, ℕ, List, ◌∷◌, ◌++◌, length, Ok, Err, IsErrAnd, ⊤}
 use Rattle.mpw_structures.specs.declared.structures.Structure.{Structure}
 use Rattle.mpw_records.specs.declared.fault.Code.TheVariants.{Unexpected, DoubleName}
@@ -12,7 +12,7 @@ use Rattle.mpw_library.specs.Grammar.{unit_of, library_of}
 use Rattle.mpw_library.specs.Derivation.{DerivesLibrary}
 use Rattle.mpw_library.specs.Fronts.{IsFront}
 
--- A fault of a record that stands in a text: of its place, or of the value that its type has.
+-- A fault of a record in a text: of its place, or of the value of its type.
 pub data IsFaultOf (r : RawRecord) (f : ReadFault) : Type 0 where
   misplaced : f ≡ fault_at Unexpected r → IsFaultOf r f
   unit : r.kind ≡ UNITS → unit_of r ≡ Err f → IsFaultOf r f
@@ -31,19 +31,19 @@ pub data IsFaultOf (r : RawRecord) (f : ReadFault) : Type 0 where
   grid : (unit columns rows : ℕ) → r.kind ≡ XY → grid_of unit columns rows r ≡ Err f
       → IsFaultOf r f
 
--- A fault of what stands at a place: the fault in place of a record, or one of the record's.
+-- A fault at a place: the fault in place of a record, or one of the record's.
 abbrev pub IsFaultThere : RecordOutcome → ReadFault → Type 0
 IsFaultThere (Err g) f = g ≡ f
 IsFaultThere (Ok r) f = IsFaultOf r f
 
--- Behind these records stands no record, or one with which no library's records begin.
+-- After these records there is no record, or one such that no library's records begin with all of them.
 abbrev pub EndsThere : List RawRecord → RecordOutcome → Type 0
 EndsThere before (Err g) = ⊤
 EndsThere before (Ok r) =
     (behind : List RawRecord) (ss : List Structure) → DerivesLibrary (before ++ r ∷ behind) ss → ⊥
 
--- The first fault of a text: the records before it are all without fault, and some library's records begin with them; with what
--- stands there none does; and it is a fault of that.
+-- The first fault of a text: the records before it have no fault, and some library's records begin with them;
+-- with the next outcome none does; and the fault is one of that outcome.
 pub record IsFirstFault (text : List ℕ) (fault : ReadFault) : Type 0 where
   pub before : List RawRecord
   pub there : RecordOutcome
@@ -53,7 +53,7 @@ pub record IsFirstFault (text : List ℕ) (fault : ReadFault) : Type 0 where
   pub ends : EndsThere before there
   pub is : IsFaultThere there fault
 
--- What is told of a refused text is its first fault.
+-- The fault that is reported of a refused text is its first fault.
 abbrev pub FirstFaultIsTold : Type 0
 FirstFaultIsTold =
     (text : List ℕ) (fault : ReadFault) → length text < 2 ^ 63 → library_of text ≡ Err fault

@@ -1,8 +1,8 @@
-//! Laws of the reader of GDSII texts that none of its calls rests on: where the first fault of a refused text stands, and what is
-//! told of a good text that is cut off or changed.
+//! Laws of the reader of GDSII texts that none of its calls needs: where the first fault of a refused text is, and what is reported of a
+//! good text that is cut off or changed.
 //!
-//! Each function does nothing: its contract is the law, and it speaks of the definitions of `mpw_records`, `mpw_elements` and
-//! `mpw_library` alone. No program links this crate.
+//! Each function does nothing. Its contract is the law, and speaks of the definitions of `mpw_records`, `mpw_elements` and `mpw_library`
+//! alone. No program links this crate.
 #![tactic(auto)]
 
 mod laws;

@@ -1,4 +1,4 @@
--- What private functions and proofs alone need: no public contract speaks of it.
+-- Definitions for private functions and proofs alone. No public contract uses them.
 pub mod Moves
 pub mod Naming
 pub mod Rule

@@ -9,7 +9,7 @@ use Rattle.mpw_records.specs.declared.kind.TheConstants.{ENDLIB}
 use Rattle.mpw_records.specs.Format.{data_fault}
 use Rattle.mpw_records.specs.Records.{RawRecord, told_length, first_fault, record_of, unless_fault, front, is_last, outcomes, outcomes_from}
 
--- what is known of the length where there is no fault
+-- what is known of the length if there is no fault
 pub record Fits (told len : ℕ) : Type 0 where
   pub header : 4 ≤ told
   pub whole : told ≤ len
@@ -98,7 +98,7 @@ pub step_err : (text : List ℕ) (p : ℕ) (f : ReadFault) → front text p ≡ 
     → outcomes_from text p ≡ Err f ∷ []
 step_err text p f e = unfolded text p ∙ rw e refl
 
--- the same from what a reader that hasn't ended sees
+-- the same for a reader that hasn't ended
 pub next_ok : (ended : Bool) (text : List ℕ) (p : ℕ) (r : RawRecord)
     (value : List (Result RawRecord ReadFault)) → ended ≡ false
     → cond ended [] (outcomes_from text p) ≡ value → p ≤ length text → front text p ≡ Ok r

@@ -1,4 +1,4 @@
--- A power of 16 that both sides of a comparison have is left out.
+-- A power of 16 that both sides of a comparison have can be dropped.
 use Rattle.std.proofs.Common.{◌≡◌, ℕ, ◌+◌, ◌-◌, ◌*◌, ◌^◌, ◌<◌, ◌≤◌, false, eqb, leb, refl, sym, ap, ◌∙◌, arith, inl, inr}
 use Rattle.std.specs.Int.{abs_diff}
 use Rattle.std.proofs.Math.Nat.{pow-le-pow_right, one-le-pow, le_of_mul-le-mul_right, mul-sub, mul_comm}
@@ -37,7 +37,7 @@ leb_same a b c d there back =
       ]
     ]
 
--- equality is that of the numbers without the common factor
+-- numbers with a common factor are equal exactly if they are equal without it
 pub eqb_factor : (a b c : ℕ) → 0 < c → eqb (a * c) (b * c) ≡ eqb a b
 eqb_factor a b c pos = eqb_same (a * c) (b * c) a b (cancel a b c pos) (λ e. ap (λ x. x * c) e)
 
@@ -58,7 +58,7 @@ power_pos k = one-le-pow k 16 (omega arith)
 pub power_le : (i j : ℕ) → i ≤ j → 16 ^ i ≤ 16 ^ j
 power_le i j h = pow-le-pow_right (omega arith) h
 
--- ---- equality, by how the exponent lies to 78
+-- ---- equality, by comparing the exponent with 78
 
 pub multiple_above : (m n e k : ℕ) → e ≡ 78 + k → eqb (m * 16 ^ k) n ≡ eqb (m * 16 ^ e) (n * whole)
 multiple_above m n e k at =

@@ -1,4 +1,4 @@
--- A sign and a magnitude against a signed number.
+-- A sign and a magnitude compared with a signed number.
 use Rattle.std.proofs.Common.{◌≡◌, ℕ, zero, suc, ◌*◌, ◌<◌, Bool, true, false, ℤ, pos, negsuc, neg_ℤ, ◌*ℤ◌, refl, sym, ap, ◌⊎◌, inl, inr, ◌∙◌, arith}
 use mathlib.Core.Bool.{beq}
 use lib.Signed.{lt_z}
@@ -24,7 +24,7 @@ differ m (suc x) h e = cc
 product_pos : (k c : ℕ) → 0 < c → 0 < suc k * c
 product_pos k c h = let p = mul-le 1 c (suc k) c (omega arith) (omega arith) in omega (arith, p)
 
--- of equal sizes, those with one sign are equal
+-- of equal magnitudes, those with the same sign are equal
 pub same_size : (s : Bool) (m : ℕ) (n : ℤ) (c : ℕ) → 0 < c → (n ≡ pos 0 → ⊥)
     → m ≡ unsigned_abs n * c → beq s (lt_z n (pos 0)) ≡ int_eq (signed s m) (n *ℤ pos c)
 same_size s m (pos zero) c h other e = absurd (other refl)
@@ -41,12 +41,12 @@ same_size false m (negsuc k) c h other e =
     differ m (suc k * c) (product_pos k c h)
     (sym ((Decides-int_eq (pos m) (neg_ℤ (pos (suc k * c)))).0 t)))
 
--- what is below 0 is no number of nanometres
+-- a negative number is no number of nanometres
 pub none_below : (m : ℕ) → 0 < m → None ≡ nanometres (neg_ℤ (pos m))
 none_below zero h = absurd (omega arith)
 none_below (suc m) h = refl
 
--- what is not below 0
+-- what is not negative
 pub not_below : (s : Bool) (m : ℕ) → (s ≡ false) ⊎ (m ≡ 0) → signed s m ≡ pos m
 not_below false m h = refl
 not_below true m (inl h) = absurd cc

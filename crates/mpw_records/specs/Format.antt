@@ -1,4 +1,4 @@
--- The data type and the data size of each record type whose data is looked at (GDSII Stream, "Record types").
+-- The data type and the data size of each record type whose data is tested (GDSII Stream, "Record types").
 use Rattle.std.specs.Prelude.{ℕ, ◌%◌, ◌&&◌, ◌==◌, not, nat_le, Bool, true, false, Option, Some, None, if◌then◌else◌}
 use Rattle.mpw_records.specs.declared.fault.Code.{Code}
 use Rattle.mpw_records.specs.declared.fault.Code.TheVariants.{BadType, BadSize}
@@ -10,7 +10,7 @@ form_fault false has_size = Some BadType
 form_fault true false = Some BadSize
 form_fault true true = None
 
--- The first fault of a record's data. Of the other record types only the type is looked at.
+-- The first fault of a record's data. For the other record types only the type is tested.
 unfoldable pub data_fault : (kind data_type size : ℕ) → Option Code
 data_fault kind data_type size =
     if kind == UNITS then form_fault (data_type == 5) (size == 16)
@@ -30,7 +30,7 @@ data_fault kind data_type size =
     else if kind == ENDEXTN then form_fault (data_type == 3) (size == 4)
     else None
 
--- The bytes that a record's data has at least.
+-- The least number of bytes of a record's data.
 unfoldable pub least_size : ℕ → ℕ
 least_size kind =
     if kind == UNITS then 16

@@ -9,7 +9,7 @@ use Rattle.byteorder.specs.Endian.{big_number}
 abbrev pub signed : Bool → ℕ → ℤ
 signed negative magnitude = if negative then neg_ℤ (pos magnitude) else pos magnitude
 
--- The value times 2^312: the sign bit, then 16 to the power of the seven bits behind it, times the mantissa of 56 bits.
+-- The value times 2^312: the sign bit, then 16 to the power of the seven bits after it, times the mantissa of 56 bits.
 -- (The real is mantissa / 2^56 * 16^(exponent - 64), and 56 + 4 * 64 is 312.)
 abbrev pub real_value : List ℕ → ℤ
 real_value bytes =
@@ -20,16 +20,16 @@ real_value bytes =
 abbrev pub is_whole : ℤ → ℤ → Bool
 is_whole value number = int_eq value (number *ℤ pos (2 ^ 312))
 
--- Whether a value in metres, times 2^312, is so many nanometres, within one part in 10^9.
+-- Whether a value in metres, times 2^312, is a number of nanometres, within one part in 10^9.
 abbrev pub is_nanometres : ℕ → ℕ → Bool
 is_nanometres value number =
     nat_le (abs_diff (value * 10 ^ 9) (number * 2 ^ 312) * 10 ^ 9) (number * 2 ^ 312)
 
--- The first of so many numbers, from one on, that a value in metres is in nanometres.
+-- The first of `count` numbers, from `from` on, that is the value in nanometres.
 unfoldable pub first_near : (value from count : ℕ) → Option ℕ
 first_near value from count = find (is_nanometres value) (range_with_len from count)
 
--- The nanometres, from 1 to 1000, that a value in metres, times 2^312, is.
+-- The number of nanometres, from 1 to 1000, of a value in metres, times 2^312.
 abbrev pub nanometres : ℤ → Option ℕ
 nanometres (pos value) = first_near value 1 1000
 nanometres (negsuc below) = None

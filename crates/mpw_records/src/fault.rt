@@ -1,11 +1,11 @@
-//! What can be wrong with a GDSII text.
+//! The faults of a GDSII text.
 ghost use Rattle.std.specs.Prelude.{◌≡◌, Some};
 ghost use Rattle.mpw_records.specs.Words.{code_word, fault_text};
 
 use std::error::Error;
 use std::fmt;
 
-/// The kind of a fault, of records, elements and libraries alike.
+/// The kind of a fault of a record, an element or a library.
 #[derive(Clone, Copy, PartialEq, Eq)]
 pub enum Code {
     /// A record passes the end of the text, or the text ends before ENDLIB.
@@ -14,7 +14,7 @@ pub enum Code {
     BadLength,
     /// A record's data type isn't that of its record type.
     BadType,
-    /// A record stands where the grammar doesn't have it.
+    /// A record is in a position that the grammar doesn't allow.
     Unexpected,
     /// A record has too much or too little data.
     BadSize,
@@ -32,13 +32,13 @@ pub enum Code {
     RoundPath,
     /// A path's width is odd.
     OddWidth,
-    /// A path's points are all one.
+    /// All points of a path are equal.
     PointPath,
     /// An array's columns or rows are fewer than 1.
     Columns,
     /// An array's step isn't a whole number of nm.
     Pitch,
-    /// Two structures have one name.
+    /// Two structures have the same name.
     DoubleName,
     /// An angle is absolute.
     Absolute,
@@ -88,13 +88,13 @@ impl fmt::Debug for Code {
 
 impl Error for Code {}
 
-/// A fault, and the offset in bytes of the record that has it. Where no byte is left, the offset is
+/// A fault, and the offset in bytes of the record that has it. If no byte is left, the offset is
 /// the number of bytes.
 #[derive(Clone, Copy, Debug, PartialEq, Eq)]
 pub struct ReadFault {
     /// The first test that the record fails.
     pub code: Code,
-    /// In bytes from the text's front: where the record begins, or the number of bytes where none is left.
+    /// In bytes from the text's front: the offset of the record, or the number of bytes if none is left.
     pub offset: usize,
 }
 

@@ -12,7 +12,7 @@ pub const LIBNAME: u8 = 0x02;
 /// Two eight-byte reals: the database unit in user units, and then in metres.
 pub const UNITS: u8 = 0x03;
 
-/// Ends the library, without data. What stands behind it is no part of the library.
+/// Ends the library, without data. What comes after it is no part of the library.
 pub const ENDLIB: u8 = 0x04;
 
 /// Begins a structure: the times at which it was made and last changed, each six two-byte numbers.
@@ -36,7 +36,7 @@ pub const SREF: u8 = 0x0A;
 /// Begins a reference that places a structure in columns and rows. No data.
 pub const AREF: u8 = 0x0B;
 
-/// Begins a text that is shown, which covers nothing. No data.
+/// Begins a text that is displayed but covers nothing. No data.
 pub const TEXT: u8 = 0x0C;
 
 /// The layer of an element, a two-byte number.
@@ -63,42 +63,42 @@ pub const COLROW: u8 = 0x13;
 /// Begins a node, which names an electrical net and covers nothing. No data.
 pub const NODE: u8 = 0x15;
 
-/// How a reference is transformed, 16 bits: 8000 hex mirrors about the x axis before it is turned, 0004 says that the
-/// magnification is absolute, and 0002 that the angle is.
+/// How a reference is transformed, 16 bits. 8000 hex: it is mirrored about the x axis before it is turned. 0004: the
+/// magnification is absolute. 0002: the angle is absolute.
 pub const STRANS: u8 = 0x1A;
 
-/// The magnification of a reference, an eight-byte real; 1 where it is absent.
+/// The magnification of a reference, an eight-byte real; 1 if it is absent.
 pub const MAG: u8 = 0x1B;
 
-/// How far a reference is turned counterclockwise, in degrees, an eight-byte real; 0 where it is absent.
+/// The counterclockwise angle of a reference in degrees, an eight-byte real; 0 if it is absent.
 pub const ANGLE: u8 = 0x1C;
 
-/// How a path ends, a two-byte number: 0 at its first and last point, 1 round, 2 half the width beyond them, 4 as BGNEXTN
-/// and ENDEXTN say; 0 where it is absent.
+/// How a path ends, a two-byte number: 0 at its first and last point, 1 round, 2 half the width beyond them, 4 by BGNEXTN
+/// and ENDEXTN; 0 if it is absent.
 pub const PATHTYPE: u8 = 0x21;
 
-/// Flags of an element that say where its data comes from, 16 bits.
+/// Flags of an element about the origin of its data, 16 bits.
 pub const ELFLAGS: u8 = 0x26;
 
 /// The number of a property of an element, a two-byte number.
 pub const PROPATTR: u8 = 0x2B;
 
-/// The value of the property whose number stands before it, a text.
+/// The value of the property whose number comes before it, a text.
 pub const PROPVALUE: u8 = 0x2C;
 
 /// Begins a box, a rectangle given by its corners. No data.
 pub const BOX: u8 = 0x2D;
 
-/// The type of a box, a two-byte number, as the datatype of a boundary.
+/// The type of a box, a two-byte number, like the datatype of a boundary.
 pub const BOXTYPE: u8 = 0x2E;
 
 /// The group to which an element belongs, a four-byte number.
 pub const PLEX: u8 = 0x2F;
 
-/// How far a path of PATHTYPE 4 goes beyond its first point, in database units, a four-byte number.
+/// The extension of a path of PATHTYPE 4 beyond its first point, in database units, a four-byte number.
 pub const BGNEXTN: u8 = 0x30;
 
-/// How far a path of PATHTYPE 4 goes beyond its last point, in database units, a four-byte number.
+/// The extension of a path of PATHTYPE 4 beyond its last point, in database units, a four-byte number.
 pub const ENDEXTN: u8 = 0x31;
-/// A record between elements that some writers leave there and that says nothing of the layout.
+/// A record that some writers put between elements. It has no meaning for the layout.
 pub const STRCLASS: u8 = 0x34;

@@ -1,11 +1,11 @@
-//! The records of a GDSII text, one after another, with the first fault in them, and its eight-byte reals.
+//! Reads the records of a GDSII text one by one, with the first fault in them, and its eight-byte reals.
 //!
-//! `Records::new(bytes)` takes a text, and `next` gives its records from the front, up to ENDLIB or
-//! the first fault. Nothing is copied, and no memory is taken.
+//! `Records::new(bytes)` takes a text. `next` gives its records from the front, up to ENDLIB or the
+//! first fault. Nothing is copied, and no memory is taken.
 //!
-//! A [`Real8`] (GDSII Stream, "Eight-byte real") is a sign, a mantissa of 56 bits and a power of 16. To contracts it is a
-//! whole number, its value times 2^312, so that spellings of one value are equal. No machine float is used: the tests
-//! multiply within 128 bits, and the exponents that lead beyond are told apart before.
+//! A [`Real8`] (GDSII Stream, "Eight-byte real") is a sign, a mantissa of 56 bits and a power of 16. Contracts see it as a
+//! whole number, its value times 2^312, so that different spellings of one value are equal. No machine float is used: the tests
+//! multiply within 128 bits, and decide the exponents that would exceed them beforehand.
 #![tactic(auto)]
 
 mod fault;

@@ -1,6 +1,6 @@
-//! A reader that goes through a text record by record.
+//! A reader of a text's records.
 //!
-//! To contracts it is the list of what `next` still gives: the records in order, and behind them the
+//! Contracts see it as the list of what `next` still gives: the records in order, and then the
 //! fault, if there is one.
 
 ghost use Rattle.std.specs.Prelude.{◌≡◌, [], ◌∷◌, IfSome, IfNone, IfOk};
@@ -11,7 +11,7 @@ use crate::kind;
 use crate::record::{Record, record_at};
 use std::marker::Model;
 
-/// The records of a text that are still to come.
+/// The remaining records of a text.
 #[derive(Drop)]
 pub struct Records<'a> {
     bytes: &'a [u8],
@@ -42,8 +42,8 @@ impl<'a> Records<'a> {
         }
     }
 
-    /// The next record, or the fault in its place. There is none behind ENDLIB and behind a fault.
-    /// It takes no memory, and looks at six bytes at most.
+    /// The next record, or the fault in its place. There is none after ENDLIB or after a fault.
+    /// Takes no memory, and reads at most six bytes.
     pub fn next(&mut self) -> Option<Result<Record<'a>, ReadFault>>
         ensures some { IfSome result (λ outcome. self.old ≡ seen outcome ∷ self.new) }
         ensures sized { IfSome result (λ outcome. IfOk outcome (λ r. IsSized (raw r))) }
@@ -64,7 +64,7 @@ impl<'a> Records<'a> {
         Some(outcome)
     }
 
-    /// Gives nothing from now on.
+    /// Makes `next` give nothing from now on.
     pub fn stop(&mut self)
         ensures { self.new ≡ [] }
     {

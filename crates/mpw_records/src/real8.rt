@@ -1,4 +1,4 @@
-//! A real and the two questions that a layout asks of it.
+//! Eight-byte reals, and the two tests that a layout needs.
 
 ghost use Rattle.std.specs.Prelude.{◌≡◌, ℕ, ◌*◌, ◌^◌, ◌<◌, ◌≤◌, ◌==◌, length, IfSome};
 ghost use Rattle.mpw_records.specs.Real.{real_value, is_whole, nanometres, is_nanometres, first_near};
@@ -26,8 +26,8 @@ impl Model for Real8 {
 }
 
 impl Real8 {
-    /// The real that eight bytes spell: a bit of sign, seven bits of exponent in excess 64, and the
-    /// mantissa. Every eight bytes are a real, also without a leading digit.
+    /// The real that eight bytes spell: a sign bit, seven bits of exponent in excess 64, and the
+    /// mantissa. Every eight bytes are a real, even without a leading digit.
     pub fn of(bytes: [u8; 8]) -> Real8
         ensures { result ≡ real_value bytes }
     {
@@ -48,7 +48,7 @@ impl Real8 {
         ])
     }
 
-    /// Whether the value is this whole number, exactly.
+    /// Whether the value is exactly this whole number.
     pub fn is_whole(&self, number: i32) -> bool
         ensures { result ≡ is_whole self.now number }
     {
@@ -61,8 +61,8 @@ impl Real8 {
         self.negative == (number < 0)
     }
 
-    /// The number of whole nanometres that a value in metres is, from 1 to 1000, where it is within
-    /// one part in 10^9 of it. It tries each number, some microseconds in all.
+    /// The whole number of nanometres from 1 to 1000 that a value in metres is, within one part in
+    /// 10^9. It tries each number, which takes some microseconds.
     pub fn nanometres(&self) -> Option<u16>
         ensures value { result ≡ nanometres self.now }
         ensures least { IfSome result (λ number. 1 ≤ number) }
@@ -75,7 +75,7 @@ impl Real8 {
     }
 }
 
-/// The first number of nanometres that `mantissa * 16^exponent`, in metres, is near to.
+/// The first number of nanometres that is near `mantissa * 16^exponent`, in metres.
 fn nearest(mantissa: u64, exponent: u8) -> Option<u16>
     requires { mantissa < 2 ^ 56 }
     ensures value { result ≡ first_near (mantissa * 16 ^ exponent) 1 1000 }
@@ -112,7 +112,7 @@ fn is_multiple(mantissa: u64, exponent: u8, number: u32) -> bool
     mantissa == number * 16u128.pow(below)
 }
 
-/// Whether `mantissa * 16^exponent`, in metres, is within one part in 10^9 of so many nanometres.
+/// Whether `mantissa * 16^exponent`, in metres, is `number` nanometres within one part in 10^9.
 fn is_near(mantissa: u64, exponent: u8, number: u16) -> bool
     requires mantissa { mantissa < 2 ^ 56 }
     requires least { 1 ≤ number }

@@ -1,4 +1,4 @@
-//! One record, and the tests that it passes.
+//! A record, and its tests.
 
 ghost use Rattle.std.specs.Prelude.{◌≡◌, ◌≤◌, ◌==◌, length, IfOk};
 ghost use Rattle.byteorder.specs.Endian.{big_number};
@@ -12,13 +12,13 @@ use byteorder::{BigEndian, ByteOrder};
 /// A record of a text.
 #[derive(Clone, Copy)]
 pub struct Record<'a> {
-    /// Where the record begins, in bytes from the text's front.
+    /// The offset of the record, in bytes from the text's front.
     pub offset: usize,
     /// The record type, as in `kind`.
     pub kind: u8,
     /// The data type, 0 to 6 in the standard, any byte here.
     pub data_type: u8,
-    /// The data behind the four bytes of the header.
+    /// The data after the four bytes of the header.
     pub bytes: &'a [u8],
 }
 
@@ -34,7 +34,7 @@ fn told_fault(has_type: bool, has_size: bool) -> Option<Code>
     }
 }
 
-/// What is wrong with a record's data type or data size, for the types whose data is looked at.
+/// The fault of a record's data type or data size, for the record types whose data is tested.
 #[tactic(auto, unfolding(crate::specs::Format::data_fault))]
 fn fault_of_data(kind: u8, data_type: u8, size: usize) -> Option<Code>
     ensures { result ≡ data_fault kind data_type size }
@@ -57,8 +57,8 @@ fn fault_of_data(kind: u8, data_type: u8, size: usize) -> Option<Code>
 /// The record that begins at the offset, or its first fault.
 ///
 /// # Errors
-/// `Short` where fewer than four bytes are left; `BadLength` where the length is below 4 or odd; `Short` where the
-/// record passes the end of the text; `BadType`, and then `BadSize`, where its data isn't what the type has.
+/// `Short` if fewer than four bytes are left; `BadLength` if the length is below 4 or odd; `Short` if the
+/// record passes the end of the text; `BadType`, and then `BadSize`, if its data isn't what the type requires.
 pub fn record_at(bytes: &[u8], offset: usize) -> Result<Record<'_>, ReadFault>
     requires { offset ≤ length bytes.now }
     ensures outcome { seen result ≡ front bytes.now offset }

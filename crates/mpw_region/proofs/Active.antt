@@ -1,4 +1,4 @@
--- The list of a sweep: which boxes it holds.
+-- The list of a sweep: which boxes it contains.
 use Rattle.std.proofs.Common.{◌≡◌, ℕ, ◌+◌, ◌<◌, ◌≤◌, ℤ, ◌≤ℤ◌, ◌<ℤ◌, Bool, true, false, List, [], ◌∷◌, ◌++◌, length, get_or, take, drop, ◌⊎◌, inl, inr, subst, sym, ap, ◌∙◌, refl, arith}
 use Rattle.std.specs.Prelude.{All, AllPairs, Contains, filter, cond, int_lt}
 use Rattle.std.specs.Ordering.{int_cmp, is_lt}
@@ -35,7 +35,7 @@ pub rising_from_sort_by_key : (key : Box2 → ℤ) {F : Type 0} {g : Mut F (Bor 
 rising_from_sort_by_key key {g = g} {f = f} xs up h =
     rising_from_sort key xs (up key (always_returns_same g (λ a r. r ≡ key a.0.now) f h))
 
--- ---- what a filter keeps
+-- ---- what a filter selects
 
 cons_cases : {X : Type 0} (y : X) (ys : List X) (x : X) → Contains (y ∷ ys) x
     → (y ≡ x) ⊎ Contains ys x
@@ -143,7 +143,7 @@ pub HoldsJust-all : (boxes list : List Box2) (P : Box2 → Type 0) (i : ℕ) →
     → HoldsJust (take i boxes) P list → HoldsJust boxes P list
 HoldsJust-all boxes list P i l h = subst (λ bs. HoldsJust bs P list) (take_all i boxes l) h
 
--- where the boxes from the place n on begin above the row, the list has just the boxes that have it
+-- if the boxes from index n on begin above the row, the list has exactly the boxes that have it
 pub HoldsJust-row : (boxes list : List Box2) (row : ℤ) (n : ℕ)
     → HoldsJust (take n boxes) (λ b. row <ℤ b.y1) list → All (λ b. b.y0 ≤ℤ row) (take n boxes)
     → ((k : ℕ) (d : Box2) → n ≤ k → k < length boxes → row <ℤ (get_or boxes k d).y0)

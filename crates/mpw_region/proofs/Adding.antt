@@ -1,3 +1,4 @@
+-- Runs that are added to others, by the positions that they add.
 use Rattle.std.proofs.Common.{ℕ, ◌+◌, ◌<◌, ◌≤◌, ℤ, List, [], ◌∷◌, ◌++◌, length, get_or, take, ◌⊎◌, inl, inr, subst, sym}
 use Rattle.std.specs.Prelude.{◌↔◌}
 use Rattle.std.proofs.Math.Logic.{⊎_map}
@@ -99,7 +100,7 @@ Adds-both old mid new P Q h g = record {
     from line at (inr (inl p)) = (g.places line at).1 (inl ((h.places line at).1 (inr p)))
     from line at (inr (inr q)) = (g.places line at).1 (inr q)
 
--- the same places, told in other words
+-- the same positions, described in another way
 pub Adds-same : (old new : List Run) (P Q : Line → ℤ → Type 0) → Adds old new P
     → ((line : Line) (at : ℤ) → P line at → Q line at)
     → ((line : Line) (at : ℤ) → Q line at → P line at) → Adds old new Q

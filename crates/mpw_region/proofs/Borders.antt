@@ -100,7 +100,7 @@ begun_or_ahead s b c = Contains-append_cases (take s.next s.boxes.items) (drop s
     b
     (subst (λ (bs : List Box2). Contains bs b) (sym (take-append-drop s.next s.boxes.items)) c)
 
--- a box that has begun has ended, or is held
+-- a box that has begun has ended, or is in the list
 ended_or_held : (s : Sweep) (b : Box2) → IsSweep s → Contains (take s.next s.boxes.items) b
     → (b.y1 ≤ℤ s.row) ⊎ Contains s.active.items b
 ended_or_held s b h c = by_lt_z s.row b.y1 (λ l. inr (h.active.complete b c l)) (λ l. inl l)
@@ -130,7 +130,7 @@ between_borders s next h filled low ends k d l =
           (inr f, inr (omega (arith, ints, f, high)))
     ]
 
--- where none is held and none ahead, all have ended
+-- if the list is empty and no box is ahead, all have ended
 pub all_ended : (s : Sweep) → IsSweep s → length s.boxes.items ≤ s.next
     → length s.active.items ≡ 0 → All (λ b. b.y1 ≤ℤ s.row) s.boxes.items
 all_ended s h l none k d within = at (get_or s.boxes.items k d)
@@ -145,7 +145,7 @@ all_ended s h l none k d within = at (get_or s.boxes.items k d)
       | inr later ↦ absurd (omega (arith, later.1, length-drop s.next s.boxes.items, l))
     ]
 
--- what the sweep holds ends above its row
+-- the boxes of the list end above the sweep's row
 pub held_above : (s : Sweep) → IsSweep s → All (λ b. s.row <ℤ b.y1) s.active.items
 held_above s h k d l =
     (h.active.sound (get_or s.active.items k d) (Contains-get_or s.active.items k d l)).1

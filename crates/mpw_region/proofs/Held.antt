@@ -1,3 +1,4 @@
+-- Properties of some element of a list.
 use Rattle.std.proofs.Common.{◌≡◌, ℕ, ◌<◌, List, [], ◌∷◌, ◌++◌, length, get_or, map, ◌⊎◌, inl, inr, subst, sym, ap, ◌∙◌, arith}
 use Rattle.std.specs.Prelude.{AllPairs, Contains}
 use Rattle.std.specs.List.Sorted.{IsPermutation}
@@ -45,12 +46,12 @@ pub map_held : {X Y : Type 0} (f : X → Y) (xs : List X) (P : Y → Type 0) (x 
 map_held f xs P x c p =
     (f x, (c.0, omega (arith, c.1, length-map xs f), get_or-map f xs c.0 x (f x) c.1 ∙ ap f c.2), p)
 
--- a place of a contained element, at any default
+-- an index of a contained element, with any default
 pub place_of : {X : Type 0} (xs : List X) (d x : X) → Contains xs x → (k : ℕ) × (k < length xs)
     × (get_or xs k d ≡ x)
 place_of xs d x c = (c.0, c.1, get_or_default xs c.0 d x c.1 ∙ c.2)
 
--- of a list in order, two elements are one, or one stands before the other
+-- in a sorted list, two elements are equal, or one comes before the other
 pub one_or_before : {X : Type 0} (R : X → X → Type 0) (xs : List X) (d x y : X) → AllPairs R xs
     → Contains xs x → Contains xs y → (x ≡ y) ⊎ (R x y ⊎ R y x)
 one_or_before R xs d x y h c e = at (place_of xs d x c) (place_of xs d y e)

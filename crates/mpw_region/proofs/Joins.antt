@@ -1,3 +1,4 @@
+-- Joining sorted runs that overlap or touch, one after another.
 use Rattle.std.proofs.Common.{◌≡◌, ℕ, ◌+◌, ◌<◌, ◌≤◌, ℤ, pos, ◌≤ℤ◌, ◌<ℤ◌, suc, List, [], ◌∷◌, ◌++◌, length, get_or, take, drop, ◌-◌, ◌⊎◌, inl, inr, subst, sym, ap, ◌∙◌, arith}
 use Rattle.std.specs.Prelude.{◌↔◌, All, AllPairs}
 use Rattle.std.proofs.lemmas.Int.{ints, clamps, by_lt_z}
@@ -15,7 +16,7 @@ use Rattle.mpw_region.proofs.Order.{line_before, line_total}
 use Rattle.mpw_region.proofs.Orderings.{chain}
 use Rattle.mpw_region.proofs.Held.{Held-nil, Held-push_left, Held-push_new, Held-push_cases, Held-permutation}
 
--- how far runs are joined: the joined ones and the last one hold the places of those done
+-- how far runs are joined: the joined ones and the last one have the positions of those done
 pub record Joins (joined : List Run) (last : Run) (done : List Run) : Type 0 where
   pub same : (line : Line) (at : ℤ) → (CoversPlace joined line at ⊎ HoldsPlace last line at)
       ↔ CoversPlace done line at
@@ -24,12 +25,12 @@ pub record Joins (joined : List Run) (last : Run) (done : List Run) : Type 0 whe
   pub near : All (λ r. StandsBefore r last) joined
   pub run : IsFilled last
 
--- the last one begins no later than what is left from the place i on
+-- the last one begins no later than what is left from index i on
 abbrev pub BeginsBelow : Run → List Run → ℕ → Type 0
 BeginsBelow last rest i =
     (m : ℕ) (d : Run) → i ≤ m → m < length rest → BeginsFirst last (get_or rest m d)
 
--- what the code's index gives past the end
+-- the default of the code's index past the end
 abbrev pub no_run : Run
 no_run =
     record { line = record { side = 0; first = pos 0; second = pos 0 }; from = pos 0; to = pos 0 }
@@ -139,7 +140,7 @@ Joins-start first k = record {
         → CoversPlace [] line at ⊎ HoldsPlace first line at
     from line at x = x
 
--- the places at the end
+-- the positions at the end
 pub Joins-end : (joined : List Run) (last : Run) (done : List Run) → Joins joined last done
     → (line : Line) (at : ℤ) → CoversPlace (joined ++ last ∷ []) line at ↔ CoversPlace done line at
 Joins-end joined last done h line at = (
@@ -159,7 +160,7 @@ AreApart-end joined last done h = record {
   ordered = all_pairs_push StandsBefore joined last h.ordered h.near;
 }
 
--- which of the two happens: `reached` says what the test of the code found
+-- which of the two happens: `reached` is the result of the code's test
 pub before_from_unreached : (last run : Run) → BeginsFirst last run
     → ((last.line ≡ run.line) → last.to <ℤ run.from) → StandsBefore last run
 before_from_unreached last run (inl p) h = inl p
@@ -192,7 +193,7 @@ same_places-permutation xs ys m line at = (
   Held-permutation (λ r. HoldsPlace r line at) xs ys m,
 )
 
--- runs each of which ends before the next, up to the place k: one more
+-- runs each of which ends before the next, up to index k: one more
 pub apart_more : (runs : List Run) (k : ℕ) → All IsFilled runs → 1 ≤ k → k < length runs
     → AllPairs StandsBefore (take k runs)
     → StandsBefore (get_or runs (k - 1) no_run) (get_or runs k no_run)

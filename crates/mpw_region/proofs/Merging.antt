@@ -1,4 +1,4 @@
--- How the columns of a band are joined: the intervals that are done and the last one hold what the boxes hold.
+-- How the columns of a band are joined: the intervals that are done and the last one cover what the boxes cover.
 use Rattle.std.proofs.Common.{◌≡◌, ℕ, ◌+◌, ◌<◌, ◌≤◌, ℤ, ◌≤ℤ◌, ◌<ℤ◌, suc, List, [], ◌∷◌, ◌++◌, length, get_or, take, ◌⊎◌, inl, inr, subst, ap, ◌∙◌, arith}
 use Rattle.std.specs.Prelude.{◌↔◌, All, AllPairs}
 use Rattle.std.proofs.lemmas.Int.{ints, clamps, by_lt_z}
@@ -23,7 +23,7 @@ pub record Merges (old out done : List Box2) (last : Box2) (rows : Rows) : Type 
   pub banded : AreBands out
   pub near : All (λ b. StandsInBands b last) out
 
--- the last one begins no further right than what is left from the place i on
+-- the last one begins no further right than what is left from index i on
 abbrev pub BeginsBefore : Box2 → List Box2 → ℕ → Type 0
 BeginsBefore last rest i =
     (m : ℕ) (d : Box2) → i ≤ m → m < length rest → last.x0 ≤ℤ (get_or rest m d).x0
@@ -75,7 +75,7 @@ Merges-start old first rows up k banded below = record {
       | inr p ↦ inr (p.0, p.1, w.0.0, w.0.1)
     ]
 
--- a box that begins within the last interval lengthens it
+-- a box that begins within the last interval extends it
 pub Merges-longer : (old out done : List Box2) (last next : Box2) (rows : Rows)
     → Merges old out done last rows → last.x0 ≤ℤ next.x0 → next.x0 ≤ℤ last.x1 → next.x0 <ℤ next.x1
     → Merges old out (done ++ next ∷ []) (lengthened last next) rows
@@ -212,7 +212,7 @@ pub done_more : (first : Box2) (rest : List Box2) (i : ℕ) (d : Box2) → i < l
     → first ∷ take (i + 1) rest ≡ (first ∷ take i rest) ++ get_or rest i d ∷ []
 done_more first rest i d b = ap (λ xs. first ∷ xs) (take_more rest i d b)
 
--- of no boxes there is nothing to add
+-- without boxes there is nothing to add
 pub AddsBand-none : (old boxes : List Box2) (rows : Rows) → length boxes < 1 → rows.y0 <ℤ rows.y1
     → AreBands old → All (λ b. b.y1 ≤ℤ rows.y0) old → AddsBand old old boxes rows
 AddsBand-none old boxes rows none r h l = record {

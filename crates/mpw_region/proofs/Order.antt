@@ -1,3 +1,4 @@
+-- The order of lines and of runs.
 use Rattle.std.proofs.Common.{◌≡◌, ℕ, ℤ, ◌+◌, ◌-◌, zero, suc, ◌<◌, false, List, length, get_or, sym, refl, ap, ◌∙◌, subst, inl, inr, arith}
 use Rattle.std.proofs.lemmas.Int.{ints}
 use Rattle.std.specs.Cmp.{IsTotalOrder}
@@ -21,7 +22,7 @@ same_line a b e f g = ap (λ (p : ℕ × ℤ × ℤ).
     (let h : (let q : ℕ × ℤ × ℤ = (a.side, a.first, a.second) in q)
     ≡ (b.side, b.first, b.second) = cc in h)
 
--- lines that compare alike are one line
+-- lines that compare as equal are equal
 pub line_tied : (a b : Line) → line_cmp a b ≡ Equal → a ≡ b
 line_tied a b e =
     let rest = then_second (nat_cmp a.side b.side) _ e in
@@ -34,7 +35,7 @@ line_tied a b e =
 pub line_before : (a b : Line) → line_cmp a b ≡ Less → a ≡ b → ⊥
 line_before = before_itself line_cmp line_total
 
--- what a sort leaves of neighbours
+-- what a sort guarantees for neighbours
 pub BeginsFirst-from_sort : (r s : Run)
     → is_lt (ordering_then (line_cmp s.line r.line)
     (ordering_then (int_cmp s.from r.from) (int_cmp s.to r.to))) ≡ false → BeginsFirst r s
@@ -48,7 +49,7 @@ pub BeginsFirst-chain : (r s t : Run) → BeginsFirst r s → BeginsFirst s t �
 BeginsFirst-chain r s t p q =
     chain line_cmp line_total r.line s.line t.line (λ e f. omega (arith, ints, e, f)) p q
 
--- what follows of pairs at a distance, from neighbours
+-- what follows for pairs at a distance, from neighbours
 far : (xs : List Run) (d : Run) → ((k : ℕ) → k + 1 < length xs
     → BeginsFirst (get_or xs k d) (get_or xs (k + 1) d)) → (n i j : ℕ) → j ≡ i + 1 + n
     → j < length xs → BeginsFirst (get_or xs i d) (get_or xs j d)

@@ -1,4 +1,4 @@
--- Orders by several parts, one behind another.
+-- Lexicographic orders.
 use Rattle.std.proofs.Common.{◌≡◌, ℤ, ◌≤ℤ◌, false, sym, refl, ap, ◌∙◌, inl, inr, ◌⊎◌, arith}
 use Rattle.std.proofs.lemmas.Int.{ints}
 use Rattle.std.specs.Cmp.{IsTotalOrder}

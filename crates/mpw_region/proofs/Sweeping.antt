@@ -19,7 +19,7 @@ use Rattle.mpw_region.proofs.Held.{Held-nil}
 
 -- ---- one band more
 
--- a box that has a row between two borders has them all
+-- a box that has one row between two borders has them all
 row_between : (rows : Rows) (b : Box2) (j : ℤ) → HasNoBorderWithin rows b → rows.y0 ≤ℤ j
     → j <ℤ rows.y1 → b.y0 ≤ℤ j → j <ℤ b.y1 → (b.y0 ≤ℤ rows.y0) × (rows.y1 ≤ℤ b.y1)
 row_between rows b j n l u low high = (
@@ -77,7 +77,7 @@ IsSweptTo-more boxes active out new rows up between just h added = record {
 
 -- ---- the whole sweep
 
--- a step up to a row, and what it left of the sweep
+-- a step up to a row, and its effect on the sweep
 pub record StepsTo (old s : Sweep) (at : ℤ) : Type 0 where
   pub sweep : IsSweep s
   pub row : s.row ≡ at
@@ -130,7 +130,7 @@ SweepsUp-more old s out new at up l between added h = swept_up old s new at h up
     (IsSweptTo-more old.boxes.items old.active.items out new (record { y0 = old.row; y1 = at }) l
     between up.exact up.swept added)
 
--- where all boxes have ended
+-- if all boxes have ended
 pub SweepsUp-end : (boxes out : List Box2) (s : Sweep) → IsPermutation boxes s.boxes.items
     → SweepsUp s out → All (λ b. b.y1 ≤ℤ s.row) s.boxes.items → (i j : ℤ)
     → IsCovered out i j ↔ IsCovered boxes i j

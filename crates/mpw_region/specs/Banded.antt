@@ -1,3 +1,4 @@
+-- Bands of rows, as a sorted list of boxes.
 use Rattle.std.specs.Prelude.{◌≡◌, ◌≤ℤ◌, ◌<ℤ◌, List, All, AllPairs, ◌⊎◌}
 use Rattle.mpw_geom.specs.declared.plane.Box2.{Box2}
 use Rattle.mpw_geom.specs.Plane.{HasArea}

@@ -1,4 +1,4 @@
--- What private functions and proofs alone need: no public contract speaks of it, but those of `laws::Sweep` of its `Sweep`.
+-- Definitions for private functions and proofs. No public contract refers to them, except that those of `laws::Sweep` refer to its `Sweep`.
 pub mod Order
 pub mod Runs
 pub mod Sweep

@@ -1,4 +1,4 @@
--- What a region keeps beside its boxes.
+-- What a region stores in addition to its boxes.
 use Rattle.std.specs.Prelude.{◌≡◌, ℤ, List}
 use Rattle.mpw_geom.specs.declared.plane.Box2.{Box2}
 use Rattle.mpw_region.specs.Squares.{covers}

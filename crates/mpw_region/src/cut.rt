@@ -1,13 +1,12 @@
-//! The bands of a list of boxes: a sweep upwards from border to border.
+//! Computes the bands of a list of boxes, by a sweep upwards from border to border.
 //!
 //! Each border of a box is a row at which a band may begin or end. The sweep goes from one to the next,
 //! and in each band the columns of the boxes that have it are joined.
 //!
-//! For `n` boxes: a sort of them, and then, in each of fewer than `2n` bands, a few passes over the boxes
-//! that have it and an order of those that begin with it. The result has at most a box for
-//! each that has a band. That is a few times `n` where boxes share few rows, and up to `n * n` where
-//! all share rows that all their borders cut: let a window have few boxes, since a band reaches across
-//! it.
+//! Cost for `n` boxes: a sort of them, and then, in each of fewer than `2n` bands, a few passes over the boxes
+//! that have it and a sort of those that begin with it. The result has at most one box for each box and each
+//! band that it has. That is a few times `n` if boxes share few rows, and up to `n * n` if all share rows that
+//! all their borders cut. So a window should have few boxes, since a band reaches across it.
 
 ghost use Rattle.std.specs.Prelude.{◌≡◌, ◌<ℤ◌, ◌↔◌, [], ℤ, IfOk, OnOk, All, MatchBool, map};
 ghost use Rattle.std.specs.List.Sorted.{IsPermutation};
@@ -27,12 +26,12 @@ use std::alloc::{AllocError, Global};
 /// The unit squares of the boxes, as bands of rows. A box has the squares from `(x0, y0)` to before
 /// `(x1, y1)`; one without area has none. Boxes may overlap, touch and come in any order.
 ///
-/// The region also keeps the bands of the exchanged boxes, so that what looks along columns needs no
-/// bands of its own. The cost is that of two sweeps: `n log n` for `n` boxes, and in each band, of which
-/// there are fewer than `2n`, the boxes that have it.
+/// The region also stores the bands of the exchanged boxes, so that a check along columns needs no bands of
+/// its own. Cost: two sweeps, which is `n log n` for `n` boxes, and in each of fewer than `2n` bands the
+/// boxes that have it.
 ///
 /// # Errors
-/// Where there is no room.
+/// Out of memory.
 pub fn bands(alloc: Global, boxes: &[Box2]) -> Result<Bands, AllocError>
     ensures squares { IfOk result (λ b. (s : Square) →
         any_has_square b s ≡ any_has_square boxes.now s) }
@@ -59,7 +58,7 @@ pub fn exchanged_box(b: &Box2) -> Box2
 /// The boxes with their coordinates exchanged, in order. One pass.
 ///
 /// # Errors
-/// Where there is no room.
+/// Out of memory.
 pub fn exchange(alloc: Global, boxes: &[Box2]) -> Result<Vec<Box2>, AllocError>
     ensures { IfOk result (λ v. v.items ≡ map exchanged_box boxes.now) }
 {
@@ -86,11 +85,11 @@ fn boxes_with_area(alloc: Global, boxes: &[Box2]) -> Result<Vec<Box2>, AllocErro
     Ok(kept)
 }
 
-/// The unit squares of the boxes as the boxes of bands, for a caller that looks along rows alone: the half
+/// The unit squares of the boxes as the boxes of bands, for a caller that needs rows alone. It is half
 /// of [`bands`], at half its cost.
 ///
 /// # Errors
-/// Where there is no room.
+/// Out of memory.
 pub fn row_bands(alloc: Global, boxes: &[Box2]) -> Result<Vec<Box2>, AllocError>
     ensures squares { IfOk result (λ v. (i j : ℤ) → covers v.items i j ≡ covers boxes.now i j) }
     ensures banded { IfOk result (λ v. AreBands v.items) }
@@ -99,7 +98,7 @@ pub fn row_bands(alloc: Global, boxes: &[Box2]) -> Result<Vec<Box2>, AllocError>
     sweep_up(alloc, boxes)
 }
 
-/// Adds the band from the sweep's row to the next border, and goes up to that.
+/// Adds the band from the sweep's row to the next border, and goes up to that border.
 fn add_next(out: &mut Vec<Box2>, sweep: &mut Sweep, next: i64) -> Result<(), AllocError>
     requires sweeps { SweepsUp sweep.old out.old.items }
     requires up { sweep.old.row <ℤ next }
@@ -117,7 +116,7 @@ fn add_next(out: &mut Vec<Box2>, sweep: &mut Sweep, next: i64) -> Result<(), All
     Ok(())
 }
 
-/// A sweep of the boxes that has gone up to the lowest of their rows.
+/// A sweep of the boxes at the lowest of their rows.
 fn sweep_of(alloc: Global, boxes: Vec<Box2>) -> Result<Sweep, AllocError>
     requires { All HasArea boxes.items }
     ensures sweeps { IfOk result (λ s. SweepsUp s []) }

@@ -1,11 +1,12 @@
-//! The merged region of a list of boxes, as bands of rows.
+//! Computes the merged region of a list of boxes, as bands of rows.
 //!
-//! [`bands`] gives boxes that have the same unit squares, ordered by rows and then from left to
-//! right, in which no two boxes of a row touch. [`laws::Sweep`] is the sweep behind it, and [`row_bands`] a list of its bands. [`join_runs`] makes
-//! runs of whole numbers on lines into one where they overlap or touch.
+//! - [`bands`] gives boxes that have the same unit squares, ordered by rows and then from left to
+//!   right. No two boxes of a row touch. [`row_bands`] gives only a list of these bands.
+//! - [`laws::Sweep`] is the sweep that computes them.
+//! - [`join_runs`] joins runs of whole numbers on lines if they overlap or touch.
 //!
 //! A call of [`bands`] takes the boxes of one window. Its cost grows with the boxes that share rows: the
-//! first page of `cut.rt` counts it.
+//! comment at the top of `cut.rt` has the count.
 #![tactic(auto)]
 
 mod cut;

@@ -1,4 +1,4 @@
-//! One band: the columns of the boxes that have its rows, as intervals that don't touch.
+//! Computes one band: the columns of the boxes that have its rows, as intervals that don't touch.
 
 ghost use Rattle.std.specs.Prelude.{◌≡◌, ◌≤ℤ◌, ◌<ℤ◌, ◌∷◌, OnOk, All, AllPairs, MatchBool};
 ghost use Rattle.mpw_region.specs.Internal.Sweep.{BeginsLeft};
@@ -27,14 +27,14 @@ fn interval(b: &Box2, rows: Rows) -> Box2
     }
 }
 
-/// Whether the next box begins within this one or where it ends.
+/// Whether the next box begins inside this one or where it ends.
 fn reaches(last: &Box2, next: &Box2) -> bool
     ensures { MatchBool result (next.now.x0 ≤ℤ last.now.x1) (last.now.x1 <ℤ next.now.x0) }
 {
     next.x0 <= last.x1
 }
 
-/// The box, lengthened to the end of the next.
+/// The box, extended to the end of the next.
 fn lengthen(last: &Box2, next: &Box2) -> Box2
     ensures { result ≡ lengthened last.now next.now }
 {
@@ -73,7 +73,7 @@ fn add_intervals(
     Ok(())
 }
 
-/// Adds the band of the rows, with the columns of the boxes, which stand in order from the left. One
+/// Adds the band of the rows, with the columns of the boxes, which must be sorted from left to right. One
 /// pass over them.
 pub(crate) fn add_band(out: &mut Vec<Box2>, boxes: &[Box2], rows: Rows) -> Result<(), AllocError>
     requires rows { rows.y0 <ℤ rows.y1 }

@@ -7,11 +7,11 @@ ghost use Rattle.mpw_region.specs.Region.{IsRegion, AreColumnsOf};
 use mpw_geom::Box2;
 use std::marker::Model;
 
-/// A set of unit squares as bands of rows. In contracts it is the list of its boxes: from below,
-/// and in each band from left to right with a gap between any two. What stands on it speaks of the
-/// squares alone, so whether neighbouring bands of equal columns are one is no part of its meaning.
+/// A set of unit squares as bands of rows. Contracts see it as the list of its boxes: from below,
+/// and in each band from left to right with a gap between any two. Users refer to the squares
+/// alone, so it is unspecified whether neighbouring bands of equal columns are joined.
 ///
-/// Beside them it keeps the bands of the same squares with their coordinates exchanged.
+/// It also stores the bands of the same squares with their coordinates exchanged.
 pub struct Bands {
     boxes: Vec<Box2>,
     columns: Vec<Box2>,
@@ -38,7 +38,7 @@ impl Model for Bands {
 }
 
 impl Bands {
-    /// The region of boxes that are bands already, with those of the exchanged squares.
+    /// The region of boxes that are bands already, and of the bands of the exchanged squares.
     pub(crate) fn of(boxes: Vec<Box2>, columns: Vec<Box2>) -> Bands
         requires { IsRegion boxes.items columns.items }
         ensures { result ≡ boxes.items }
@@ -54,7 +54,7 @@ impl Bands {
         self.boxes.as_slice()
     }
 
-    /// The bands of the same squares with their coordinates exchanged, made with the region.
+    /// The bands of the same squares with their coordinates exchanged. They were made with the region.
     pub fn columns(&self) -> &[Box2]
         ensures { AreColumnsOf self.now result.now }
     {

@@ -1,4 +1,4 @@
-//! Runs of whole numbers on lines, and how they are joined.
+//! Joins runs of whole numbers on lines.
 
 ghost use Rattle.std.specs.Prelude.{◌≡◌, ◌↔◌, ◌≤ℤ◌, ◌<ℤ◌, ◌∷◌, ℤ, IfOk, IsTrue, All, MatchBool};
 ghost use Rattle.std.specs.List.Sorted.{IsPermutation};
@@ -8,30 +8,30 @@ ghost use Rattle.mpw_region.specs.Internal.Order.{AreInOrder, merged};
 
 use std::alloc::{AllocError, Global};
 
-/// What tells the lines apart on which runs lie: a side and two numbers, in nm.
+/// The line of a run: a side and two numbers, in nm. Runs on different lines never touch.
 #[derive(Clone, Copy, PartialEq, Eq, PartialOrd, Ord)]
 pub struct Line {
-    /// Of the runs that checks find, the side of their pair steps, 0 or 1.
+    /// The side, 0 or 1. For the runs that checks find, it is that of their pair steps.
     pub side: u8,
-    /// Of the runs that checks find, `x1` of their pair steps.
+    /// For the runs that checks find, `x1` of their pair steps.
     pub first: i64,
-    /// Of the runs that checks find, `x2` of their pair steps.
+    /// For the runs that checks find, `x2` of their pair steps.
     pub second: i64,
 }
 
-/// The places from `from` to before `to` on a line, in nm.
+/// The positions from `from` to before `to` on a line, in nm.
 #[derive(Clone, Copy, PartialEq, Eq, PartialOrd, Ord)]
 pub struct Run {
-    /// The line on which it lies; runs of several lines never touch.
+    /// The line on which it lies. Runs on different lines never touch.
     pub line: Line,
-    /// The first place, in nm.
+    /// The first position, in nm.
     pub from: i64,
-    /// The place behind the last one, above `from` where the run has a place.
+    /// The position after the last one. It is above `from` if the run has a position.
     pub to: i64,
 }
 
 impl Run {
-    /// Whether the next run overlaps or touches this one, on one line.
+    /// Whether the next run is on the same line and overlaps or touches this one.
     fn reaches(&self, next: &Run) -> bool
         ensures { MatchBool result
             ((self.now.line ≡ next.now.line) × (next.now.from ≤ℤ self.now.to))
@@ -40,7 +40,7 @@ impl Run {
         self.line == next.line && next.from <= self.to
     }
 
-    /// This run, lengthened to the end of the next.
+    /// This run, extended to the end of the next.
     fn merge(&self, next: &Run) -> Run
         ensures { result ≡ merged self.now next.now }
     {
@@ -52,7 +52,7 @@ impl Run {
     }
 }
 
-/// The runs by line, and on a line by where they begin.
+/// The runs sorted by line, and on a line by their beginnings.
 fn in_order(runs: Vec<Run>) -> Vec<Run>
     ensures moved { IsPermutation runs.items result.items }
     ensures ordered { AreInOrder result.items }
@@ -62,7 +62,7 @@ fn in_order(runs: Vec<Run>) -> Vec<Run>
     runs
 }
 
-/// Whether no run reaches the next one. One pass.
+/// Whether no run overlaps or touches the next one. One pass.
 fn are_apart(runs: &[Run]) -> bool
     requires filled { All IsFilled runs.now }
     requires ordered { AreInOrder runs.now }
@@ -76,7 +76,7 @@ fn are_apart(runs: &[Run]) -> bool
     true
 }
 
-/// Joins ordered runs that overlap or touch on one line, beginning with `first`.
+/// Joins sorted runs that overlap or touch on one line, beginning with `first`.
 fn join(alloc: Global, first: Run, rest: &[Run]) -> Result<Vec<Run>, AllocError>
     requires filled { All IsFilled (first ∷ rest.now) }
     requires ordered { AreInOrder (first ∷ rest.now) }
@@ -98,13 +98,13 @@ fn join(alloc: Global, first: Run, rest: &[Run]) -> Result<Vec<Run>, AllocError>
     Ok(joined)
 }
 
-/// The same places as the runs, by runs in order no two of which touch: on one line each ends
-/// before the next begins, with a gap. Runs are ordered by line (side, first, second), then by
-/// place. The cost is that of sorting the runs; where some are joined the result stands in memory beside
-/// them, 40 bytes a run.
+/// The same positions as the runs, by sorted runs no two of which touch: on one line each ends before
+/// the next begins, with a gap. Runs are sorted by line (side, first, second), then by position. Cost:
+/// that of sorting the runs. If some are joined, the result is in memory in addition to them, 40 bytes
+/// for each run.
 ///
 /// # Errors
-/// Where there is no room.
+/// Out of memory.
 pub fn join_runs(alloc: Global, runs: Vec<Run>) -> Result<Vec<Run>, AllocError>
     requires { All IsFilled runs.items }
     ensures places { IfOk result (λ v. (line : LineValue) (at : ℤ) →

@@ -1,9 +1,9 @@
-//! A sweep of boxes from below: at each row, the list of the boxes that have it.
+//! A sweep of boxes from below. At each row it has the list of the boxes that have the row.
 //!
-//! The boxes are sorted once by their lowest rows. A step goes up to a row, drops the boxes that end at
-//! it or below, takes in those that begin, and puts the list in order from the left. What the list held
-//! before is in order already, so the sort finds it as one run. A step costs the boxes that it drops,
-//! keeps and takes in, and an order of those that it takes in.
+//! The boxes are sorted once by their lowest rows. A step goes up to a row, removes the boxes that end at
+//! it or below, adds those that begin, and sorts the list from left to right. The part that the list had
+//! before is sorted already, so the sort finds it as one run. A step costs the boxes that it removes,
+//! keeps and adds, and a sort of those that it adds.
 
 ghost use Rattle.std.specs.Prelude.{
   ◌≡◌,
@@ -33,7 +33,7 @@ ghost use Rattle.mpw_region.specs.Internal.Swept.{HasNoBorderWithin};
 use mpw_geom::Box2;
 use std::alloc::{AllocError, Global};
 
-/// A sweep: its row, the boxes that have it, all boxes from below, and how many of these it has come to.
+/// A sweep: its row, the boxes that have it, all boxes from below, and how many of these it has reached.
 #[derive(Drop)]
 pub struct Sweep {
     row: i64,
@@ -58,7 +58,7 @@ fn sort_from_left(boxes: &mut Vec<Box2>) -> Result<(), AllocError>
     boxes.sort_by_key(|b| b.x0)
 }
 
-/// Drops the boxes that end at the row or below it.
+/// Removes the boxes that end at the row or below it.
 fn drop_ended(active: &mut Vec<Box2>, row: i64)
     ensures { active.new.items ≡ filter (λ b. int_lt row b.y1) active.old.items }
 {
@@ -69,8 +69,8 @@ fn drop_ended(active: &mut Vec<Box2>, row: i64)
     );
 }
 
-/// Takes in the boxes from the place `next` on that begin at the row or below it and end above, and
-/// tells the place of the first that begins above.
+/// Adds the boxes from index `next` on that begin at the row or below it and end above it. Returns
+/// the index of the first that begins above.
 fn take_in(
     active: &mut Vec<Box2>,
     boxes: &[Box2],
@@ -112,10 +112,10 @@ fn least_end(boxes: &[Box2], row: i64) -> i64
 }
 
 impl Sweep {
-    /// A sweep of the boxes, which holds none yet. It costs a sort of the boxes.
+    /// A sweep of the boxes at its start, with an empty list. Cost: a sort of the boxes.
     ///
     /// # Errors
-    /// Where there is no room to sort.
+    /// Out of memory.
     pub fn new(alloc: Global, boxes: Vec<Box2>) -> Result<Sweep, AllocError>
         ensures sweep { IfOk result IsSweep }
         ensures boxes { IfOk result (λ s. IsPermutation boxes.items s.boxes.items) }
@@ -131,10 +131,10 @@ impl Sweep {
         })
     }
 
-    /// Goes up to the row. Its list then holds exactly the boxes that have the row, from the left.
+    /// Goes up to the row. Its list then contains exactly the boxes that have the row, from the left.
     ///
     /// # Errors
-    /// Where there is no room; the sweep is then of no further use.
+    /// Out of memory. The sweep is then unusable.
     pub fn step(&mut self, row: i64) -> Result<(), AllocError>
         requires sweep { IsSweep self.old }
         requires upwards { self.old.row ≤ℤ row }
@@ -161,7 +161,7 @@ impl Sweep {
         self.row
     }
 
-    /// A row from which on boxes begin: the lowest of theirs, where there are any.
+    /// A row from which on boxes begin: the lowest of their rows, if there are any.
     pub(crate) fn lowest(&self) -> i64
         requires { IsSweep self.now }
         ensures row { i64.MIN ≤ℤ result }
@@ -173,7 +173,7 @@ impl Sweep {
         }
     }
 
-    /// The next row at which a box begins or ends, unless all have ended. One pass over the boxes that have the row of the
+    /// The next row at which a box begins or ends. `None` if all have ended. One pass over the boxes that have the row of the
     /// last step.
     pub(crate) fn next_border(&self) -> Option<i64>
         requires sweep { IsSweep self.now }

@@ -6,7 +6,7 @@ use Rattle.mpw_replies.specs.declared.reply.Code.{Code}
 use Rattle.mpw_replies.specs.declared.reply.Code.TheVariants.{Read, Deck, NoTop, Cycle, NoCell, Extent, Shapes, Deep, Full, Tiles, Opened, NoRun, Unknown, Known, Used, Loop, Running, NoDeck, Empty, NotFinished, NoMarker, NoWaiver, Ended, Store, Closed}
 use Rattle.mpw_replies.specs.FirstLineText.{code_text, refused_text, refusal_of}
 
--- that of any but a text's fault has no place
+-- a refusal has no place unless it is a text's fault
 pub refused_alone : (code : Code) → ((f : ReadFault) → code ≡ Read f → ⊥)
     → ((f : DeckFault) → code ≡ Deck f → ⊥) → refused_text code ≡ refusal_of (code_text code)
 refused_alone (Read f) other another = absurd (other f refl)

@@ -1,4 +1,4 @@
--- Listings of shapes: how many lines they have, and that what is seen is what may be read.
+-- Listings of shapes: how many lines they have, and that they show what may be read.
 use Rattle.std.proofs.Common.{◌≡◌, ℕ, ◌<◌, inl, inr, Bool, true, false, cond, Option, Some, None, List, [], ◌∷◌, ◌++◌, length, refl, sym, ap, ◌∙◌, arith}
 use Rattle.std.specs.Prelude.{slice_get, All}
 use Rattle.std.specs.List.{flat_map}
@@ -35,7 +35,7 @@ there_within xs i h none = elim (slice_get_cases xs i).1 [
   | inr p ↦ absurd (omega (arith, h, p.0))
 ]
 
--- a line for each shape that is seen, where all come from the shelf
+-- a line for each shape that is seen, if all come from the shelf
 pub lines_many : (shelf : List Submission) (seen : List Bool) (items : List Item)
     → All (λ (i : Item). i.origin < length shelf) items
     → length (seen_lines shelf seen items) ≡ seen_items seen items
@@ -51,7 +51,7 @@ lines_many shelf seen (item ∷ items) within =
     let t = sum_by-cons (one_if seen) item items in
     omega (arith, p, q, r, t)
 
--- a listing of a submission: its lines are as many as were counted
+-- a listing of a submission has as many lines as were counted
 pub listing_is : (shelf : List Submission) (seen : List Bool) (number count : ℕ) (root : Root)
     → IsRoot shelf root → flat_roots shelf (root ∷ []) ≡ flat shelf number → ShapesAreOfEarlier
     → count ≡ seen_items seen (flat shelf number) → IsListing shelf root seen count
@@ -62,7 +62,7 @@ listing_is shelf seen number count root is shapes origins counted = record {
       ∙ ap (λ items. length (seen_lines shelf seen items)) (sym shapes);
 }
 
--- ---- one shape more
+-- ---- one more shape
 
 pub seen_next : (shelf : List Submission) (seen : List Bool) (item : Item) (items : List Item)
     → seen_lines shelf seen (item ∷ items) ≡ seen_line shelf seen item
@@ -85,7 +85,7 @@ view_on shelf seen lines old item new view before is seen_is =
     before ∙ ap (seen_lines shelf seen) is ∙ seen_next shelf seen item new
     ∙ ap (λ ls. ls ++ seen_lines shelf seen new) (sym seen_is)
 
--- behind the last shape no line is left
+-- after the last shape no line is left
 pub view_over : (shelf : List Submission) (seen : List Bool) (lines : List Listed) (old : List Item)
     → lines ≡ seen_lines shelf seen old → old ≡ [] → lines ≡ []
 view_over shelf seen lines old before none =

@@ -51,7 +51,7 @@ shown_none : (names : List ℕ → List Name) (rules : List Rule) (seen : List B
 unfolding shown_lines
 shown_none names rules seen = refl
 
--- one turn over a book: the marker at a place, and what is behind it
+-- one turn over a book: the marker at an index, and what comes after it
 pub shown_on : (names : List ℕ → List Name) (rules : List Rule) (seen : List Bool)
     (book : List Marker) (i : ℕ) (m : Marker) (line : List Listed)
     → i < length book → m ≡ get_or book i m → line ≡ shown_line names rules seen m
@@ -80,7 +80,7 @@ one_more : (b : Bool) (m : Marker) (ms : List Marker)
 one_more true m ms = omega arith
 one_more false m ms = omega arith
 
--- the markers that are shown in full have a line each
+-- each full marker has a line
 pub shown_count : (names : List ℕ → List Name) (rules : List Rule) (seen : List Bool)
     (book : List Marker)
     → length (shown_lines names rules seen book) ≡ length (filter (has_line rules seen) book)
@@ -93,9 +93,9 @@ shown_count names rules seen (m ∷ book) =
     ∙ ap (λ n. cond (has_line rules seen m) 1 0 + n) (shown_count names rules seen book)
     ∙ sym (one_more (has_line rules seen m) m (filter (has_line rules seen) book))
 
--- ---- the numbers of masked markers
+-- ---- the counts of masked markers
 
--- a marker more
+-- one more marker
 pub number_more : (seen : List Bool) (book : List Marker) (i place : ℕ) (m : Marker)
     → i < length book → m ≡ get_or book i m
     → masked_number seen (take (i + 1) book) place ≡ masked_number seen (take i book) place
@@ -134,7 +134,7 @@ pub some_line : (name : Name) (n : ℕ) → 0 < n → masked_line name n ≡ mas
 some_line name n l = let no : (n == 0) ≡ false = grind (arith, nat_tests, l) in
     ap (λ b. cond b [] (masked name n ∷ [])) no
 
--- one turn over numbers: the rule at a place, and what is behind it
+-- one turn over counts: the rule at an index, and what comes after it
 numbered_turn : (numbers : List ℕ) (rules : List Rule) (lines more : List Listed) (i : ℕ) (d : Rule)
     → lines ≡ numbered_lines numbers i (drop i rules) → i < length rules
     → masked_line (get_or rules i d).name (slice_index numbers i) ≡ more
@@ -194,7 +194,7 @@ pub counted_over : (numbers : List ℕ) (rules : List Rule) (i : ℕ) → length
 counted_over numbers rules i l =
     ap length (numbered_over numbers rules (numbered_lines numbers i (drop i rules)) i refl l)
 
--- ---- numbers while they are counted
+-- ---- counts, while markers are counted
 
 length_filter : (p : Marker → Bool) (ms : List Marker) → length (filter p ms) ≤ length ms
 length_filter p [] = omega arith
@@ -203,7 +203,7 @@ length_filter p (m ∷ ms) =
     elim (p m) as (λ b. length (cond b (m ∷ filter p ms) (filter p ms)) ≤ length (m ∷ ms))
     [ true ↦ omega (arith, rest) | false ↦ omega (arith, rest) ]
 
--- as many as markers so far, at most
+-- at most as many as markers so far
 pub number_few : (seen : List Bool) (book : List Marker) (numbers : List ℕ) (i : ℕ)
     → i < length book → AreNumbers seen (take i book) numbers
     → (place : ℕ) → place < length numbers → slice_index numbers place ≤ i

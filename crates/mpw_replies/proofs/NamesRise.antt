@@ -1,4 +1,4 @@
--- Names by their bytes stand in order.
+-- Names in the order of their bytes.
 use Rattle.std.proofs.Common.{◌≡◌, ℕ, zero, suc, ◌<◌, Bool, true, false, ◌&&◌, List, [], ◌∷◌, map, length, get_or, refl, arith}
 use Rattle.std.specs.Prelude.{T, AllPairs}
 use Rattle.std.specs.Cmp.Lexicographic.{nat_list_cmp_total}

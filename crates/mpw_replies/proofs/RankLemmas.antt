@@ -1,4 +1,4 @@
--- The places of names in their order, and the cells that a marker meets by the places of its submissions' cells.
+-- The indexes of sorted names, and the cells that a marker touches by the ranks of its submissions.
 use Rattle.std.proofs.Common.{◌≡◌, ℕ, zero, suc, ◌+◌, ◌<◌, ◌≤◌, Bool, true, false, cond, ◌||◌, ◌==◌, Option, Some, Err, List, []}
 use Rattle.std.proofs.Common.{◌∷◌, ◌++◌, length, get_or, take, drop, replicate, inl, inr, refl, sym, ap, ◌∙◌, arith, subst}
 use Rattle.std.specs.Prelude.{AllPairs, slice_get, slice_index_or, filter}
@@ -92,7 +92,7 @@ rank_none names cells name k is answer place cell at =
           (subst (λ c. name_cmp c name ≡ Greater) cell_is (split.1 place name le inside)) refl)
     ]
 
--- ---- the cells of met submissions
+-- ---- the cells of touched submissions
 
 any_alike : (p q : ℕ → Bool) → ((n : ℕ) → p n ≡ q n) → (ns : List ℕ) → list_any p ns ≡ list_any q ns
 any_alike p q same [] = refl
@@ -127,7 +127,7 @@ from_place shelf ranks met place (cell ∷ cells) are =
     ∙ ap (λ b. cell_if b cell ++ filter (is_met shelf met) cells) here
     ∙ front (is_met shelf met cell) cell (filter (is_met shelf met) cells)
 
--- the cells at the ranks of the met submissions are theirs
+-- the cells at the ranks of the touched submissions are theirs
 pub met_are : (shelf : List Submission) (cells : List Name) (ranks : List ℕ)
     → cells ≡ cells_on shelf → AreRanks cells shelf ranks
     → (met : List ℕ) → met_of cells ranks met ≡ met_cells shelf met
@@ -139,7 +139,7 @@ met_are shelf cells ranks is are met =
     ≡ is_of cell (slice_get shelf number)) (none i) (are number i cell at))
     ∙ ap (filter (is_met shelf met)) is
 
--- ---- one submission more
+-- ---- one more submission
 
 ranks_push : (cells : List Name) (shelf : List Submission) (ranks : List ℕ) (s : Submission)
     (rank : ℕ) → length ranks ≡ length shelf
@@ -214,7 +214,7 @@ marks_all ranks met base k marks l before i near =
     or_none (slice_index_or marks i false) ∙ ap (λ b. slice_index_or marks i false || b) (sym over)
     ∙ before i near
 
--- a cell that is met comes next, and one that is not is gone over
+-- a touched cell comes next, and another is skipped
 pub met_on : (cells : List Name) (ranks met : List ℕ) (turn new : Turn) (names : List Name)
     (cell : Name) (b : Bool)
     → names ≡ met_left cells ranks met turn → turn.at < length cells

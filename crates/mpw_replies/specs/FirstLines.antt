@@ -1,4 +1,4 @@
--- What became of a request.
+-- The outcome of a request.
 use Rattle.std.specs.Prelude.{length}
 use Rattle.mpw_replies.specs.declared.entry.FirstLine.{FirstLine}
 use Rattle.mpw_replies.specs.declared.entry.FirstLine.TheVariants as said

@@ -7,7 +7,7 @@ use Rattle.mpw_replies.specs.Listing.{Listed, shape}
 abbrev pub line_of : ShapeView → Listed
 line_of v = shape v.cell.now v.version v.placing v.element.now
 
--- A shape that can be placed: an element as reading gives it, and a displacement that a caller may hand in.
+-- A shape that can be placed: an element as reading gives it, and a displacement that a caller may give.
 pub record IsPlaceableView (v : ShapeView) : Type 0 where
   pub element : IsElement v.element.now
   pub displacement : IsInPlane v.placing.by

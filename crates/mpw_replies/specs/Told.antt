@@ -1,4 +1,4 @@
--- The lines that are told, of what is kept of them.
+-- The lines that are written, of what a reply stores.
 use Rattle.std.specs.Prelude.{List, map}
 use Rattle.mpw_replies.specs.declared.lines.Told.{Told}
 use Rattle.mpw_replies.specs.declared.lines.Told.TheVariants as told

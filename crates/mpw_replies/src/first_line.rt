@@ -1,6 +1,6 @@
-//! What the first line of a reply says: how many lines follow, what the session lacks, or why the request is refused.
+//! The first line of a reply: how many lines follow, what the session lacks, or why the request is refused.
 //!
-//! The trail tells the same of each request. So its words are given here, for whoever writes them; they take no memory.
+//! The trail has the same words for each request, so they are defined here. They take no memory.
 ghost use Rattle.std.specs.Prelude.{◌≡◌};
 ghost use Rattle.std.specs.List.{flat_map};
 ghost use Rattle.mpw_replies.specs.FirstLineText.{operation_text, object_text, denial_word, denial_text, fault_text, deck_text, code_text};
@@ -41,7 +41,7 @@ pub(crate) fn object_word(object: &Object) -> &str
     }
 }
 
-/// How the text begins that says what a session lacks.
+/// The beginning of the text that says what a session lacks.
 #[tactic(auto, unfolding(crate::specs::FirstLineText::denial_word))]
 fn denial_word(denial: &Denial) -> &str
     ensures { result.now ≡ denial_word denial.now }
@@ -58,7 +58,7 @@ fn denial_word(denial: &Denial) -> &str
     }
 }
 
-/// The parts of what a session lacks, with empty ones behind the last.
+/// The parts of the text that says what a session lacks. Empty parts follow the last.
 #[tactic(auto, unfolding(crate::specs::FirstLineText::denial_text))]
 pub fn denial_parts(denial: &Denial) -> [&str; 4]
     ensures { flat_map (λ part. part.now) result ≡ denial_text denial.now }

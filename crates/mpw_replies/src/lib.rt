@@ -1,6 +1,6 @@
-//! What the desk replies: the lines of what is accepted, and what denies or refuses a request.
+//! The replies of the desk: the lines of an accepted request, and why a request is denied or refused.
 //!
-//! A copy of a reply shares its lines, and a listing is kept as what it lists; the trail keeps the text of its rows.
+//! Copies of a reply share its lines. A listing is stored as what it lists. The trail stores the text of its rows.
 #![tactic(auto)]
 
 mod entry;

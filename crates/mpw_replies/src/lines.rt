@@ -1,7 +1,7 @@
 //! The lines of an accepted request's reply.
 //!
-//! A copy of a reply shares its lines, and the history keeps each reply. So a listing of shapes, of markers or of requests is kept as
-//! what it lists ([`ShapeListing`], [`MarkerListing`], [`TrailListing`]), and its lines are made one by one where they are written.
+//! Copies of a reply share its lines, and the history stores each reply. So a listing of shapes, of markers or of requests is stored as
+//! what it lists ([`ShapeListing`], [`MarkerListing`], [`TrailListing`]). Its lines are made one by one when they are written.
 ghost use Rattle.std.specs.Prelude.{◌≡◌, ◌∷◌, [], IfOk, length, map};
 ghost use Rattle.mpw_replies.specs.Listing.{stored};
 ghost use Rattle.mpw_replies.specs.Told.{kept_lines, told_lines};
@@ -15,7 +15,7 @@ use std::alloc::{AllocError, Global};
 use std::marker::Model;
 use std::sync::Arc;
 
-/// What a reply holds of its lines: the lines themselves, or the shapes, the markers or the requests that they list.
+/// What a reply stores of its lines: the lines themselves, or the shapes, the markers or the requests that they list.
 enum Told {
     Stored(Vec<Line>),
     Shapes(ShapeListing),
@@ -34,7 +34,7 @@ impl Drop for Told {
     }
 }
 
-/// The lines of a reply, which contracts see as that list. Copies share them.
+/// The lines of a reply. Contracts see them as that list. Copies share them.
 pub struct Lines {
     told: Option<Arc<Told>>,
 }
@@ -57,7 +57,7 @@ impl Model for Lines {
     ghost view = { λ lines. option_map_or (λ told. told_lines told.value) lines.told [] };
 }
 
-/// A look at what a reply holds of its lines.
+/// A view of what a reply stores of its lines.
 pub enum Kept<'a> {
     /// The lines themselves.
     Stored(&'a [Line]),
@@ -70,7 +70,7 @@ pub enum Kept<'a> {
 }
 
 impl Lines {
-    /// No line. It takes no memory.
+    /// No lines. It takes no memory.
     pub fn none() -> Lines
         ensures { result ≡ [] }
     {
@@ -80,7 +80,7 @@ impl Lines {
     /// These lines. One allocation.
     ///
     /// # Errors
-    /// Where there is no room for it.
+    /// Out of memory.
     pub fn from_vec(alloc: Global, lines: Vec<Line>) -> Result<Lines, AllocError>
         ensures { IfOk result (λ made. made ≡ map stored lines.items) }
     {
@@ -91,7 +91,7 @@ impl Lines {
     /// One line. Two allocations.
     ///
     /// # Errors
-    /// Where there is no room for it.
+    /// Out of memory.
     pub fn of_line(alloc: Global, line: Line) -> Result<Lines, AllocError>
         ensures { IfOk result (λ made. made ≡ stored line ∷ []) }
     {
@@ -100,10 +100,10 @@ impl Lines {
         Lines::from_vec(alloc, lines)
     }
 
-    /// The lines of a listing. One allocation.
+    /// The lines of a listing of shapes. One allocation.
     ///
     /// # Errors
-    /// Where there is no room for it.
+    /// Out of memory.
     pub fn of_shapes(alloc: Global, listing: ShapeListing) -> Result<Lines, AllocError>
         ensures { IfOk result (λ made. made ≡ listing) }
     {
@@ -114,7 +114,7 @@ impl Lines {
     /// The lines of a listing of markers. One allocation.
     ///
     /// # Errors
-    /// Where there is no room for it.
+    /// Out of memory.
     pub fn of_markers(alloc: Global, listing: MarkerListing) -> Result<Lines, AllocError>
         ensures { IfOk result (λ made. made ≡ listing) }
     {
@@ -125,7 +125,7 @@ impl Lines {
     /// The lines of a listing of the trail. One allocation.
     ///
     /// # Errors
-    /// Where there is no room for it.
+    /// Out of memory.
     pub fn of_trail(alloc: Global, listing: TrailListing) -> Result<Lines, AllocError>
         ensures { IfOk result (λ made. made ≡ trail_lines listing) }
     {
@@ -133,7 +133,7 @@ impl Lines {
         Ok(Lines { told: Some(told) })
     }
 
-    /// What is kept of the lines. It takes no memory.
+    /// What is stored of the lines. It takes no memory.
     pub fn contents(&self) -> Kept<'_>
         ensures { kept_lines result ≡ self.now }
     {
@@ -143,7 +143,7 @@ impl Lines {
         }
     }
 
-    /// The number of lines. It takes no memory, and constant time.
+    /// The number of lines. Constant time; it takes no memory.
     pub fn len(&self) -> usize
         ensures { result ≡ length self.now }
     {
@@ -155,10 +155,10 @@ impl Lines {
         }
     }
 
-    /// The same lines, in constant time and without further memory.
+    /// The same lines. Constant time; it takes no memory.
     ///
     /// # Errors
-    /// Where no more copies can be counted.
+    /// No more copies can be counted.
     pub fn copy(&self) -> Result<Lines, AllocError>
         ensures { IfOk result (λ lines. lines ≡ self.now) }
     {
@@ -179,7 +179,7 @@ impl Clone for Lines {
     }
 }
 
-/// What is kept of lines, to be looked at.
+/// A view of what is stored of the lines.
 fn kept_of(told: &Told) -> Kept<'_>
     ensures { kept_lines result ≡ told_lines told.now }
 {

@@ -1,7 +1,7 @@
-//! Listings of shapes: the flat list of a cell's present submission, as far as it may be seen.
+//! Listings of shapes: the flat list of a cell's present submission, without the shapes that the session may not see.
 //!
-//! A listing holds the shelf, which submission it lists, and which submissions may be seen; copies of a reply share it. Its
-//! lines are made one by one by a walk, which takes no memory.
+//! A listing has the shelf, the submission that it lists, and which submissions may be seen. Copies of a reply share it. A walk makes its
+//! lines one by one, and takes no memory.
 ghost use Rattle.std.specs.Prelude.{◌≡◌, ◌<◌, ◌≤◌, ◌∷◌, ◌++◌, [], length, All, IfOk, IfSome, IfNone};
 ghost use Rattle.mpw_hier.specs.Values.{flat};
 ghost use Rattle.mpw_walk.specs.Turns.{given, flat_roots};
@@ -53,20 +53,20 @@ impl Model for ShapeListing {
     ghost invariant = { λ l. IsListing l.shelf l.root l.seen.items l.count };
 }
 
-/// A shape that a listing shows: the cell and the version that it comes from, and how it is placed.
+/// A shape of a listing: the cell and the version that it comes from, and its placing.
 #[derive(Clone, Copy)]
 pub struct ShapeView<'a> {
-    /// The cell of the submission from which the shape comes.
+    /// The cell of the submission that the shape comes from.
     pub cell: &'a Name,
     /// The version of that submission, from 1.
     pub version: u32,
     /// From the coordinates of the shape's structure to those of the listed cell's top.
     pub placing: Placing,
-    /// A boundary or a path, where its library has it: not placed yet.
+    /// The boundary or path as it is in the library, not placed yet.
     pub element: &'a Element,
 }
 
-/// The shapes of a listing that are still to come. Contracts see their lines. It takes no memory.
+/// The shapes of a listing that are left. Contracts see their lines. It takes no memory.
 #[derive(Drop)]
 pub struct ShapeViews<'a> {
     shelf: &'a Shelf,
@@ -85,11 +85,11 @@ impl<'a> Model for ShapeViews<'a> {
 }
 
 impl ShapeListing {
-    /// The listing of a submission's shapes, as far as they may be seen. The lines are counted by [`seen_count`], at its cost in time
-    /// and memory: the flat list isn't gone over.
+    /// The listing of those shapes of a submission that may be seen. [`seen_count`] counts the lines, at its cost in time and memory. The
+    /// flat list isn't walked.
     ///
     /// # Errors
-    /// Want of memory.
+    /// Out of memory.
     pub fn new(
         alloc: Global,
         shelf: Shelf,
@@ -126,8 +126,8 @@ impl ShapeListing {
 }
 
 impl<'a> ShapeViews<'a> {
-    /// The next shape; none behind the last. It takes no memory, and a walk's turns: at most 65 for each shape that the
-    /// submission has, seen or not.
+    /// The next shape, or none after the last. It takes no memory. Cost: the turns of a walk, at most 65 for each shape of the submission,
+    /// seen or not.
     pub fn next(&mut self) -> Option<ShapeView<'a>>
         ensures some { IfSome result (λ shape. self.old ≡ line_of shape ∷ self.new) }
         ensures placeable { IfSome result IsPlaceableView }
@@ -137,7 +137,7 @@ impl<'a> ShapeViews<'a> {
     }
 }
 
-/// The shapes of roots, as far as they may be seen.
+/// The shapes of roots that may be seen.
 fn views_of<'a>(shelf: &'a Shelf, roots: &'a [Root], seen: &'a [bool]) -> ShapeViews<'a>
     requires roots { All (IsRoot shelf.now) roots.now }
     requires few { length roots.now ≤ 1 }

@@ -1,8 +1,8 @@
-//! Listings of markers: the book of a run, as far as the submissions that its markers meet may be seen.
+//! Listings of markers: the book of a run, without what the session may not see.
 //!
-//! A listing holds the book, its rules, the cells by name, and which submissions may be seen; copies of a reply share it. Its
-//! lines are made one by one, which takes no memory. Markers that are shown in full come first, in the book's order, and
-//! then the numbers of those that are masked, by rule. What is hidden has no line.
+//! A listing has the book, its rules, the cells in alphabetical order, and which submissions may be seen. Copies of a reply share it. Its
+//! lines are made one by one, without memory. The full markers come first, in the book's order. Then come the counts of masked markers, by
+//! rule. A hidden marker has no line.
 ghost use Rattle.std.specs.Prelude.{◌≡◌, ◌≤◌, ◌∷◌, ◌++◌, [], List, ℕ, length, drop, filter, Some, option_copied, IfOk, IfSome, IfNone};
 ghost use Rattle.mpw_roles.specs.Hierarchy.{Name as NameValue};
 ghost use Rattle.mpw_replies.specs.Sight.{book_lines};
@@ -20,16 +20,16 @@ use mpw_markers::{Book, Key, Marker};
 use std::alloc::{AllocError, Global};
 use std::marker::Model;
 
-/// The markers of a book as they may be seen. Contracts see its lines.
+/// The markers of a book as a session sees them. Contracts see its lines.
 pub struct MarkerListing {
     book: Book,
     rules: Rules,
     seen: Vec<bool>,
-    /// The cells of the submissions, by name.
+    /// The cells of the submissions, in alphabetical order.
     cells: Names,
-    /// The place of each submission's cell among them.
+    /// For each submission the index of its cell in `cells`.
     ranks: Vec<usize>,
-    /// The number of the masked markers of each rule.
+    /// For each rule the count of its masked markers.
     numbers: Vec<usize>,
     count: usize,
 }
@@ -66,18 +66,18 @@ impl Model for MarkerListing {
     ghost invariant = { λ l. IsMarkerListing l.rules l.cells l.ranks.items l.seen.items l.numbers.items l.book l.count };
 }
 
-/// A marker that a listing shows in full: the name of its rule, its key, and the cells that it meets.
+/// A full marker of a listing: the name of its rule, its key, and the cells that it touches.
 #[derive(Drop)]
 pub struct MarkerView<'a> {
     /// The rule's name in the run's deck.
     pub rule: &'a Name,
-    /// Its line and rows, with the rule's place in the deck.
+    /// Its line and rows, with the index of its rule in the deck.
     pub key: Key,
-    /// The cells of the submissions that it meets, each once, by name.
+    /// The cells of the submissions that it touches, each once, in alphabetical order.
     pub cells: MetCells<'a>,
 }
 
-/// The full markers of a listing that are still to come. Contracts see their lines. It takes no memory.
+/// The full markers of a listing that are left. Contracts see their lines. It takes no memory.
 #[derive(Drop)]
 pub struct MarkerViews<'a> {
     book: &'a [Marker],
@@ -98,21 +98,21 @@ impl<'a> Model for MarkerViews<'a> {
     ghost view = { λ v. shown_lines (met_of v.cells.now v.ranks.now) v.rules.now v.seen.now (drop v.at v.book.now) };
 }
 
-/// The lines of a listing: those of the markers that are shown in full, and then the numbers of those that are masked.
+/// The lines of a listing: the full markers, and then the counts of masked markers.
 #[derive(Drop)]
 pub struct MarkerLines<'a> {
-    /// The markers in full, in the order of the book; they come first.
+    /// The full markers, in the order of the book. They come first.
     pub full: MarkerViews<'a>,
-    /// How many markers of a rule are masked, where there are such, in the order of the deck's rules.
+    /// For each rule with masked markers how many it has, in the order of the deck's rules.
     pub masked: MaskedViews<'a>,
 }
 
 impl MarkerListing {
-    /// The listing of a book whose markers stand under these rules, and meet submissions of this shelf. A sort of the
-    /// submissions' cells and a binary search for each, and two passes over the book and its met numbers.
+    /// The listing of a book whose markers belong to these rules and touch submissions of this shelf. Cost: a sort of the submissions'
+    /// cells, a binary search for each, and two passes over the book with its touched submissions.
     ///
     /// # Errors
-    /// Where there is no room.
+    /// Out of memory.
     pub fn new(
         alloc: Global,
         book: Book,
@@ -163,8 +163,7 @@ impl MarkerListing {
 }
 
 impl<'a> MarkerViews<'a> {
-    /// The next marker that is shown in full; none behind the last. It takes no memory, and a pass over the met numbers of
-    /// each marker that it goes over.
+    /// The next full marker, or none after the last. It takes no memory. Cost: a pass over the touched submissions of each marker that it goes over.
     pub fn next(&mut self) -> Option<MarkerView<'a>>
         ensures some { IfSome result (λ view. self.old ≡ marker_line view ∷ self.new) }
         ensures none { IfNone result (self.old ≡ []) }
@@ -185,7 +184,7 @@ struct Shown<'a> {
     marker: &'a Marker,
 }
 
-/// The next marker from a place on that is shown in full and has a rule.
+/// The next full marker with a rule, from an index on.
 fn next_shown<'a>(
     at: &mut usize,
     book: &'a [Marker],
@@ -205,7 +204,7 @@ fn next_shown<'a>(
     None
 }
 
-/// The rule of a marker that is shown in full.
+/// The rule of a full marker.
 fn rule_shown<'a>(rules: &'a [Rule], seen: &[bool], marker: &Marker) -> Option<&'a Rule>
     ensures { (names : List ℕ → List NameValue) → line_by names marker.now (option_copied result) ≡ shown_line names rules.now seen.now marker.now }
 {
@@ -215,7 +214,7 @@ fn rule_shown<'a>(rules: &'a [Rule], seen: &[bool], marker: &Marker) -> Option<&
     rules.get(marker.rule as usize)
 }
 
-/// The number of lines, of the markers that are shown in full and of the numbers that are not 0.
+/// The number of lines: one for each full marker, and one for each count that isn't 0.
 fn count_lines(book: &[Marker], rules: &[Rule], seen: &[bool], numbers: &[usize]) -> usize
     requires { length numbers.now ≡ length rules.now }
     ensures { (names : List ℕ → List NameValue) → result ≡ length (shown_lines names rules.now seen.now book.now ++ numbered_lines numbers.now 0 rules.now) }
@@ -223,7 +222,7 @@ fn count_lines(book: &[Marker], rules: &[Rule], seen: &[bool], numbers: &[usize]
     count_shown(book, rules, seen) + count_numbered(rules, numbers)
 }
 
-/// The number of markers that are shown in full.
+/// The number of full markers.
 fn count_shown(book: &[Marker], rules: &[Rule], seen: &[bool]) -> usize
     ensures count { result ≡ length (filter (has_line rules.now seen.now) book.now) }
     ensures few { result ≤ length book.now }
@@ -237,7 +236,7 @@ fn count_shown(book: &[Marker], rules: &[Rule], seen: &[bool]) -> usize
     count
 }
 
-/// Whether the marker is shown in full and has a rule.
+/// Whether the marker is full and has a rule.
 fn has_line(rules: &[Rule], seen: &[bool], marker: &Marker) -> bool
     ensures { result ≡ has_line rules.now seen.now marker.now }
 {

@@ -1,4 +1,4 @@
-//! The numbers of masked markers by rule.
+//! The counts of masked markers, by rule.
 ghost use Rattle.std.specs.Prelude.{◌≡◌, ◌≤◌, ◌<◌, ◌^◌, ◌+◌, ◌∷◌, [], ℕ, length, drop, slice_index, IfOk, IfSome, IfNone};
 ghost use Rattle.mpw_replies.specs.Ranks.{numbered_lines};
 ghost use Rattle.mpw_replies.specs.Internal.Ranks.{AreNumbers, masked_one};
@@ -11,17 +11,16 @@ use mpw_markers::Marker;
 use std::alloc::{AllocError, Global};
 use std::marker::Model;
 
-/// How many markers of a rule are masked, of that rule's name.
+/// The count of a rule's masked markers, with the rule's name.
 #[derive(Clone, Copy)]
 pub struct MaskedView<'a> {
     /// The rule's name in the run's deck.
     pub rule: &'a Name,
-    /// How many of its markers the session may read in part, at least 1.
+    /// How many of its markers are masked for the session, at least 1.
     pub number: usize,
 }
 
-/// The numbers of masked markers that are still to come, of the rules that have such markers. Contracts see their lines. It
-/// takes no memory.
+/// The counts of masked markers that are left, of the rules that have such markers. Contracts see their lines. It takes no memory.
 #[derive(Drop)]
 pub struct MaskedViews<'a> {
     rules: &'a [Rule],
@@ -42,7 +41,7 @@ impl<'a> Model for MaskedViews<'a> {
 }
 
 impl<'a> MaskedViews<'a> {
-    /// The lines of the rules' numbers. Constant time.
+    /// The lines of the rules' counts. Constant time.
     pub(crate) fn new(rules: &'a [Rule], numbers: &'a [usize]) -> MaskedViews<'a>
         requires { length numbers.now ≡ length rules.now }
         ensures { result ≡ numbered_lines numbers.now 0 rules.now }
@@ -54,7 +53,7 @@ impl<'a> MaskedViews<'a> {
         }
     }
 
-    /// The next number that is not 0; none behind the last. It takes no memory.
+    /// The next count that isn't 0, or none after the last. It takes no memory.
     pub fn next(&mut self) -> Option<MaskedView<'a>>
         ensures some { IfSome result (λ view. self.old ≡ number_line view ∷ self.new) }
         ensures none { IfNone result (self.old ≡ []) }
@@ -63,7 +62,7 @@ impl<'a> MaskedViews<'a> {
     }
 }
 
-/// The next number from a place on that is not 0.
+/// The next count that isn't 0, from an index on.
 fn next_number<'a>(at: &mut usize, rules: &'a [Rule], numbers: &[usize]) -> Option<MaskedView<'a>>
     requires { length numbers.now ≡ length rules.now }
     ensures some { IfSome result (λ view. numbered_lines numbers.now at.old (drop at.old rules.now) ≡ number_line view ∷ numbered_lines numbers.now at.new (drop at.new rules.now)) }
@@ -83,7 +82,7 @@ fn next_number<'a>(at: &mut usize, rules: &'a [Rule], numbers: &[usize]) -> Opti
     None
 }
 
-/// How many numbers are not 0.
+/// How many counts aren't 0.
 pub(crate) fn count_numbered(rules: &[Rule], numbers: &[usize]) -> usize
     requires { length numbers.now ≡ length rules.now }
     ensures count { result ≡ length (numbered_lines numbers.now 0 rules.now) }
@@ -98,10 +97,10 @@ pub(crate) fn count_numbered(rules: &[Rule], numbers: &[usize]) -> usize
     count
 }
 
-/// The number of the masked markers of each of so many rules. One pass over the book and its met numbers.
+/// For each of `rules` rules the count of its masked markers. One pass over the book with its touched submissions.
 ///
 /// # Errors
-/// Where there is no room.
+/// Out of memory.
 pub(crate) fn numbers_of(
     alloc: Global,
     many: usize,
@@ -118,7 +117,7 @@ pub(crate) fn numbers_of(
     Ok(numbers)
 }
 
-/// Counts the marker where it is masked.
+/// Counts the marker if it is masked.
 fn add_masked(numbers: &mut Vec<usize>, seen: &[bool], marker: &Marker)
     requires { (place : ℕ) → place < length numbers.old.items → slice_index numbers.old.items place + 1 < 2 ^ 64 }
     ensures many { length numbers.new.items ≡ length numbers.old.items }

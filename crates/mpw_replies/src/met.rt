@@ -1,8 +1,8 @@
-//! The cells that a marker meets, by name.
+//! The cells that a marker touches, in alphabetical order.
 //!
-//! A marker keeps the numbers of the submissions that it meets. For each submission the place of its cell among the cells
-//! by name is kept, its rank. Cells are gone over in blocks of 64: one pass over the met numbers marks those of a block,
-//! so that no memory is taken, and a marker costs its met numbers once for each block, and the cells.
+//! A marker stores the numbers of the submissions that it touches. Each submission has a rank: the index of its cell among the cells in
+//! alphabetical order. The cells are visited in blocks of 64. One pass over the touched submissions marks the cells of a block, so no
+//! memory is taken. A marker costs the number of cells, and one pass over its touched submissions for each block.
 ghost use Rattle.std.specs.Prelude.{◌≡◌, ◌<◌, ◌^◌, ◌+◌, ◌||◌, ◌∷◌, [], ℕ, List, false, slice_get, slice_index_or, IfOk, IfSome, IfNone};
 ghost use Rattle.mpw_geom.specs.Names.{by_name};
 ghost use Rattle.mpw_roles.specs.Hierarchy.{Name as NameValue};
@@ -17,7 +17,7 @@ use std::marker::Model;
 /// How many cells are marked at once.
 const BLOCK: usize = 64;
 
-/// How far the cells are gone over: the next place, and the marks of the block from a base on.
+/// The state of the visit: the next index, and the marks of the block that begins at a base.
 #[derive(Drop)]
 struct Turn {
     at: usize,
@@ -25,8 +25,7 @@ struct Turn {
     marks: [bool; BLOCK],
 }
 
-/// The cells that a marker meets, which contracts see as the list of those that are still to come: in order of name,
-/// each once. It takes no memory.
+/// The cells that a marker touches. Contracts see the list of those that are left: in alphabetical order, each once. It takes no memory.
 #[derive(Drop)]
 pub struct MetCells<'a> {
     cells: &'a [Name],
@@ -48,7 +47,7 @@ impl<'a> Model for MetCells<'a> {
 }
 
 impl<'a> MetCells<'a> {
-    /// The cells of the met submissions. One pass over their numbers.
+    /// The cells of the touched submissions. One pass over their numbers.
     pub(crate) fn new(cells: &'a [Name], ranks: &'a [usize], met: &'a [u32]) -> MetCells<'a>
         ensures { result ≡ met_of cells.now ranks.now met.now }
     {
@@ -65,7 +64,7 @@ impl<'a> MetCells<'a> {
         }
     }
 
-    /// The next cell; none behind the last. It takes no memory, and one pass over the met numbers for each 64 cells.
+    /// The next cell, or none after the last. It takes no memory. Cost: one pass over the touched submissions for each 64 cells.
     pub fn next(&mut self) -> Option<&'a Name>
         ensures some { IfSome result (λ cell. self.old ≡ cell.now ∷ self.new) }
         ensures none { IfNone result (self.old ≡ []) }
@@ -74,7 +73,7 @@ impl<'a> MetCells<'a> {
     }
 }
 
-/// The next cell of a turn that is met.
+/// The next touched cell of a turn.
 fn next_met<'a>(
     turn: &mut Turn,
     cells: &'a [Name],
@@ -95,7 +94,7 @@ fn next_met<'a>(
     None
 }
 
-/// Whether the cell at the turn's place is met. The turn goes on to the next place.
+/// Whether the cell at the turn's index is touched. The turn moves on to the next index.
 fn goes_over(turn: &mut Turn, ranks: &[usize], met: &[u32]) -> bool
     requires marked { IsMarked ranks.now met.now turn.old }
     requires room { turn.old.at + 1 < 2 ^ 64 }
@@ -112,7 +111,7 @@ fn goes_over(turn: &mut Turn, ranks: &[usize], met: &[u32]) -> bool
     turn.marks[place]
 }
 
-/// Which of the 64 places from the base on are of cells of which a submission is met. One pass over the met numbers.
+/// Which of the 64 cells from the base on are touched: one of their submissions is. One pass over the touched submissions.
 fn marks_from(ranks: &[usize], met: &[u32], base: usize) -> [bool; BLOCK]
     ensures { AreMarks ranks.now met.now base result }
 {
@@ -123,7 +122,7 @@ fn marks_from(ranks: &[usize], met: &[u32], base: usize) -> [bool; BLOCK]
     marks
 }
 
-/// Marks a rank, where it is one of the 64 places from the base on.
+/// Marks a rank if it is one of the 64 indexes from the base on.
 fn mark(marks: &mut [bool; BLOCK], base: usize, rank: Option<usize>)
     ensures { (i : ℕ) → i < 64 → slice_index_or marks.new i false ≡ (slice_index_or marks.old i false || is_at (base + i) rank) }
 {
@@ -140,17 +139,17 @@ fn mark(marks: &mut [bool; BLOCK], base: usize, rank: Option<usize>)
     marks[place] = true;
 }
 
-/// The rank of the submission of a number.
+/// The rank of the submission with this number.
 fn rank_at(ranks: &[usize], number: u32) -> Option<usize>
     ensures { result ≡ slice_get ranks.now number }
 {
     ranks.get(number as usize).copied()
 }
 
-/// The place of each submission's cell among the cells: a binary search each.
+/// For each submission the index of its cell among the cells: a binary search each.
 ///
 /// # Errors
-/// Where there is no room.
+/// Out of memory.
 pub(crate) fn ranks_of(
     alloc: Global,
     cells: &[Name],
@@ -166,7 +165,7 @@ pub(crate) fn ranks_of(
     Ok(ranks)
 }
 
-/// The place of a name among names in their order; as many as there are, where it is not among them.
+/// The index of a name among sorted names, or their number if it isn't among them.
 fn rank_of(cells: &[Name], name: &Name) -> usize
     requires { (names : List NameValue) × (cells.now ≡ by_name names) }
     ensures { IsRank cells.now name.now result }

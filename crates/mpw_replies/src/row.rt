@@ -1,4 +1,4 @@
-//! What a request's row gives: a value, or what ends the row at the first test that fails.
+//! The result of a request's decision table: a value, or the denial or refusal of the first test that fails.
 ghost use Rattle.std.specs.Prelude.{◌≡◌, IfOk, IfErr, OnErr, List, Result, Err, option_map};
 ghost use Rattle.mpw_replies.specs.Rows.{Answers, IsToldBy, ended_by, listing_reply, needed};
 ghost use Rattle.mpw_replies.specs.Listing.{Listed};
@@ -8,7 +8,7 @@ ghost use Rattle.mpw_replies.specs.declared.row.Fault.TheVariants.{Memory};
 use crate::{Code, Denial, Lines, Reply};
 use std::alloc::AllocError;
 
-/// What ends a row: a denial or a refusal.
+/// The first test that fails ends the table: with a denial or a refusal.
 #[derive(Drop)]
 pub enum Ending {
     /// What the session lacks, or why its user may not sign.
@@ -18,7 +18,7 @@ pub enum Ending {
 }
 
 impl Ending {
-    /// The reply that tells it. It takes no memory.
+    /// Its reply. It takes no memory.
     pub fn reply(self) -> Reply
         ensures { result ≡ ended_by self }
     {
@@ -29,12 +29,12 @@ impl Ending {
     }
 }
 
-/// Why a row gives no value.
+/// Why a decision table gives no value.
 #[derive(Drop)]
 pub enum Fault {
-    /// What ends the row.
+    /// A test failed.
     Told(Ending),
-    /// There was no room; the row tells nothing.
+    /// Memory ran out. There is no reply.
     Memory,
 }
 
@@ -46,10 +46,10 @@ impl Fault {
         Fault::Told(Ending::Refused(code))
     }
 
-    /// What ends the row, as the reply that tells it.
+    /// The reply of the test that failed.
     ///
     /// # Errors
-    /// Want of memory, which no reply tells.
+    /// Out of memory, which has no reply.
     pub fn reply(self) -> Result<Reply, AllocError>
         ensures told { IfOk result (IsToldBy self) }
         ensures memory { OnErr result (self ≡ Memory) }
@@ -69,10 +69,10 @@ impl From<AllocError> for Fault {
     }
 }
 
-/// The reply of what lists: its lines, or what ends the row.
+/// The reply of a request that lists: its lines, or the test that failed.
 ///
 /// # Errors
-/// Want of memory, which no reply tells.
+/// Out of memory, which has no reply.
 pub fn listing_reply(made: Result<Lines, Fault>) -> Result<Reply, AllocError>
     ensures told { (row : Result (List Listed) AnyEnding) → Answers (λ lines. lines) made row → IfOk result (λ reply. reply ≡ listing_reply row) }
     ensures memory { OnErr result (made ≡ Err Memory) }
@@ -83,10 +83,10 @@ pub fn listing_reply(made: Result<Lines, Fault>) -> Result<Reply, AllocError>
     }
 }
 
-/// What has to be there.
+/// The value, which must be there.
 ///
 /// # Errors
-/// That refusal where it isn't.
+/// That refusal if there is no value.
 pub fn need<T>(value: Option<&T>, code: Code) -> Result<&T, Fault>
     ensures row { Answers (λ x. x.now) result (needed code (option_map (λ x. x.now) value.entry)) }
     ensures told { IfErr result (λ fault. fault ≡ Fault.Told (Ending.Refused code)) }

@@ -1,4 +1,4 @@
-//! What is seen of a marker, by which of the submissions that it meets may be seen.
+//! What a session sees of a marker, by which of the submissions that it touches may be seen.
 ghost use Rattle.std.specs.Prelude.{◌≡◌, slice_get};
 ghost use Rattle.std.specs.List.{list_all, list_any};
 ghost use Rattle.mpw_seen.specs.Seen.{is_seen};
@@ -21,14 +21,14 @@ fn is_one_seen(seen: &[bool], met: &[u32]) -> bool
     met.iter().any(|number| is_seen(seen, *number))
 }
 
-/// Whether the marker is shown in full: each submission that it meets may be seen.
+/// Whether the marker is full: each submission that it touches may be seen.
 pub(crate) fn is_full(seen: &[bool], marker: &Marker) -> bool
     ensures { result ≡ is_full seen.now marker.now }
 {
     are_all_seen(seen, marker.met.as_slice())
 }
 
-/// Whether the marker is masked: some of the submissions that it meets may be seen, and not all.
+/// Whether the marker is masked: some of the submissions that it touches may be seen, and some not.
 pub(crate) fn is_masked(seen: &[bool], marker: &Marker) -> bool
     ensures { result ≡ is_masked seen.now marker.now }
 {

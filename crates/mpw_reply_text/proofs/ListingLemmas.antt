@@ -23,7 +23,7 @@ pub record IsWritten {X : Type 0} (text_of : X → List ℕ) (old new : Option (
   pub text : Appends old new (flat_map text_of written)
   pub failures : failed' ≡ failed
 
--- one item more
+-- one more item
 pub written_more : {X : Type 0} {text_of : X → List ℕ} {old mid new : Option (List ℕ)}
     {failed mid' failed' : ℕ} {items left rest : List X} {item : X}
     → IsWritten text_of old mid failed mid' items left → left ≡ item ∷ rest
@@ -65,7 +65,7 @@ written_stop {text_of = text_of} {old = old} {mid = mid} {failed = failed} {mid'
     (sym (handed_on result fault h))
     (subst (WritesKnown old new failed failed' (Some fault)) parts all)
 
--- lines that are kept are written as they are
+-- stored lines are written as they are
 pub stored_text : (lines : List Line)
     → flat_map listed_text (map stored lines) ≡ flat_map line_text lines
 stored_text [] = refl

@@ -1,4 +1,4 @@
--- How a reply begins.
+-- The beginning of a reply.
 use Rattle.std.proofs.Common.{[], length, refl, append_assoc}
 use Rattle.std.specs.List.{flat_map}
 use Rattle.mpw_replies.specs.FirstLines.{first_line_of}

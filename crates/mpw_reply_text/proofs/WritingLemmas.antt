@@ -51,7 +51,7 @@ Appends_further old mid new text n m p q =
     (Appends-trans old mid new (take n text) (take m (drop n text)) p
     (subst (λ l. Appends mid new (take m l)) whole q))
 
--- the pieces before one, that piece, and those behind it
+-- the pieces before one, that piece, and those after it
 flat_map-at : {X : Type 0} (f : X → List ℕ) (xs : List X) (i : ℕ) (d : X) → i < length xs
     → flat_map f xs ≡ flat_map f (take i xs) ++ (f (get_or xs i d) ++ flat_map f (drop (suc i) xs))
 flat_map-at f [] i d lt = absurd (omega (arith, lt))
@@ -92,7 +92,7 @@ Writes_failed old mid new failed failed' text n p kept count = (
   count,
 )
 
--- an error that `?` hands on
+-- an error that `?` returns
 pub handed_on : {A : Type 0} (result : Result A WireFault) (fault : WireFault)
     → IsErrAnd result (λ e. e ≡ fault) → fault_of result ≡ Some fault
 handed_on (Ok answer) fault h = absurd h

@@ -34,7 +34,7 @@ named_text word name = concat (word ∷ name ∷ line_feed ∷ [])
 abbrev pub numbered_text : List ℕ → ℕ → List ℕ
 numbered_text word number = concat (word ∷ decimal number ∷ line_feed ∷ [])
 
--- the line of a run that checks tiles: its number, how many are checked, and how many there are
+-- the line of a run whose tiles are being checked: its number, how many are checked, and how many there are
 abbrev pub checking_text : ℕ → ℕ → ℕ → List ℕ
 checking_text run done total = concat (codes "checking " ∷ decimal run ∷ codes " " ∷ decimal done
     ∷ codes " " ∷ decimal total ∷ line_feed ∷ [])
@@ -44,7 +44,7 @@ abbrev pub cell_text : List ℕ → ℕ → List ℕ → List ℕ
 cell_text cell version submitter =
     concat (cell ∷ codes " " ∷ decimal version ∷ codes " " ∷ submitter ∷ line_feed ∷ [])
 
--- what stands behind the key of a marker for which a waiver was asked, and of one whose waiver is signed
+-- what comes after the key of a marker for which a waiver was asked, and of one whose waiver is signed
 abbrev pub asked_part : List ℕ → List ℕ
 asked_part asker = concat (codes " asked " ∷ asker ∷ line_feed ∷ [])
 
@@ -76,11 +76,11 @@ line_text line.Clean = concat (codes "clean" ∷ line_feed ∷ [])
 line_text (line.Open number) = numbered_text (codes "open ") number
 line_text line.Stale = concat (codes "stale" ∷ line_feed ∷ [])
 
--- a point, behind a space: its coordinates in nm
+-- a point, after a space: its coordinates in nm
 abbrev pub point_text : Point → List ℕ
 point_text p = concat (codes " " ∷ signed_decimal p.x ∷ codes " " ∷ signed_decimal p.y ∷ [])
 
--- points where a placing takes them
+-- points after a placing
 unfoldable pub points_text : Placing → List Point → List ℕ
 points_text placing points = flat_map (λ p. point_text (placed_point placing p)) points
 
@@ -88,13 +88,14 @@ points_text placing points = flat_map (λ p. point_text (placed_point placing p)
 unfoldable pub shape_end : Placing → List Point → List ℕ
 shape_end placing points = points_text placing points ++ line_feed
 
--- how the line of a boundary begins: the cell and the version that it comes from, and its layer and datatype
+-- the beginning of the line of a boundary: the cell and the version that it comes from, and its layer and
+-- datatype
 abbrev pub boundary_head : List ℕ → ℕ → Layer → List ℕ
 boundary_head cell version layer =
     concat (cell ∷ codes " " ∷ decimal version ∷ codes " " ∷ decimal layer.layer ∷ codes "/"
     ∷ decimal layer.datatype ∷ codes " boundary" ∷ [])
 
--- that of a path, with its width, and how far it is lengthened at its begin and its end, in nm
+-- that of a path, with its width, and the extensions at its beginning and its end, in nm
 abbrev pub path_head : List ℕ → ℕ → Path → List ℕ
 path_head cell version p =
     concat
@@ -113,8 +114,8 @@ path_head cell version p =
     ∷ signed_decimal p.end
     ∷ [])
 
--- the line of a shape: a boundary with its corners in file order, without the closing point, or a path with the points of its centre
--- line, each point where the placing takes it. A reference is no shape
+-- the line of a shape: a boundary with its corners in file order, without the closing point, or a path with
+-- the points of its centre line, each point after the placing. A reference is no shape
 unfoldable pub shape_text : List ℕ → ℕ → Placing → Element → List ℕ
 shape_text cell version placing (elements.Boundary b) =
     boundary_head cell version b.layer ++ shape_end placing b.points
@@ -122,11 +123,11 @@ shape_text cell version placing (elements.Path p) =
     path_head cell version p ++ shape_end placing p.points
 shape_text cell version placing (elements.Reference r) = []
 
--- a cell that a marker meets, behind a space
+-- a cell that a marker touches, after a space
 abbrev pub cell_part : List ℕ → List ℕ
 cell_part cell = concat (codes " " ∷ cell ∷ [])
 
--- the cells that a marker meets, and the end of its line
+-- the cells that a marker touches, and the end of its line
 unfoldable pub met_text : List (List ℕ) → List ℕ
 met_text cells = flat_map cell_part cells ++ line_feed
 
@@ -134,12 +135,12 @@ met_text cells = flat_map cell_part cells ++ line_feed
 unfoldable pub marker_text : List ℕ → Key → List (List ℕ) → List ℕ
 marker_text rule key cells = key_text rule (spot_of key) ++ met_text cells
 
--- the line of a rule with masked markers, and how many they are
+-- the line of a rule with masked markers, and their count
 abbrev pub masked_text : List ℕ → ℕ → List ℕ
 masked_text rule number =
     concat (codes "masked " ∷ rule ∷ codes " " ∷ decimal number ∷ line_feed ∷ [])
 
--- a line, as it is kept
+-- the text of a line
 abbrev pub listed_text : Listed → List ℕ
 listed_text (stored line) = line_text line
 listed_text (shape cell version placing element) = shape_text cell version placing element
@@ -147,7 +148,7 @@ listed_text (marker rule key cells) = marker_text rule key cells
 listed_text (masked rule number) = masked_text rule number
 listed_text (entry number e) = entry_text number e
 
--- the number and the word of what is refused before the desk is asked
+-- the number and the word of a refusal before the desk is asked
 unfoldable pub refusal_words : LineRefusal → List ℕ
 refusal_words refusal.Memory = codes "17 memory"
 refusal_words refusal.Form = codes "40 form"
@@ -166,12 +167,12 @@ reply_text (reply.Ok lines) = accepted_text lines
 reply_text (reply.Denied denial) = denial_text denial ++ line_feed
 reply_text (reply.Refused code) = refused_text code ++ line_feed
 
--- ---- what the trail tells of a reply
+-- ---- what the trail has of a reply
 
 -- the text begins with what the first line says, and a line feed
 abbrev pub IsLedBy : List ℕ → List ℕ → Type 0
 IsLedBy first text = (rest : List ℕ) × (text ≡ first ++ (line_feed ++ rest))
 
--- what the trail tells of a request is the first line of its reply
+-- what the trail has of a request is the first line of its reply
 abbrev pub AreLedByFirstLines : Type 0
 AreLedByFirstLines = (r : Reply) → IsLedBy (first_line_text (first_line_of r)) (reply_text r)

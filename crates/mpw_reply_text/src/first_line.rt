@@ -1,4 +1,4 @@
-//! The line that a reply begins with: how many lines follow, what the session lacks, or why the request is refused.
+//! The first line of a reply: how many lines follow, what the session lacks, or why the request is refused.
 ghost use Rattle.std.specs.Prelude.{◌≡◌, ◌++◌};
 ghost use Rattle.mpw_replies.specs.FirstLineText.{denial_text, fault_at, refused_text, count_text};
 ghost use Rattle.mpw_reply_text.specs.Lines.{line_feed};
@@ -23,7 +23,7 @@ pub(crate) fn write_denial<W: Sink>(writer: &mut W, denial: &Denial) -> Result<(
     write_whole_line(writer, &denial_parts(denial))
 }
 
-/// Writes a fault, with where it is.
+/// Writes a fault and its place.
 fn write_fault<W: Sink>(writer: &mut W, words: &str, place: usize) -> Result<(), WireFault>
     ensures { Writes W.contents W.failures writer.old writer.new result (fault_at words.now place ++ line_feed) }
 {

@@ -1,4 +1,4 @@
-//! Keys of markers: the name of a rule, and behind colons where the marker lies.
+//! Keys of markers: the name of a rule and the place of the marker, with colons between the parts.
 ghost use Rattle.std.specs.Prelude.{◌≡◌};
 ghost use Rattle.mpw_requests.specs.Words.{marker_key};
 ghost use Rattle.mpw_wire.specs.Keys.{spot_of, named_spot, key_text};
@@ -12,7 +12,7 @@ use mpw_requests::{MarkerName, axis_letter};
 use mpw_text::with_colons;
 use mpw_wire::{Sink, Spot, WireFault};
 
-/// Where the marker of a key lies.
+/// The place of a key's marker.
 pub(crate) fn spot_of(key: Key) -> Spot
     ensures { result ≡ spot_of key }
 {
@@ -26,7 +26,7 @@ pub(crate) fn spot_of(key: Key) -> Spot
     }
 }
 
-/// Where a marker lies that a request names.
+/// The place of the marker that a request names.
 fn named_spot(marker: &MarkerName) -> Spot
     ensures { result ≡ named_spot marker.now }
 {
@@ -40,7 +40,7 @@ fn named_spot(marker: &MarkerName) -> Spot
     }
 }
 
-/// Writes the key of a marker that lies there.
+/// Writes the key of the marker at that place.
 pub(crate) fn write_key<W: Sink>(writer: &mut W, rule: &Name, spot: Spot) -> Result<(), WireFault>
     ensures { Writes W.contents W.failures writer.old writer.new result (key_text rule.now spot) }
 {

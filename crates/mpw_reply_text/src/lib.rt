@@ -1,7 +1,7 @@
-//! Replies to lines of text.
+//! Writes replies as lines of text.
 //!
-//! [`write_reply`] writes the text of a reply, and [`write_refusal`] that of a refusal of a line. They take no memory: a reply
-//! gives its lines one by one, and each is written as it comes. [`write_bytes`] and [`flush`] write other texts to the same sinks.
+//! [`write_reply`] writes the text of a reply, and [`write_refusal`] that of a refusal of a line. They take no memory: a reply gives its
+//! lines one by one, and each is written at once. [`write_bytes`] and [`flush`] write other texts to the same sinks.
 #![tactic(auto)]
 
 mod first_line;

@@ -1,7 +1,6 @@
 //! The lines of markers.
 //!
-//! A listing gives its markers one by one, and the cells that each meets; each is written as it comes: nothing is kept of a
-//! line.
+//! A listing gives its markers one by one, and the cells that each touches. Each is written at once, and no line is stored.
 ghost use Rattle.std.specs.Prelude.{◌≡◌};
 ghost use Rattle.std.specs.List.{flat_map};
 ghost use Rattle.mpw_replies.specs.Views.{marker_line, number_line};
@@ -15,14 +14,14 @@ use mpw_geom::Name;
 use mpw_replies::{MarkerListing, MarkerView, MarkerViews, MaskedViews, MetCells};
 use mpw_wire::{Sink, WireFault};
 
-/// Writes a cell, behind a space.
+/// Writes a cell, after a space.
 fn write_met_cell<W: Sink>(writer: &mut W, cell: &Name) -> Result<(), WireFault>
     ensures { Writes W.contents W.failures writer.old writer.new result (cell_part cell.now) }
 {
     write_parts(writer, &[" ", cell.as_str()])
 }
 
-/// Writes the cells that a marker meets.
+/// Writes the cells that a marker touches.
 fn write_cells<W: Sink>(writer: &mut W, cells: MetCells<'_>) -> Result<(), WireFault>
     ensures { Writes W.contents W.failures writer.old writer.new result (flat_map cell_part cells.entry) }
 {
@@ -33,7 +32,7 @@ fn write_cells<W: Sink>(writer: &mut W, cells: MetCells<'_>) -> Result<(), WireF
     Ok(())
 }
 
-/// Writes the cells that a marker meets, and the end of its line.
+/// Writes the cells that a marker touches, and the end of its line.
 #[tactic(auto, unfolding(crate::specs::Reply::met_text))]
 fn write_met<W: Sink>(writer: &mut W, cells: MetCells<'_>) -> Result<(), WireFault>
     ensures { Writes W.contents W.failures writer.old writer.new result (met_text cells.entry) }
@@ -51,7 +50,7 @@ fn write_marker<W: Sink>(writer: &mut W, marker: MarkerView<'_>) -> Result<(), W
     write_met(writer, marker.cells)
 }
 
-/// Writes the lines of the markers that are shown in full, one by one.
+/// Writes the lines of the full markers, one by one.
 fn write_full<W: Sink>(writer: &mut W, views: MarkerViews<'_>) -> Result<(), WireFault>
     ensures { Writes W.contents W.failures writer.old writer.new result (flat_map listed_text views.entry) }
 {
@@ -73,7 +72,7 @@ fn write_number<W: Sink>(writer: &mut W, rule: &Name, number: usize) -> Result<(
     )
 }
 
-/// Writes the numbers of the markers that are masked, rule by rule.
+/// Writes the counts of masked markers, rule by rule.
 fn write_masked<W: Sink>(writer: &mut W, views: MaskedViews<'_>) -> Result<(), WireFault>
     ensures { Writes W.contents W.failures writer.old writer.new result (flat_map listed_text views.entry) }
 {
@@ -84,7 +83,7 @@ fn write_masked<W: Sink>(writer: &mut W, views: MaskedViews<'_>) -> Result<(), W
     Ok(())
 }
 
-/// Writes the lines of a listing, one by one. It takes no memory, and costs the listing's passes and the text's size.
+/// Writes the lines of a listing, one by one. It takes no memory. Cost: the listing's passes and the size of the text.
 pub(crate) fn write_markers<W: Sink>(
     writer: &mut W,
     listing: &MarkerListing,

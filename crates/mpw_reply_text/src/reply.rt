@@ -13,7 +13,7 @@ use crate::write::{flush, write_whole_line};
 use mpw_replies::{Kept, Line, Lines, Reply};
 use mpw_wire::{Sink, WireFault};
 
-/// Writes lines that are kept.
+/// Writes stored lines.
 fn write_stored<W: Sink>(writer: &mut W, lines: &[Line]) -> Result<(), WireFault>
     ensures { Writes W.contents W.failures writer.old writer.new result (flat_map line_text lines.now) }
 {
@@ -44,16 +44,16 @@ fn write_accepted<W: Sink>(writer: &mut W, lines: &Lines) -> Result<(), WireFaul
     write_lines(writer, lines)
 }
 
-/// What is refused before the desk is asked.
+/// A refusal before the desk is asked.
 #[derive(Clone, Copy)]
 pub enum LineRefusal {
-    /// There is no room.
+    /// Memory ran out.
     Memory,
     /// The line is no request's text.
     Form,
-    /// The line is too long, or what is to follow it.
+    /// The line is too long, or its payload would be.
     Long,
-    /// The input ends before what is to follow the line.
+    /// The input ends within the payload.
     Cut,
 }
 
@@ -70,10 +70,10 @@ fn refusal_words(refusal: LineRefusal) -> &'static str
     }
 }
 
-/// Writes a refusal, and has the sink hand it on. It takes no memory, and costs its text.
+/// Writes a refusal, and flushes the sink. It takes no memory. Cost: the size of the text.
 ///
 /// # Errors
-/// `Write` where the sink failed.
+/// `Write` if the sink failed.
 #[tactic(auto, unfolding(crate::specs::Reply::refusal_text))]
 pub fn write_refusal<W: Sink>(refusal: LineRefusal, writer: &mut W) -> Result<(), WireFault>
     ensures text { Writes W.contents W.failures writer.old writer.new result (refusal_text refusal) }
@@ -95,11 +95,10 @@ fn write_text<W: Sink>(reply: &Reply, writer: &mut W) -> Result<(), WireFault>
     }
 }
 
-/// Writes the text of a reply, each line with its line feed, and has the sink hand it on. It takes no memory and costs the
-/// text's size.
+/// Writes the text of a reply, each line with its line feed, and flushes the sink. It takes no memory. Cost: the size of the text.
 ///
 /// # Errors
-/// `Write` where the sink failed; it then holds a front of the text.
+/// `Write` if the sink failed. It then has a front of the text.
 pub fn write_reply<W: Sink>(reply: &Reply, writer: &mut W) -> Result<(), WireFault>
     ensures text { Writes W.contents W.failures writer.old writer.new result (reply_text reply.now) }
     ensures handed { IfOk result (λ _. W.pending writer.new ≡ false) }
@@ -108,7 +107,7 @@ pub fn write_reply<W: Sink>(reply: &Reply, writer: &mut W) -> Result<(), WireFau
     flush(writer)
 }
 
-/// The text of a reply begins with what the trail tells of its request, and a line feed.
+/// The text of a reply begins with what the trail has of its request, and a line feed.
 pub fn replies_begin_with_their_first_lines()
     ensures { AreLedByFirstLines }
 {}

@@ -1,4 +1,4 @@
-//! The lines that a reply keeps.
+//! The lines that a reply stores.
 ghost use Rattle.std.specs.Prelude.{◌≡◌};
 ghost use Rattle.mpw_reply_text.specs.Reply.{named_text, numbered_text, checking_text, cell_text, asked_text, signed_text, line_text};
 ghost use Rattle.mpw_wire.specs.Writing.{Writes};
@@ -19,7 +19,7 @@ fn write_numbered<W: Sink>(writer: &mut W, word: &str, number: u32) -> Result<()
     write_parts(writer, &[word, digits.format(number), "\n"])
 }
 
-/// Writes a line of a word and how many there are.
+/// Writes a line of a word and a count.
 fn write_counted<W: Sink>(writer: &mut W, word: &str, count: usize) -> Result<(), WireFault>
     ensures { Writes W.contents W.failures writer.old writer.new result (numbered_text word.now count) }
 {
@@ -27,7 +27,7 @@ fn write_counted<W: Sink>(writer: &mut W, word: &str, count: usize) -> Result<()
     write_parts(writer, &[word, digits.format(count), "\n"])
 }
 
-/// Writes the line of a run that checks tiles.
+/// Writes the line of a run whose tiles are being checked.
 fn write_checking<W: Sink>(
     writer: &mut W,
     run: u32,

@@ -1,6 +1,6 @@
 //! The lines of shapes.
 //!
-//! A listing gives its shapes one by one, and each is written as it comes: nothing is kept of a line.
+//! A listing gives its shapes one by one. Each is written at once, and no line is stored.
 ghost use Rattle.std.specs.Prelude.{◌≡◌, All};
 ghost use Rattle.std.specs.List.{flat_map};
 ghost use Rattle.mpw_geom.specs.Plane.{IsInPlane};
@@ -17,7 +17,7 @@ use mpw_replies::{ShapeListing, ShapeView};
 use mpw_structures::{Boundary, Element, Path, Points};
 use mpw_wire::{Sink, WireFault};
 
-/// Writes a point, behind a space.
+/// Writes a point, after a space.
 fn write_point<W: Sink>(writer: &mut W, point: Point) -> Result<(), WireFault>
     ensures { Writes W.contents W.failures writer.old writer.new result (point_text point) }
 {
@@ -26,7 +26,7 @@ fn write_point<W: Sink>(writer: &mut W, point: Point) -> Result<(), WireFault>
     write_parts(writer, &[" ", x.format(point.x), " ", y.format(point.y)])
 }
 
-/// Writes points where a placing takes them.
+/// Writes points after a placing.
 #[tactic(auto, unfolding(crate::specs::Reply::points_text))]
 fn write_points<W: Sink>(writer: &mut W, placing: Placing, points: &Points) -> Result<(), WireFault>
     requires points { All IsPointWithinReach points.now }
@@ -50,7 +50,7 @@ fn write_end<W: Sink>(writer: &mut W, placing: Placing, points: &Points) -> Resu
     write_parts(writer, &["\n"])
 }
 
-/// Writes how the line of a boundary begins.
+/// Writes the beginning of the line of a boundary.
 fn write_boundary_head<W: Sink>(
     writer: &mut W,
     cell: &Name,
@@ -74,7 +74,7 @@ fn write_boundary_head<W: Sink>(
     )
 }
 
-/// Writes how the line of a path begins.
+/// Writes the beginning of the line of a path.
 fn write_path_head<W: Sink>(
     writer: &mut W,
     cell: &Name,
@@ -142,7 +142,7 @@ fn write_shape<W: Sink>(writer: &mut W, shape: &ShapeView<'_>) -> Result<(), Wir
     }
 }
 
-/// Writes the lines of a listing, one by one. It takes no memory, and costs the listing's walk and the text's size.
+/// Writes the lines of a listing, one by one. It takes no memory. Cost: the listing's walk and the size of the text.
 pub(crate) fn write_shapes<W: Sink>(writer: &mut W, listing: &ShapeListing) -> Result<(), WireFault>
     ensures { Writes W.contents W.failures writer.old writer.new result (flat_map listed_text listing.now) }
 {

@@ -9,7 +9,7 @@ use mpw_wire::{Sink, WireFault};
 /// Writes the bytes, in as many calls as the sink takes.
 ///
 /// # Errors
-/// `Write` where the sink failed; it then holds a part of the bytes.
+/// `Write` if the sink failed. It then has a part of the bytes.
 pub fn write_bytes<W: Sink>(writer: &mut W, bytes: &[u8]) -> Result<(), WireFault>
     ensures { Writes W.contents W.failures writer.old writer.new result bytes.now }
 {
@@ -41,10 +41,10 @@ pub(crate) fn write_whole_line<W: Sink>(writer: &mut W, parts: &[&str]) -> Resul
     write_parts(writer, &["\n"])
 }
 
-/// Has the sink hand on what it took.
+/// Flushes the sink.
 ///
 /// # Errors
-/// `Write` where the sink failed.
+/// `Write` if the sink failed.
 pub fn flush<W: Sink>(writer: &mut W) -> Result<(), WireFault>
     ensures text { Writes W.contents W.failures writer.old writer.new result [] }
     ensures handed { IfOk result (λ _. W.pending writer.new ≡ false) }

@@ -1,4 +1,4 @@
--- What stands for a name is read as the name.
+-- A reader gets the name from its text.
 use Rattle.std.proofs.Common.{◌≡◌, ◌≢◌, ℕ, List, [], ◌∷◌, ◌++◌, inl, inr, sym, subst, append_assoc, rules}
 use Rattle.std.specs.List.{flat_map}
 use Rattle.std.proofs.lemmas.Bool.{cases_eq}
@@ -10,7 +10,7 @@ plain_character : (byte : ℕ) → byte ≢ 0x3C → byte ≢ 0x3E → byte ≢ 
 unfolding character
 plain_character byte less greater and = search (rules, nat_tests, less, greater, and)
 
--- a byte's text, and then what stands for the bytes behind it
+-- a byte's text, and then the text of the bytes after it
 pub byte_stands : (byte : ℕ) (rest bytes : List ℕ) → StandsFor rest bytes
     → StandsFor (character byte ++ rest) (byte ∷ bytes)
 unfolding character
@@ -32,15 +32,15 @@ pub name_stands : (name : List ℕ) → StandsFor (escaped name) name
 name_stands [] = StandsFor.nothing
 name_stands (byte ∷ name) = byte_stands byte (escaped name) name (name_stands name)
 
--- what stands for a name in a path, with the quote that ends it
+-- the text of a name in a path, with the quote that ends it
 abbrev ended_text : List ℕ → List ℕ
 ended_text name = flat_map path_character name ++ 0x27 ∷ []
 
--- the end of a path stands for one that is read as the name
+-- the end of a path is the text of one from which the name is read
 abbrev IsRead : List ℕ → List ℕ → Type 0
 IsRead text name = (path : List ℕ) × StandsFor text path × IsPath path name
 
--- a byte that stands behind a backslash
+-- a byte after a backslash
 marked_byte : (byte : ℕ) (text name : List ℕ) → byte ≢ 0x3C → byte ≢ 0x3E → byte ≢ 0x26
     → IsRead text name → IsRead (0x5C ∷ byte ∷ text) (byte ∷ name)
 marked_byte byte text name less greater and (path, stands, is) = (
@@ -50,7 +50,7 @@ marked_byte byte text name less greater and (path, stands, is) = (
   IsPath.marked byte path name is,
 )
 
--- a byte that stands for itself in a path
+-- a byte that is itself in a path
 plain_byte : (byte : ℕ) (text name : List ℕ) → byte ≢ 0x27 → byte ≢ 0x5C → IsRead text name
     → IsRead (character byte ++ text) (byte ∷ name)
 plain_byte byte text name quote backslash (path, stands, is) =
@@ -60,7 +60,7 @@ plain_path : (byte : ℕ) → byte ≢ 0x27 → byte ≢ 0x5C → path_character
 unfolding path_character
 plain_path byte quote backslash = search (rules, nat_tests, quote, backslash)
 
--- a byte of a path, and then the path behind it
+-- a byte of a path, and then the path after it
 byte_is_read : (byte : ℕ) (text name : List ℕ) → IsRead text name
     → IsRead (path_character byte ++ text) (byte ∷ name)
 unfolding path_character
@@ -74,7 +74,7 @@ byte_is_read byte text name h =
       ]
     ]
 
--- a path behind its first quote
+-- a path after its first quote
 pub path_is_read : (name : List ℕ) → IsRead (ended_text name) name
 path_is_read [] = (
   0x27 ∷ [],

@@ -6,7 +6,7 @@ use Rattle.mpw_markers.specs.declared.marker.Marker.{Marker}
 use Rattle.mpw_report.specs.Content.{Content, counted, AgreeFirst, with_markers}
 use Rattle.mpw_report.specs.Report.{category_text, item_text, rule_items, head_text, full_text, FirstMarkersHaveTheItems}
 
--- Texts that are the same for each make the same text.
+-- Texts that are equal for each entry make equal texts.
 pub texts_same : {X : Type 0} (f g : X → List ℕ) (xs : List X) → ((x : X) → f x ≡ g x)
     → flat_map f xs ≡ flat_map g xs
 texts_same f g [] same = refl

@@ -1,4 +1,4 @@
--- What a report tells, without references: markers of a structure and faults of elements.
+-- The content of a report, without references: markers of a structure and faults of elements.
 use Rattle.std.specs.Prelude.{◌≡◌, ℕ, ◌==◌, List, get_or, length, map, take, Option, None, Some, option_map}
 use Rattle.std.specs.List.{filter}
 use Rattle.mpw_geom.specs.declared.plane.Box2.{Box2}
@@ -10,24 +10,24 @@ use Rattle.mpw_report.specs.declared.content.Note.{Note}
 use Rattle.mpw_report.specs.declared.content.Note.TheVariants as note
 use Rattle.mpw_report.specs.declared.content.Report.{Report}
 
--- A fault of an element: the word of its code, the byte in the file, the structure where it stands in one, and where it lies in the
--- top's coordinates where that is known.
+-- A fault of an element: the word of its code, the byte in the file, the structure if it is in one, and its position in the
+-- top's coordinates if that is known.
 pub record Told : Type 0 where
   pub code : List ℕ
   pub byte : ℕ
   pub structure : Option (List ℕ)
   pub area : Option Box2
 
--- What is told of what a check looks at: the deck has no rules; the rule of that name looks at nothing, since that layer has no shapes; no
--- rule names that layer, which has so many shapes; or the library has faults, so nothing is checked.
+-- A note about what a check reads: the deck has no rules; the rule with that name checks nothing, since that layer has no shapes; no
+-- rule names that layer, with the number of its shapes; or the library has faults, so nothing is checked.
 pub data Noted : Type 0 where
   no_rules : Noted
   idle : List ℕ → Layer → Noted
   unnamed : Layer → ℕ → Noted
   unchecked : Noted
 
--- The name of the layout's file, the structure's, the rules, the markers, how many each rule has where the markers are just the first of each,
--- how many of a rule have an item at most, what is told of what is looked at, and the faults.
+-- The name of the layout's file, the structure's name, the rules, the markers, how many each rule has if the markers are only the first of each,
+-- the most items of a rule, the notes, and the faults.
 pub record Content : Type 0 where
   pub original : Option (List ℕ)
   pub top : List ℕ
@@ -64,16 +64,16 @@ content_of r = record {
   faults = map fault_of r.faults.now;
 }
 
--- the markers of the rule with that place in the deck, in order
+-- the markers of the rule at that index in the deck, in order
 abbrev pub of_rule : List Marker → ℕ → List Marker
 of_rule markers place = filter (λ m. m.rule == place) markers
 
--- how many markers the rule with that place has
+-- how many markers the rule at that index has
 abbrev pub counted : Option (List ℕ) → List Marker → ℕ → ℕ
 counted None markers place = length (of_rule markers place)
 counted (Some counts) markers place = get_or counts place 0
 
--- the first of each rule, so many at most, are the same of both
+-- the first markers of each rule, at most `most`, are the same in both
 abbrev pub AgreeFirst : (most : ℕ) → List Marker → List Marker → Type 0
 AgreeFirst most a b = (place : ℕ) → take most (of_rule a place) ≡ take most (of_rule b place)
 

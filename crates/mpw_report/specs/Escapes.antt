@@ -1,4 +1,4 @@
--- What stands for a name in a report: as the text of an XML element, and between quotes in the path that names a category.
+-- The text of a name in a report: as the text of an XML element, and between quotes in the path that names a category.
 use Rattle.std.specs.Prelude.{◌≢◌, ℕ, ◌==◌, ◌||◌, List, [], ◌∷◌, ◌++◌, codes, if◌then◌else◌}
 use Rattle.std.specs.List.{flat_map}
 
@@ -10,7 +10,7 @@ character byte =
     else if byte == 0x26 then codes "&amp;"
     else byte ∷ []
 
--- a byte of a category's name in its path: a backslash stands before a quote and a backslash
+-- a byte of a category's name in its path: a quote and a backslash get a backslash before them
 unfoldable pub path_character : ℕ → List ℕ
 path_character byte = if byte == 0x27 || byte == 0x5C then 0x5C ∷ byte ∷ [] else character byte
 
@@ -24,7 +24,7 @@ path_text name = 0x27 ∷ flat_map path_character name ++ 0x27 ∷ []
 
 -- ---- what a reader of XML gets
 
--- The text of an element stands for these bytes: each of <, > and & is an entity, and each other byte is itself.
+-- The text of an element represents these bytes: each of <, > and & is an entity, and each other byte is itself.
 pub data StandsFor : List ℕ → List ℕ → Type 0 where
   nothing : StandsFor [] []
   less : (rest bytes : List ℕ) → StandsFor rest bytes
@@ -36,8 +36,8 @@ pub data StandsFor : List ℕ → List ℕ → Type 0 where
   itself : (byte : ℕ) (rest bytes : List ℕ) → byte ≢ 0x3C → byte ≢ 0x3E → byte ≢ 0x26
       → StandsFor rest bytes → StandsFor (byte ∷ rest) (byte ∷ bytes)
 
--- The words of a path between its quotes, which are read as this name: a byte behind a backslash is itself, and so is each other
--- byte but a quote, which ends the path.
+-- The bytes of a path between its quotes, from which this name is read: a byte after a backslash is itself, and so is each other
+-- byte except a quote, which ends the path.
 pub data IsPath : List ℕ → List ℕ → Type 0 where
   ended : IsPath (0x27 ∷ []) []
   marked : (byte : ℕ) (rest name : List ℕ) → IsPath rest name
@@ -45,7 +45,7 @@ pub data IsPath : List ℕ → List ℕ → Type 0 where
   plain : (byte : ℕ) (rest name : List ℕ) → byte ≢ 0x27 → byte ≢ 0x5C → IsPath rest name
       → IsPath (byte ∷ rest) (byte ∷ name)
 
--- A name's text stands for the name, and a path's for a path that is read as the name.
+-- A name's text represents the name, and a path's text represents a path from which the name is read.
 abbrev pub AreEscaped : Type 0
 AreEscaped = (name : List ℕ) → StandsFor (escaped name) name
     × ((path : List ℕ) × StandsFor (path_text name) (0x27 ∷ path) × IsPath path name)

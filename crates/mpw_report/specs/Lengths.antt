@@ -2,16 +2,16 @@
 use Rattle.std.specs.Prelude.{ℕ, ◌<◌, ◌+◌, ◌*◌, ◌/◌, ◌%◌, ◌==◌, ℤ, pos, negsuc, neg_ℤ, unsigned_abs, List, [], ◌∷◌, ◌++◌, codes, if◌then◌else◌}
 use Rattle.std.specs.Fmt.{decimal}
 
--- the digit of a hundredth and that of a thousandth, of so many thousandths below a hundred; without zeros at the end
+-- the digits of the hundredth and the thousandth, for a number of thousandths below a hundred; without zeros at the end
 unfoldable pub last_digits : ℕ → List ℕ
 last_digits n = if n == 0 then [] else if n % 10 == 0 then decimal (n / 10) else decimal (n / 10)
     ++ decimal (n % 10)
 
--- so many thousandths below one, behind a point; nothing where there are none
+-- the digits of a number of thousandths below one, after a point; nothing for 0
 unfoldable pub fraction : ℕ → List ℕ
 fraction n = if n == 0 then [] else codes "." ++ decimal (n / 100) ++ last_digits (n % 100)
 
--- so many thousandths
+-- a number of thousandths, as a decimal
 abbrev pub thousandths : ℕ → List ℕ
 thousandths n = decimal (n / 1000) ++ fraction (n % 1000)
 
@@ -20,13 +20,13 @@ unfoldable pub sign_text : ℤ → List ℕ
 sign_text (pos n) = []
 sign_text (negsuc n) = codes "-"
 
--- so many nm, in micrometres
+-- a length in nm, written in micrometres
 unfoldable pub micrometres : ℤ → List ℕ
 micrometres nm = sign_text nm ++ thousandths (unsigned_abs nm)
 
 -- ---- what a reader of decimals gets
 
--- A point and one to three digits, or nothing, stand for so many thousandths.
+-- A point and one to three digits, or nothing, represent a number of thousandths.
 pub data IsFraction : List ℕ → ℕ → Type 0 where
   none : IsFraction [] 0
   one : (a : ℕ) → a < 10 → IsFraction (0x2E ∷ (0x30 + a) ∷ []) (a * 100)
@@ -35,13 +35,13 @@ pub data IsFraction : List ℕ → ℕ → Type 0 where
   three : (a b c : ℕ) → a < 10 → b < 10 → c < 10
       → IsFraction (0x2E ∷ (0x30 + a) ∷ (0x30 + b) ∷ (0x30 + c) ∷ []) (a * 100 + b * 10 + c)
 
--- A whole number and a fraction behind it, with a sign before them or not, stand for so many thousandths.
+-- A whole number and a fraction after it, with or without a sign before them, represent a number of thousandths.
 pub data IsLength : List ℕ → ℤ → Type 0 where
   positive : (whole part : ℕ) (text : List ℕ) → IsFraction text part
       → IsLength (decimal whole ++ text) (pos (whole * 1000 + part))
   negative : (whole part : ℕ) (text : List ℕ) → IsFraction text part
       → IsLength (0x2D ∷ (decimal whole ++ text)) (neg_ℤ (pos (whole * 1000 + part)))
 
--- Each length is told exactly.
+-- Each length is written exactly.
 abbrev pub AreExact : Type 0
 AreExact = (nm : ℤ) → IsLength (micrometres nm) nm

@@ -1,4 +1,4 @@
--- The parts of a report that are the same in each, in the order in which they stand.
+-- The parts of the text that all reports have in common, in their order.
 use Rattle.std.specs.Prelude.{ℕ, List, codes}
 use Rattle.mpw_report.specs.declared.part.Part.{Part}
 use Rattle.mpw_report.specs.declared.part.Part.TheVariants.{Head, HeadEnd, NoOriginal, Original, OriginalEnd, Generator, Categories, CategoryName, Description, CategoryEnd, FaultCategory, Cells, Items, ItemPath, ItemCell, Value, FaultItem, NextValue, ItemEnd, End}

@@ -1,4 +1,4 @@
--- The text of a report: what a deck's rules and a book's markers are in a report database of KLayout's.
+-- The text of a report: a deck's rules and a book's markers as a report database of KLayout.
 use Rattle.std.specs.Prelude.{◌≡◌, ℕ, ◌-◌, ◌^◌, nat_le, if◌then◌else◌, ℤ, List, [], ◌∷◌, ◌++◌, take, codes, Option, None, Some}
 use Rattle.std.specs.List.{concat, flat_map, enumerate_from}
 use Rattle.std.specs.Fmt.{decimal}
@@ -44,7 +44,7 @@ rule_text rule =
     check_word rule.check ++ codes " " ++ escaped rule.name ++ check_layers rule.check ++ codes " "
     ++ decimal rule.distance
 
--- how many of so many a limit leaves out; nothing where it leaves none out
+-- how many of `count` markers a limit leaves out; nothing if it leaves out none
 unfoldable pub left_out_text : (count limit : ℕ) → List ℕ
 left_out_text count limit =
     if nat_le count limit then []
@@ -56,14 +56,14 @@ left_out_text count limit =
     ∷ codes " markers left out"
     ∷ [])
 
--- the category of the rule with that place in the deck: its name, and as its description the rule, and how many markers are left out
+-- the category of the rule at that index in the deck: its name, and as its description the rule, and how many markers are left out
 unfoldable pub category_text : Content → ℕ × Rule → List ℕ
 category_text c row =
     part_text CategoryName ++ escaped row.1.name ++ part_text Description ++ rule_text row.1
     ++ left_out_text (counted c.counts c.markers row.0) c.limit
     ++ part_text CategoryEnd
 
--- that of faults, where there are some
+-- the category of faults, if there are some
 unfoldable pub fault_category : List Told → List ℕ
 fault_category [] = []
 fault_category (fault ∷ faults) = part_text FaultCategory
@@ -94,7 +94,7 @@ unfoldable pub pair_text : Marker → List ℕ
 pair_text m =
     codes "edge-pair: " ++ edge_text (first_edge m) ++ codes "|" ++ edge_text (second_edge m)
 
--- the item of a marker of that rule, in the cell of that name
+-- the item of a marker of that rule, in the cell with that name
 unfoldable pub item_text : List ℕ → Rule → Marker → List ℕ
 item_text top rule m =
     part_text ItemPath ++ path_text rule.name ++ part_text ItemCell ++ escaped top
@@ -107,7 +107,7 @@ rule_items c row = flat_map (item_text c.top row.1) (take c.limit (of_rule c.mar
 
 -- ---- items: one for each fault
 
--- its structure, where it stands in one
+-- its structure, if it is in one
 unfoldable pub place_text : Option (List ℕ) → List ℕ
 place_text None = []
 place_text (Some name) = codes " in " ++ flat_map path_character name
@@ -133,18 +133,18 @@ area_text b =
     codes "box: (" ++ point_text (low_corner b) ++ codes ";" ++ point_text (high_corner b)
     ++ codes ")"
 
--- a further value of the item: where the element lies
+-- another value of the item: the position of the element
 unfoldable pub area_value : Option Box2 → List ℕ
 area_value None = []
 area_value (Some area) = part_text NextValue ++ area_text area
 
--- the item of a fault, in the cell of that name
+-- the item of a fault, in the cell with that name
 unfoldable pub fault_text : List ℕ → Told → List ℕ
 fault_text top f =
     part_text FaultItem ++ escaped top ++ part_text Value ++ fault_value f ++ area_value f.area
     ++ part_text ItemEnd
 
--- ---- the description: what is told of what is looked at, each behind a semicolon
+-- ---- the description: the notes, each after a semicolon
 
 unfoldable pub idle_text : (rule : List ℕ) → Layer → List ℕ
 idle_text rule layer =
@@ -164,12 +164,12 @@ note_text unchecked = codes "; the library has faults, so nothing is checked"
 
 -- ---- the whole
 
--- the name of the layout's file, where it is known
+-- the name of the layout's file, if it is known
 unfoldable pub original_text : Option (List ℕ) → List ℕ
 original_text None = part_text NoOriginal
 original_text (Some file) = part_text Original ++ escaped file ++ part_text OriginalEnd
 
--- what stands before the categories
+-- what comes before the categories
 unfoldable pub head_text : Content → List ℕ
 head_text c =
     part_text Head ++ escaped c.top ++ flat_map note_text c.notes ++ part_text HeadEnd ++ original_text c.original
@@ -177,7 +177,7 @@ head_text c =
     ++ escaped c.top
     ++ part_text Categories
 
--- what stands between the categories and the items: the one cell
+-- what comes between the categories and the items: the one cell
 unfoldable pub cells_text : List ℕ → List ℕ
 cells_text top = part_text Cells ++ escaped top ++ part_text Items
 
@@ -191,7 +191,7 @@ full_text c =
     ++ flat_map (fault_text c.top) c.faults
     ++ part_text End
 
--- the report of all markers of a structure of that name under these rules, which names no file and has no faults
+-- the report of all markers of a structure with that name under these rules, which names no file and has no faults
 abbrev pub all_markers : List Rule → List ℕ → List Marker → Content
 all_markers rules top markers = record {
   original = None;
@@ -207,7 +207,7 @@ all_markers rules top markers = record {
 unfoldable pub report_text : List Rule → List ℕ → List Marker → List ℕ
 report_text rules top markers = full_text (all_markers rules top markers)
 
--- Where it is told how many markers each rule has, the first of each rule, as many as the limit, make the same report as all.
+-- If the report has the number of markers of each rule, the first of each rule, up to the limit, make the same report as all.
 abbrev pub FirstMarkersHaveTheItems : Type 0
 FirstMarkersHaveTheItems =
     (c : Content) (counts : List ℕ) (first : List Marker) → c.counts ≡ Some counts

@@ -1,4 +1,4 @@
-//! Categories: one for each rule, with the rule's line as its description.
+//! Writes the categories: one for each rule, with the rule's line as its description.
 ghost use Rattle.std.specs.Prelude.{◌≡◌, get_or, length};
 ghost use Rattle.std.specs.List.{flat_map, enumerate_from};
 ghost use Rattle.mpw_report.specs.Content.{content_of, counted, of_rule};
@@ -15,7 +15,7 @@ use mpw_markers::Marker;
 use mpw_text::put;
 use std::io::{self, Write};
 
-/// Writes a layer as a deck has it, behind a space.
+/// Writes a layer as a deck has it, after a space.
 pub(crate) fn put_layer<W: Write>(writer: &mut W, layer: Layer) -> io::Result<()>
     ensures { Adds W.contents writer.old writer.new result (layer_text layer) }
 {
@@ -71,7 +71,7 @@ pub fn put_rule<W: Write>(writer: &mut W, rule: &Rule) -> io::Result<()>
     put(writer, &[" ", distance.format(rule.distance)])
 }
 
-/// Writes how many of so many are left out, where a limit leaves some out: nothing where there are no more than it.
+/// Writes how many of `count` markers the limit leaves out. Writes nothing if it leaves out none.
 #[tactic(auto, unfolding(crate::specs::Report::left_out_text))]
 pub fn put_left_out<W: Write>(writer: &mut W, count: usize, limit: usize) -> io::Result<()>
     ensures { Adds W.contents writer.old writer.new result (left_out_text count limit) }
@@ -93,7 +93,7 @@ pub fn put_left_out<W: Write>(writer: &mut W, count: usize, limit: usize) -> io:
     )
 }
 
-/// How many of the markers are of the rule with that place in its deck.
+/// How many of the markers are of the rule at index `place` in its deck.
 fn count_of(markers: &[Marker], place: usize) -> usize
     ensures { result ≡ length (of_rule markers.now place) }
 {
@@ -103,7 +103,7 @@ fn count_of(markers: &[Marker], place: usize) -> usize
         .count()
 }
 
-/// The number at a place, or 0.
+/// The number at index `place`, or 0.
 fn number_at(numbers: &[usize], place: usize) -> usize
     ensures { result ≡ get_or numbers.now place 0 }
 {
@@ -113,7 +113,7 @@ fn number_at(numbers: &[usize], place: usize) -> usize
     }
 }
 
-/// How many markers the rule with that place has, by the report's numbers where it has some.
+/// How many markers the rule at index `place` has. The report's numbers are used if it has some.
 fn counted(report: &Report<'_>, place: usize) -> usize
     ensures { result ≡ counted (content_of report.now).counts report.now.markers.now place }
 {
@@ -123,7 +123,7 @@ fn counted(report: &Report<'_>, place: usize) -> usize
     }
 }
 
-/// Writes the category of the rule with that place.
+/// Writes the category of the rule at index `place`.
 #[tactic(auto, unfolding(crate::specs::Report::category_text))]
 fn put_category<W: Write>(
     writer: &mut W,

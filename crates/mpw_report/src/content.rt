@@ -1,4 +1,4 @@
-//! What a report tells.
+//! The content of a report.
 
 use mpw_deck::Rule;
 use mpw_geom::{Box2, Layer, Name};
@@ -9,45 +9,45 @@ use mpw_markers::Marker;
 pub struct Fault<'a> {
     /// The word of its code, as `notmanhattan`.
     pub code: &'a str,
-    /// The byte of the library's file at which its record begins, from 0.
+    /// The offset in the library's file at which its record begins, in bytes from 0.
     pub byte: u64,
-    /// The structure that the element stands in, where it stands in one.
+    /// The structure of the element, if it is in one.
     pub structure: Option<&'a Name>,
-    /// Where it lies, in nm and in the top's coordinates, where that is known.
+    /// The position of the element, in nm and in the top's coordinates, if it is known.
     pub area: Option<Box2>,
 }
 
-/// What a report's description tells of what a check looks at.
+/// A note in the description of a report, about what a check reads.
 #[derive(Clone, Copy, Drop)]
 pub enum Note<'a> {
     /// The deck has no rules.
     NoRules,
-    /// The rule of that name looks at nothing, since that layer has no shapes.
+    /// The rule with that name checks nothing, since that layer has no shapes.
     Idle(&'a Name, Layer),
-    /// No rule names that layer, which has so many shapes.
+    /// No rule names that layer. The number is that of its shapes.
     Unnamed(Layer, usize),
     /// The library has faults, so nothing is checked.
     Unchecked,
 }
 
-/// What a report tells: the markers of a structure, and the faults of elements.
+/// The content of a report: the markers of a structure, and the faults of elements.
 #[derive(Clone, Copy, Drop)]
 pub struct Report<'a> {
-    /// The name of the layout's file, where it is known.
+    /// The name of the layout's file, if it is known.
     pub original: Option<&'a str>,
     /// The name of the structure.
     pub top: &'a Name,
-    /// The rules of the deck, each with a category.
+    /// The rules of the deck. Each has a category.
     pub rules: &'a [Rule],
-    /// The markers, or the first of each rule, where there are `counts`. One whose rule isn't there has no item.
+    /// The markers; or only the first of each rule, if there are `counts`. A marker whose rule isn't among the rules has no item.
     pub markers: &'a [Marker],
-    /// How many markers each rule has, by its place in the deck, where `markers` has only the first of each; none where `markers` has all. A
-    /// rule without a number there has 0.
+    /// How many markers each rule has, by its index in the deck, if `markers` has only the first of each rule; `None` if `markers` has all. A
+    /// rule without a number has 0.
     pub counts: Option<&'a [usize]>,
-    /// How many markers of a rule have an item at most: the first ones. The others are counted in the category's description.
+    /// The most markers of a rule that have an item: the first ones. The others are counted in the category's description.
     pub limit: usize,
-    /// What the description tells behind the structure's name.
+    /// The notes in the description, after the structure's name.
     pub notes: &'a [Note<'a>],
-    /// The faults. Where there are some they have a category of their own.
+    /// The faults. If there are some, they have a category of their own.
     pub faults: &'a [Fault<'a>],
 }

@@ -1,4 +1,4 @@
-//! Pairs of edges, in micrometres.
+//! Writes pairs of edges, in micrometres.
 ghost use Rattle.std.specs.Prelude.{◌≡◌};
 ghost use Rattle.mpw_report.specs.Report.{first_edge, second_edge, point_text, edge_text, pair_text};
 ghost use Rattle.mpw_text.specs.Writing.{Adds};
@@ -13,9 +13,9 @@ use std::io::{self, Write};
 /// An edge, from its start to its end, in nm.
 #[derive(Clone, Copy)]
 pub(crate) struct Edge {
-    /// Where KLayout's edge begins.
+    /// The start of KLayout's edge.
     pub start: Point,
-    /// Where KLayout's edge ends.
+    /// The end of KLayout's edge.
     pub end: Point,
 }
 

@@ -1,4 +1,4 @@
-//! Faults of elements: a category, and an item for each.
+//! Writes the faults of elements: a category, and an item for each.
 ghost use Rattle.std.specs.Prelude.{◌≡◌, map, option_map};
 ghost use Rattle.std.specs.List.{flat_map};
 ghost use Rattle.mpw_report.specs.Content.{fault_of};
@@ -14,7 +14,7 @@ use mpw_geom::{Box2, Name, Point};
 use mpw_text::put;
 use std::io::{self, Write};
 
-/// Writes the category of faults, where there are some.
+/// Writes the category of faults, if there are some.
 #[tactic(auto, unfolding(crate::specs::Report::fault_category))]
 pub(crate) fn put_fault_category<W: Write>(writer: &mut W, faults: &[Fault<'_>]) -> io::Result<()>
     ensures { Adds W.contents writer.old writer.new result (fault_category (map fault_of faults.now)) }
@@ -25,7 +25,7 @@ pub(crate) fn put_fault_category<W: Write>(writer: &mut W, faults: &[Fault<'_>])
     }
 }
 
-/// Writes the structure of a fault, where it is known.
+/// Writes the structure of a fault, if it is known.
 #[tactic(auto, unfolding(crate::specs::Report::place_text))]
 fn put_place<W: Write>(writer: &mut W, structure: Option<&Name>) -> io::Result<()>
     ensures { Adds W.contents writer.old writer.new result (place_text (option_map (λ name. name.now) structure.entry)) }
@@ -39,7 +39,7 @@ fn put_place<W: Write>(writer: &mut W, structure: Option<&Name>) -> io::Result<(
     }
 }
 
-/// Writes what is told of a fault.
+/// Writes the value of a fault: its code, its byte and its structure.
 #[tactic(auto, unfolding(crate::specs::Report::fault_value))]
 fn put_fault_value<W: Write>(writer: &mut W, fault: &Fault<'_>) -> io::Result<()>
     ensures { Adds W.contents writer.old writer.new result (fault_value (fault_of fault.now)) }
@@ -84,7 +84,7 @@ fn put_area<W: Write>(writer: &mut W, area: &Box2) -> io::Result<()>
     put(writer, &[")"])
 }
 
-/// Writes the box of a fault, where it is known.
+/// Writes the box of a fault, if it is known.
 #[tactic(auto, unfolding(crate::specs::Report::area_value))]
 fn put_area_value<W: Write>(writer: &mut W, area: &Option<Box2>) -> io::Result<()>
     ensures { Adds W.contents writer.old writer.new result (area_value area.now) }

@@ -1,4 +1,4 @@
-//! Items: one for each marker, with its pair of edges.
+//! Writes the items: one for each marker, with its pair of edges.
 ghost use Rattle.std.specs.Prelude.{take};
 ghost use Rattle.std.specs.List.{flat_map, enumerate_from};
 ghost use Rattle.mpw_report.specs.Content.{content_of};
@@ -28,7 +28,7 @@ fn put_item<W: Write>(writer: &mut W, top: &Name, rule: &Rule, marker: &Marker) 
     put_part(writer, Part::ItemEnd)
 }
 
-/// Writes the items of the first markers of the rule with that place, in their order.
+/// Writes the items of the first markers of the rule at index `place`, in their order.
 fn put_rule_items<W: Write>(
     writer: &mut W,
     report: &Report<'_>,

@@ -1,20 +1,20 @@
-//! Laws over the definitions.
+//! Laws about the definitions.
 ghost use Rattle.mpw_report.specs.Escapes.{AreEscaped};
 ghost use Rattle.mpw_report.specs.Lengths.{AreExact};
 ghost use Rattle.mpw_report.specs.Report.{FirstMarkersHaveTheItems};
 
-/// What a report has for a name holds no `<`, `>` or `&` of the name's own, and is read as the name: as the text of an element,
-/// and as the path of a category.
+/// The text of a name in a report contains no `<`, `>` or `&` of the name's own, and a reader gets the name from it: from the text of an element,
+/// and from the path of a category.
 pub fn names_are_escaped()
     ensures { AreEscaped }
 {}
 
-/// What a report has for a length of so many nm is that length in micrometres, with no rounding.
+/// The text of a length in a report is that length in micrometres, without rounding.
 pub fn lengths_are_exact()
     ensures { AreExact }
 {}
 
-/// Where a report has numbers of markers, the first markers of each rule, as many as its limit, make the same text as all.
+/// If a report has the numbers of markers, the first markers of each rule, up to its limit, make the same text as all markers.
 pub fn first_markers_have_the_items()
     ensures { FirstMarkersHaveTheItems }
 {}

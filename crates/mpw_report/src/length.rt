@@ -1,4 +1,4 @@
-//! Lengths in micrometres, exactly: as many decimals as they need, three at most.
+//! Writes lengths in micrometres, exactly: with as many decimals as they need, at most three.
 ghost use Rattle.std.specs.Prelude.{◌≡◌};
 ghost use Rattle.mpw_report.specs.Lengths.{last_digits, fraction, sign_text, micrometres};
 ghost use Rattle.mpw_text.specs.Writing.{Adds};
@@ -29,7 +29,7 @@ fn put_last_digits<W: Write>(writer: &mut W, thousandths: u64) -> io::Result<()>
     }
 }
 
-/// Writes thousandths below one, behind a point.
+/// Writes thousandths below one, after a point.
 #[tactic(auto, unfolding(crate::specs::Lengths::fraction))]
 fn put_fraction<W: Write>(writer: &mut W, thousandths: u64) -> io::Result<()>
     ensures { Adds W.contents writer.old writer.new result (fraction thousandths) }
@@ -50,7 +50,7 @@ fn sign(nm: i64) -> &'static str
     if nm < 0 { "-" } else { "" }
 }
 
-/// Writes a length that is so many nm.
+/// Writes a length of `nm` nm.
 #[tactic(auto, unfolding(crate::specs::Lengths::micrometres))]
 pub fn put_micrometres<W: Write>(writer: &mut W, nm: i64) -> io::Result<()>
     ensures { Adds W.contents writer.old writer.new result (micrometres nm) }

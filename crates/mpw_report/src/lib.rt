@@ -1,11 +1,13 @@
-//! Markers as a report database of KLayout's (`lyrdb`), which its marker browser opens.
+//! Writes markers as a report database of KLayout (`lyrdb`), which its marker browser opens.
 //!
-//! [`write_report`] writes a category for each rule of a deck and an item for each marker, one behind another: it takes no
-//! memory. [`write_full_report`] writes a [`Report`] so, which also names the layout's file, has a limit for the items of a rule,
-//! tells in its description which rules look at nothing, and may have the faults of a library's elements, as a category of their own.
-//! It may have just the first markers of each rule, with how many each rule has ([`first_markers_have_the_items`]). Lengths are in
-//! micrometres, exactly ([`lengths_are_exact`]). What stands in a name is escaped, for XML and for the path that names a category
-//! ([`names_are_escaped`]). Its parts that other drawings and texts have too are public: [`put_name`], [`put_rule`],
+//! - [`write_report`] writes a category for each rule of a deck and an item for each marker. It takes no
+//!   memory.
+//! - [`write_full_report`] writes a [`Report`]. That also names the layout's file, limits the items of a rule, notes in its
+//!   description which rules check nothing, and can have the faults of a library's elements, in a category of their own. It can have
+//!   only the first markers of each rule, with how many each rule has ([`first_markers_have_the_items`]).
+//!
+//! Lengths are in micrometres, exactly ([`lengths_are_exact`]). Names are escaped, for XML and for the path that names a category
+//! ([`names_are_escaped`]). The parts that other drawings and texts use too are public: [`put_name`], [`put_rule`],
 //! [`put_left_out`] and [`put_micrometres`].
 #![tactic(auto)]
 

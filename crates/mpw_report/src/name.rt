@@ -1,4 +1,4 @@
-//! Names in a report.
+//! Writes names in a report.
 ghost use Rattle.std.specs.List.{flat_map};
 ghost use Rattle.mpw_report.specs.Escapes.{character, path_character, escaped, path_text};
 ghost use Rattle.mpw_text.specs.Writing.{Adds};
@@ -20,7 +20,7 @@ fn put_character<W: Write>(writer: &mut W, byte: u8) -> io::Result<()>
     }
 }
 
-/// Writes a byte of a category's name as it stands in the category's path.
+/// Writes a byte of a category's name as the category's path has it.
 #[tactic(auto, unfolding(crate::specs::Escapes::path_character))]
 fn put_path_character<W: Write>(writer: &mut W, byte: u8) -> io::Result<()>
     ensures { Adds W.contents writer.old writer.new result (path_character byte) }
@@ -49,7 +49,7 @@ pub fn put_name<W: Write>(writer: &mut W, name: &Name) -> io::Result<()>
     put_escaped(writer, name.as_bytes())
 }
 
-/// Writes bytes as they stand between quotes.
+/// Writes bytes as they are between quotes.
 pub(crate) fn put_path_characters<W: Write>(writer: &mut W, bytes: &[u8]) -> io::Result<()>
     ensures { Adds W.contents writer.old writer.new result (flat_map path_character bytes.now) }
 {

@@ -1,4 +1,4 @@
-//! What the description tells of what a check looks at.
+//! Writes the notes in the description, about what a check reads.
 ghost use Rattle.std.specs.Prelude.{map};
 ghost use Rattle.std.specs.List.{flat_map};
 ghost use Rattle.mpw_report.specs.Content.{note_of};
@@ -13,7 +13,7 @@ use mpw_geom::{Layer, Name};
 use mpw_text::put;
 use std::io::{self, Write};
 
-/// Writes that a rule looks at nothing.
+/// Writes that a rule checks nothing.
 #[tactic(auto, unfolding(crate::specs::Report::idle_text))]
 fn put_idle<W: Write>(writer: &mut W, rule: &Name, layer: Layer) -> io::Result<()>
     ensures { Adds W.contents writer.old writer.new result (idle_text rule.now layer) }

@@ -1,4 +1,4 @@
-//! The parts of a report that are the same in each.
+//! The parts of the text that all reports have in common.
 ghost use Rattle.std.specs.Prelude.{◌≡◌};
 ghost use Rattle.mpw_report.specs.Parts.{part_text};
 ghost use Rattle.mpw_text.specs.Writing.{Adds};
@@ -6,18 +6,18 @@ ghost use Rattle.mpw_text.specs.Writing.{Adds};
 use mpw_text::put;
 use std::io::{self, Write};
 
-/// A part of a report that is the same in each.
+/// A part of the text that all reports have in common.
 #[derive(Clone, Copy)]
 pub(crate) enum Part {
     /// Before the name in the description.
     Head,
-    /// Behind it.
+    /// After it.
     HeadEnd,
-    /// In the place of the layout's file, where it isn't known.
+    /// Instead of the name of the layout's file, if it isn't known.
     NoOriginal,
-    /// Before its name.
+    /// Before the name of the layout's file.
     Original,
-    /// Behind it.
+    /// After it.
     OriginalEnd,
     /// Before the name of the top.
     Generator,
@@ -27,7 +27,7 @@ pub(crate) enum Part {
     CategoryName,
     /// Before its description.
     Description,
-    /// Behind its description.
+    /// After its description.
     CategoryEnd,
     /// The category of faults.
     FaultCategory,
@@ -43,11 +43,11 @@ pub(crate) enum Part {
     Value,
     /// Before the name of the cell of a fault.
     FaultItem,
-    /// Before a further value.
+    /// Before another value.
     NextValue,
-    /// Behind its values.
+    /// After its values.
     ItemEnd,
-    /// Behind the items.
+    /// After the items.
     End,
 }
 

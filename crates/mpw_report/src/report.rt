@@ -1,4 +1,4 @@
-//! The whole report.
+//! Writes the whole report.
 ghost use Rattle.std.specs.Prelude.{option_map};
 ghost use Rattle.mpw_report.specs.Content.{content_of};
 ghost use Rattle.mpw_report.specs.Report.{original_text, head_text, cells_text, full_text, report_text};
@@ -16,7 +16,7 @@ use mpw_geom::Name;
 use mpw_markers::Marker;
 use std::io::{self, Write};
 
-/// Writes the name of the layout's file, where it is known.
+/// Writes the name of the layout's file, if it is known.
 #[tactic(auto, unfolding(crate::specs::Report::original_text))]
 fn put_original<W: Write>(writer: &mut W, original: Option<&str>) -> io::Result<()>
     ensures { Adds W.contents writer.old writer.new result (original_text (option_map (λ file. file.now) original.entry)) }
@@ -31,7 +31,7 @@ fn put_original<W: Write>(writer: &mut W, original: Option<&str>) -> io::Result<
     }
 }
 
-/// Writes what stands before the categories.
+/// Writes what comes before the categories.
 #[tactic(auto, unfolding(crate::specs::Report::head_text))]
 fn put_head<W: Write>(writer: &mut W, report: &Report<'_>) -> io::Result<()>
     ensures { Adds W.contents writer.old writer.new result (head_text (content_of report.now)) }
@@ -46,7 +46,7 @@ fn put_head<W: Write>(writer: &mut W, report: &Report<'_>) -> io::Result<()>
     put_part(writer, Part::Categories)
 }
 
-/// Writes what stands between the categories and the items.
+/// Writes what comes between the categories and the items.
 #[tactic(auto, unfolding(crate::specs::Report::cells_text))]
 fn put_cells<W: Write>(writer: &mut W, top: &Name) -> io::Result<()>
     ensures { Adds W.contents writer.old writer.new result (cells_text top.now) }
@@ -70,14 +70,14 @@ fn put_all<W: Write>(writer: &mut W, report: &Report<'_>) -> io::Result<()>
     put_part(writer, Part::End)
 }
 
-/// Writes a report: the notes in its description; a category for each rule, in order, and one for the faults where there are some; then for each rule an
-/// item for each of its first markers, as many as the limit allows, in order; and an item for each fault. The description of a
-/// rule's category tells how many of its markers are left out. Where it has numbers of markers, the first of each rule make the same report
-/// as all ([`first_markers_have_the_items`](crate::first_markers_have_the_items)). It takes no memory, and costs the text's size, some 300
-/// bytes a marker, and for each rule two passes over the markers, or one where there are numbers.
+/// Writes a report: the notes in its description; a category for each rule, in order, and one for the faults if there are some; then for each rule an
+/// item for each of its first markers, up to the limit, in order; and an item for each fault. The description of a rule's category says how many of
+/// its markers are left out. If the report has the numbers of markers, the first of each rule make the same report as all
+/// ([`first_markers_have_the_items`](crate::first_markers_have_the_items)). It takes no memory. The text has about 300 bytes for each marker. Cost:
+/// linear in the text, and for each rule two passes over the markers, or one if there are numbers.
 ///
 /// # Errors
-/// The writer's; it then holds a part of the text.
+/// Those of the writer, which then has a part of the text.
 pub fn write_full_report<W: Write>(writer: &mut W, report: &Report<'_>) -> io::Result<()>
     ensures { Adds W.contents writer.old writer.new result (full_text (content_of report.now)) }
 {
@@ -85,11 +85,11 @@ pub fn write_full_report<W: Write>(writer: &mut W, report: &Report<'_>) -> io::R
     writer.flush()
 }
 
-/// Writes the report of all markers, which were found in a structure of the name `top` under these rules. It names no file, and
+/// Writes the report of all markers that were found in the structure named `top` under these rules. It names no file, and
 /// has no faults. It takes no memory.
 ///
 /// # Errors
-/// The writer's; it then holds a part of the text.
+/// Those of the writer, which then has a part of the text.
 #[tactic(auto, unfolding(crate::specs::Report::report_text))]
 pub fn write_report<'a, W: Write>(
     writer: &mut W,

@@ -6,7 +6,7 @@ use Rattle.hex.specs.Hex.{is_hex_digit}
 use Rattle.hex.proofs.HexLemmas.{decode_of-ok}
 use Rattle.mpw_requests.specs.Digest.{Spells}
 
--- a text that spells none spells no 32 bytes
+-- a text that spells no digest spells no 32 bytes
 pub unspelt : {X : Type 0} (text : List ℕ) (r : Option X)
     → IsSome r ↔ ((length text ≡ 64) × AllPass is_hex_digit text) → r ≡ None → (digest : List ℕ)
     → Spells text digest → length digest ≡ 32 → ⊥

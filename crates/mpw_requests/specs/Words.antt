@@ -1,4 +1,5 @@
--- Words of a request's line: an orientation, the key of a marker, and on which kind of object an operation is.
+-- Words of a request's line: an orientation, the key of a marker, and the kind of object that an operation is
+-- on.
 use Rattle.std.specs.Prelude.{ℕ, Bool, true, false, List, [], ◌∷◌, codes}
 use Rattle.std.specs.Fmt.{decimal, signed_decimal}
 use Rattle.mpw_text.specs.Writing.{with_colons}
@@ -26,8 +27,8 @@ unfoldable pub axis_text : Axis → List ℕ
 axis_text V = codes "V"
 axis_text H = codes "H"
 
--- the key of a marker: the name of its rule, and, each behind a colon, the axis, the side, where the edges lie and which rows there
--- are, in nm
+-- the key of a marker: the name of its rule, and, each after a colon, the axis, the side, the coordinates of
+-- the edges and the rows, in nm
 abbrev pub marker_key : MarkerName → List ℕ
 marker_key m =
     with_colons (m.rule ∷ axis_text m.axis ∷ decimal m.side ∷ signed_decimal m.x1

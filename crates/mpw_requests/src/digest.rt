@@ -15,8 +15,7 @@ pub fn digest_of(bytes: &[u8]) -> [u8; 32]
     Sha256::digest(bytes)
 }
 
-/// The digest that exactly 64 hexadecimal digits of either case spell, the high four bits of each byte first, and
-/// `None` for every other text.
+/// The digest that exactly 64 hexadecimal digits of either case spell, the high four bits of each byte first. It is `None` for every other text.
 pub fn read_digest(text: &str) -> Option<[u8; 32]>
     ensures value { IfSome result (λ digest. Spells text.now digest) }
     ensures found { IsSome result ↔ ((length text.now ≡ 64) × AllPass is_hex_digit text.now) }

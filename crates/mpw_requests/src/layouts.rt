@@ -1,19 +1,19 @@
-//! The requests over the shelf of submissions.
+//! The requests of the layouts.
 
 use mpw_geom::Name;
 use mpw_library::LibraryText;
 
-/// A request over the shelf of submissions.
+/// A request of the layouts: the submissions of cells.
 pub enum LayoutRequest {
-    /// A cell's library, with the structure of it that the cell shows.
+    /// Submits a cell's library, with the structure that is the cell's top.
     Submit {
         cell: Name,
         top: Name,
         text: LibraryText,
     },
-    /// Which cells may be read.
+    /// Lists the cells that the session may read.
     Cells,
-    /// The shapes of a cell's present submission, as far as their cells may be read.
+    /// Lists the shapes of a cell's present submission, without those of cells that the session may not read.
     Shapes {
         cell: Name,
     },

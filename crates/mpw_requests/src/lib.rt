@@ -1,5 +1,5 @@
-//! What connections ask of the desk, in groups: each group has its own enum, and is answered by its own rows.
-//! A token is digested where it is read ([`digest_of`]), and kept nowhere.
+//! The requests of connections, in groups. Each group has its own enum, and its own decision tables. A token is digested when it is read
+//! ([`digest_of`]), and stored nowhere.
 #![tactic(auto)]
 
 mod digest;

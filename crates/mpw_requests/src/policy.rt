@@ -4,7 +4,7 @@ use mpw_geom::Name;
 use mpw_permissions::Grant;
 use mpw_separation::SeparationSet;
 
-/// The SHA-256 of a token, as the policy keeps it.
+/// The SHA-256 of a token, as the policy stores it.
 pub type Digest = [u8; 32];
 
 /// A request that changes the policy (ANSI INCITS 359-2004, 6).
@@ -15,7 +15,7 @@ pub enum PolicyRequest {
     Close,
     /// Make a role active in the session (AddActiveRole, 6.1).
     Activate { role: Name },
-    /// Take an active role from the session (DropActiveRole, 6.1).
+    /// Make an active role of the session inactive (DropActiveRole, 6.1).
     DropRole { role: Name },
     /// Add a user whose token has that SHA-256 (AddUser, 6.1).
     AddUser { user: Name, digest: Digest },
@@ -27,15 +27,15 @@ pub enum PolicyRequest {
     DelRole { role: Name },
     /// Assign a role to a user (AssignUser, 6.1).
     Assign { user: Name, role: Name },
-    /// Take an assignment back (DeassignUser, 6.1).
+    /// Remove an assignment (DeassignUser, 6.1).
     Deassign { user: Name, role: Name },
     /// Grant an operation on an object to a role (GrantPermission, 6.1).
     Grant { grant: Grant },
-    /// Take a grant back (RevokePermission, 6.1).
+    /// Remove a grant (RevokePermission, 6.1).
     Revoke { grant: Grant },
     /// Make a role an immediate junior of another (AddInheritance, 6.2).
     Inherit { senior: Name, junior: Name },
-    /// Take an immediate pair back (DeleteInheritance, 6.2).
+    /// Remove an immediate pair (DeleteInheritance, 6.2).
     Uninherit { senior: Name, junior: Name },
     /// Make a static set (CreateSsdSet, 6.3).
     Ssd { set: SeparationSet },

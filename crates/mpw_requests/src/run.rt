@@ -1,14 +1,14 @@
-//! The requests over the checking run.
+//! The requests of the checking run.
 
-/// A request over the run that checks the wafer.
+/// A request of the run that checks the wafer.
 #[derive(Drop)]
 pub enum RunRequest {
-    /// A new run over what is placed, by the deck.
+    /// Begins a new run over the placed cells, with the deck.
     Run,
-    /// The run that goes on is left.
+    /// Cancels the run that is going on.
     Cancel,
-    /// How far the run is.
+    /// Shows how far the run is.
     Status,
-    /// The markers of a run that is finished, as far as their cells may be read.
+    /// Lists the markers of a finished run, as far as the session may read their cells.
     Markers,
 }

@@ -1,16 +1,16 @@
-//! The requests that sign a finished run off.
+//! The sign-off requests for a finished run.
 
 use mpw_edges::Axis;
 use mpw_geom::Name;
 
-/// A marker as a request names it: the name of its rule, and where it lies. Sides are 0 or 1, coordinates in nm, -2^30 to
-/// 2^30; they need not be in order.
+/// A marker as a request names it: the name of its rule, and its place. The side is 0 or 1. The coordinates are in nm, from -2^30 to 2^30,
+/// and need not be in order.
 pub struct MarkerName {
-    /// 1 to 255 bytes of 21 to 7E hex; with a colon in it no deck's rule has it.
+    /// 1 to 255 bytes from 21 to 7E hex. No deck has a rule with a colon in its name.
     pub rule: Name,
     /// The direction of the marker's edges.
     pub axis: Axis,
-    /// Which of the two kinds of pairs that a rule of two layers finds; in markers of other rules it is 0.
+    /// Which of its two kinds of pairs a rule of two layers found. It is 0 in markers of other rules.
     pub side: u8,
     /// The coordinate of the first edge.
     pub x1: i64,
@@ -18,7 +18,7 @@ pub struct MarkerName {
     pub x2: i64,
     /// The first row.
     pub y0: i64,
-    /// The row behind the last one.
+    /// The row after the last one.
     pub y1: i64,
 }
 
@@ -37,15 +37,15 @@ impl Drop for MarkerName {
     }
 }
 
-/// A request over the waivers of a finished run's markers.
+/// A request about the waivers of a finished run's markers.
 pub enum SignOffRequest {
     /// Asks for a waiver of a marker.
     Waive { marker: MarkerName },
     /// Signs the waiver of a marker.
     Sign { marker: MarkerName },
-    /// Who asked for waivers of the markers that are shown in full, and who signed them.
+    /// Lists who asked for waivers of the markers that are full for the session, and who signed them.
     Waivers,
-    /// Whether each marker is signed.
+    /// Shows whether each marker has a signed waiver.
     Verdict,
 }
 

@@ -1,9 +1,9 @@
-//! The requests over the wafer.
+//! The requests of the wafer.
 
 use mpw_deck::DeckText;
 use mpw_geom::{Name, Placing};
 
-/// A request over the wafer: what is placed on it, and by which rules it is checked.
+/// A request of the wafer: the cells that are placed on it, and the rules that it is checked by.
 pub enum WaferRequest {
     /// Places a cell's present submission under a label.
     Place {
@@ -11,12 +11,12 @@ pub enum WaferRequest {
         label: Name,
         placing: Placing,
     },
-    /// Takes the placing of a cell under a label away.
+    /// Removes the placement of a cell under a label.
     Unplace {
         cell: Name,
         label: Name,
     },
-    /// The deck of a text comes in the place of the one before.
+    /// Replaces the deck with the one in this text.
     Deck {
         text: DeckText,
     },

@@ -1,4 +1,4 @@
-//! What the words of a request's line are made of.
+//! The words of a request's line.
 ghost use Rattle.std.specs.Prelude.{◌≡◌};
 ghost use Rattle.mpw_requests.specs.Words.{axis_text, is_on_cells};
 

@@ -1,4 +1,4 @@
--- The bits of masks and the roles at their places.
+-- The bits of masks and the roles at their indexes.
 use Rattle.std.proofs.Common.{[], ◌≡◌, ℕ, zero, suc, ◌+◌, ◌<◌, ◌≤◌, Bool, true, false, cond, ◌||◌, ◌&&◌, inl, inr, List, ◌∷◌, length, filter, get_or, Some, refl, sym, ap, subst, ◌∙◌, true≢false, arith, zero-add}
 use Rattle.std.specs.Prelude.{nat_lt, position}
 use Rattle.std.specs.Cmp.Lexicographic.{bytes_decides}
@@ -34,7 +34,7 @@ marks_from-at place (suc n) m (suc i) inside = let p : suc place + i ≡ place +
 pub mark-at : (n : ℕ) (m : Mask) (i : ℕ) → i < n → get_or (marks_from 0 n m) i false ≡ has m i
 mark-at n m i inside = marks_from-at 0 n m i inside ∙ ap (has m) (zero-add i)
 
--- where the marks are a test of the name at each place, the marked names are those that pass
+-- if the marks are a test of the name at each index, the marked names are those that pass
 pub marked_names-places : (p : Name → Bool) (h : Hierarchy) (ms : Marks) → length h ≤ length ms
     → ((i : ℕ) → i < length h → get_or ms i false ≡ p (name_at h i))
     → marked_names h ms ≡ filter p (role_names h)
@@ -45,7 +45,7 @@ marked_names-places p (e ∷ es) (m ∷ ms) long is =
     ap (λ b. cond b (e.0 ∷ marked_names es ms) (marked_names es ms)) (is zero (omega arith))
     ∙ ap (λ l. cond (p e.0) (e.0 ∷ l) l) rest
 
--- the role at a place that was found
+-- the role at an index that was found
 pub name-found : (h : Hierarchy) (r : Name) (i : ℕ) → Some i ≡ position (name_eq r) (role_names h)
     → (i < length h) × (name_at h i ≡ r)
 name-found h r i found =
@@ -63,7 +63,7 @@ name-is_role (e ∷ es) (suc i) inside =
     or_later true b e = refl
     or_later false b e = e
 
--- what is no role is at least itself alone
+-- a name that is no role is at least itself alone
 alone : (h : Hierarchy) (a b : Name) → is_role h a ≡ false → IsAtLeast h a b → name_eq a b ≡ true
 alone h a b none same = name_eq-refl a
 alone h a b none (chain {middle = m} pair rest) =

@@ -1,4 +1,4 @@
--- What a caller cites of the order.
+-- What callers use of the order.
 use Rattle.std.proofs.Common.{◌≡◌, true, ◌||◌, ◌&&◌, List, [], ◌∷◌, sym, ap, ◌∙◌}
 use Rattle.mpw_geom.specs.Names.{contains_name}
 use Rattle.mpw_roles.specs.Hierarchy.{Name, Hierarchy, role_names, is_role, is_immediate, with_role}
@@ -17,7 +17,7 @@ pub contains-roles_below : (h : Hierarchy) (seniors : List Name) (r : Name)
     → contains_name (roles_below h seniors) r ≡ (is_role h r && is_below h seniors r)
 contains-roles_below h seniors r = contains-filter (is_below h seniors) (role_names h) r
 
--- more roles, pairs and seniors: what was below is below
+-- more roles, pairs and seniors: a role that was below still is
 pub roles_below-grows : (h k : Hierarchy) (seniors more : List Name)
     → ((a b : Name) → is_immediate h a b ≡ true → is_immediate k a b ≡ true)
     → ((r : Name) → is_role h r ≡ true → is_role k r ≡ true)
@@ -33,7 +33,7 @@ roles_below-grows h k seniors more pairs roles among r below =
     ∙ any_name (λ s. at_least k s r) more from.0 (among from.0 from.1)
     (at_least-fewer h k pairs from.0 r from.2)
 
--- the pairs and the roles stay where one is added
+-- the pairs and the roles stay if one is added
 pub pairs-with_role : (h : Hierarchy) (r a b : Name) → is_immediate h a b ≡ true
     → is_immediate (with_role h r) a b ≡ true
 pairs-with_role h r a b pair = ap (λ l. contains_name l b) (juniors-with_role h r a) ∙ pair

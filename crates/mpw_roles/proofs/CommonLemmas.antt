@@ -1,4 +1,4 @@
--- How many places two sets have in common.
+-- How many indexes two sets have in common.
 use Rattle.std.proofs.Common.{◌≡◌, ℕ, zero, suc, ◌+◌, ◌*◌, ◌/◌, ◌%◌, ◌^◌, ◌<◌, ◌≤◌, Bool, true, cond, ◌&&◌, get_or, eqb, min, refl, sym, ap, ◌∙◌, eq-eqb, inl, inr, arith}
 use Rattle.std.proofs.Math.Nat.{two-pow-succ, suc-add, zero-add}
 use Rattle.std.specs.Prelude.{nat_lt, bit_and, count_by, count_ones}
@@ -17,12 +17,12 @@ digit zero small = refl
 digit (suc zero) small = refl
 digit (suc (suc d)) small = absurd (omega arith)
 
--- one place more at the front
+-- one more index at the front
 pub count-first : (p : ℕ → Bool) (k n : ℕ) → count_by p (range_with_len k (suc n))
     ≡ cond (p k) 1 0 + count_by p (range_with_len (k + 1) n)
 count-first p k n = sum_by-cons (λ i. cond (p i) 1 0) k (range_with_len (k + 1) n)
 
--- the ones of a word are the places of its bits
+-- the ones of a word are the indexes of its bits
 ones-places : (n k w : ℕ) (p : ℕ → Bool) → w < 2 ^ n
     → ((i : ℕ) → i < n → p (k + i) ≡ eqb (bit_at w i) 1)
     → count_by p (range_with_len k n) ≡ count_ones w
@@ -38,7 +38,7 @@ ones-places (suc n) k w p small at =
     ap p next ∙ at (suc i) (omega arith) ∙ ap (λ b. eqb b 1) (bit_at-suc w i)) in
     count-first p k n ∙ (λ i. first i + rest i) ∙ sym (ones_step w)
 
--- places up to one, and from there on
+-- indexes up to one, and from there on
 pub count-split : (p : ℕ → Bool) (m a n : ℕ) → count_by p (range_with_len a (m + n))
     ≡ count_by p (range_with_len a m) + count_by p (range_with_len (a + m) n)
 count-split p zero a n =
@@ -67,7 +67,7 @@ both_bits a b p q = elim (cases_eq a 1) [
       ∙ sym (ne_eqb (min a b) 1 (λ is. absurd (omega arith)))
 ]
 
--- the places of one word
+-- the indexes of one word
 in-word : (a b : Mask) (k i : ℕ) → k < 8 → i < 64 → (has a (k * 64 + i) && has b (k * 64 + i))
     ≡ eqb (bit_at (bit_and (get_or a.words k 0) (get_or b.words k 0)) i) 1
 unfolding has
@@ -81,7 +81,7 @@ in-word a b k i small low =
     (bit_at-lt (get_or a.words k 0) i) (bit_at-lt (get_or b.words k 0) i)
     ∙ ap (λ n. eqb n 1) (sym (bit_at_and (get_or a.words k 0) (get_or b.words k 0) i))
 
--- the places that both have, of the first words
+-- the indexes that both have, of the first words
 abbrev pub common_upto : Mask → Mask → ℕ → ℕ
 common_upto a b n = count_by (λ place. has a place && has b place) (range_with_len 0 n)
 

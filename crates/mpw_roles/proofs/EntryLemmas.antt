@@ -1,4 +1,4 @@
--- The table of roles by numbers, in the words of the hierarchy.
+-- The table of roles by numbers, in terms of the hierarchy.
 use Rattle.std.proofs.Common.{◌≡◌, ℕ, zero, suc, ◌<◌, ◌≤◌, get_or, arith, refl, Option, true, false, cond, not, ◌||◌, ◌&&◌, List, [], ◌∷◌, ◌++◌, length, map, filter, eqb, eq-eqb, None, Some, sym, ap, ◌∙◌, true≢false}
 use Rattle.std.specs.Prelude.{position, slice_get}
 use Rattle.std.specs.List.{list_all}
@@ -125,7 +125,7 @@ append-nil : (xs : List ℕ) → xs ++ [] ≡ xs
 append-nil [] = refl
 append-nil (x ∷ xs) = ap (λ l. x ∷ l) (append-nil xs)
 
--- a pair more
+-- one more pair
 pub with-pair-entries : (ns : List Name) (ps : List Pair) (os : List ℕ)
     → ((k : ℕ) → has_number os k ≡ true → k < length ns) → are_distinct ns ≡ true
     → are_once os ≡ true → list_all (is_between os) ps ≡ true → (p : Pair) (a : Name)
@@ -146,7 +146,7 @@ with-pair-entries ns ps os known names once between p a found =
     true≢false (sym (eq-eqb p.senior m (sym (eqb-back m p.senior is))) ∙ other)))
     ∙ append-nil (juniors_of ps m))
 
--- names less
+-- fewer names
 without-numbered : (ns : List Name) → are_distinct ns ≡ true → (r : Name) (n : ℕ)
     → Some n ≡ position (name_eq r) ns → (ks : List ℕ)
     → ((k : ℕ) → has_number ks k ≡ true → k < length ns)
@@ -166,7 +166,7 @@ without-numbered ns names r n found (x ∷ xs) known =
       | false ↦ ap (λ l. name_of ns x ∷ l) rest
     ]
 
--- the place of a role
+-- the index of a role
 pub place-found : (ns : List Name) (ps : List Pair) (os : List ℕ)
     → ((k : ℕ) → has_number os k ≡ true → k < length ns) → are_distinct ns ≡ true
     → (r : Name) (n : ℕ) → Some n ≡ position (name_eq r) ns
@@ -188,7 +188,7 @@ pub distinct-entries : (ns : List Name) (ps : List Pair) (os : List ℕ)
 distinct-entries ns ps os known names once =
     ap are_distinct (names-entries ns ps os) ∙ distinct-numbered ns os known names once
 
--- one pair less
+-- one pair fewer
 pub without-pair-entries : (ns : List Name) (ps : List Pair) (os : List ℕ)
     → ((k : ℕ) → has_number os k ≡ true → k < length ns) → are_distinct ns ≡ true
     → are_once os ≡ true → list_all (is_between os) ps ≡ true → (a b : Name) (s j : ℕ)
@@ -258,7 +258,7 @@ without-role-entries ns ps (o ∷ os) known below names r n found =
     entry : Name → List Name → Name × List Name
     entry name juniors = (name, juniors)
 
--- names more
+-- more names
 pub more-names : (ns ms : List Name) (ps : List Pair) (os : List ℕ)
     → ((k : ℕ) → has_number os k ≡ true → k < length ns)
     → ((m k : ℕ) → has_number (juniors_of ps m) k ≡ true → k < length ns)
@@ -278,7 +278,7 @@ more-names ns ms ps (o ∷ os) known below kept = λ t. (
         kept k (inside k (ap (λ b. b || has_number ks k) (eqb-same k))) t
         ∷ mapped ks (λ m there. inside m (or_later (eqb m k) _ there)) t
 
--- a role more
+-- one more role
 pub with-role-entries : (ns : List Name) (ps : List Pair) (os : List ℕ) (r : Name) (n : ℕ)
     → list_all (is_between os) ps ≡ true → has_number os n ≡ false → name_of ns n ≡ r
     → with_role (entries_of ns ps os) r ≡ entries_of ns ps (os ++ n ∷ [])
@@ -291,7 +291,7 @@ with-role-entries ns ps os r n between new is = sym (split os
     split [] = refl
     split (k ∷ ks) = ap (λ l. entry_of ns ps k ∷ l) (split ks)
 
--- the name at a place
+-- the name at an index
 pub name-at-place : (ns : List Name) (ps : List Pair) (os : List ℕ) (i n : ℕ) (r : Option Name)
     → ((k : ℕ) → has_number os k ≡ true → k < length ns) → i < length os → get_or os i n ≡ n
     → r ≡ slice_get ns n → r ≡ slice_get (role_names (entries_of ns ps os)) i

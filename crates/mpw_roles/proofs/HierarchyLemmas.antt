@@ -63,7 +63,7 @@ juniors-with_juniors (e ∷ es) r js c there =
       | false ↦ λ _. refl
     ] refl
 
--- a pair after `with_pair` is that pair or was there
+-- a pair after `with_pair` is that pair or was there before
 pub with_pair-back : (h : Hierarchy) (s j : Name) → is_role h s ≡ true → (a b : Name)
     → is_immediate (with_pair h s j) a b ≡ true → (is_immediate h a b ≡ true) ⊎ ((a ≡ s) × (b ≡ j))
 with_pair-back h s j there a b pair =

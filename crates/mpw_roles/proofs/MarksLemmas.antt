@@ -1,4 +1,4 @@
--- What marks beside the roles say, by the roles' names.
+-- What marks say of the roles, by the roles' names.
 use Rattle.std.proofs.Common.{◌≡◌, ℕ, zero, suc, ◌+◌, ◌<◌, ◌≤◌, true, false, cond, ◌||◌, inl, inr, List, [], ◌∷◌, length, drop, add-one, get_or, Some, refl, sym, ap, ◌∙◌, true≢false, arith}
 use Rattle.std.specs.Prelude.{slice_get, unwrap_or}
 use Rattle.std.specs.List.{IsDistinct, AllByRecursion}
@@ -10,7 +10,7 @@ use Rattle.mpw_roles.specs.Marks.{Marks, marked_names}
 use Rattle.mpw_roles.specs.Internal.Marks.{is_marked}
 use Rattle.mpw_geom.proofs.Linked.{same_name, name_eq-refl, or_right, or_cases}
 
--- by the place of the first entry of a role
+-- by the index of the first entry of a role
 pub read-first : (h : Hierarchy) (ms : Marks) (r : Name) (i : ℕ) → i < length (role_names h)
     → i < length ms → name_eq r (get_or (role_names h) i []) ≡ true
     → ((k : ℕ) → k < i → name_eq r (get_or (role_names h) k []) ≡ false)
@@ -23,7 +23,7 @@ read-first (e ∷ es) (m ∷ ms) r (suc i) inside long at first =
     read-first es ms r i (omega arith) (omega arith) at (λ k h. first (suc k) (omega arith))
     ∙ ap (λ b. cond b m (is_marked es ms r)) (sym (first zero (omega arith)))
 
--- what is no role is not marked
+-- a name that is no role is not marked
 pub is_marked-none : (h : Hierarchy) (ms : Marks) (r : Name) → is_role h r ≡ false
     → is_marked h ms r ≡ false
 is_marked-none [] ms r none = refl
@@ -78,7 +78,7 @@ contains-marked_names (e ∷ es) (m ∷ ms) r apart long =
       | false ↦ λ _. refl
     ] refl
 
--- the name at a place is not among those before it
+-- the name at an index is not among those before it
 pub distinct-first : (names : List Name) → IsDistinct name_eq names → (i k : ℕ) → i < length names
     → k < i → name_eq (get_or names i []) (get_or names k []) ≡ false
 distinct-first [] apart i k inside below = absurd (omega arith)
@@ -97,7 +97,7 @@ pub length-names : (h : Hierarchy) → length (role_names h) ≡ length h
 length-names [] = refl
 length-names (e ∷ es) = ap suc (length-names es)
 
--- one place further
+-- one index further
 pub marked_names-drop : (h : Hierarchy) (ms : Marks) (i : ℕ) (n : Name)
     → slice_get (role_names h) i ≡ Some n → i < length ms
     → marked_names (drop i h) (drop i ms) ≡ cond (get_or ms i false)

@@ -1,4 +1,4 @@
--- What the bits of words say of places.
+-- What the bits of words say of indexes.
 use Rattle.std.proofs.Common.{min, ◌≡◌, ℕ, ◌+◌, ◌*◌, ◌/◌, ◌%◌, ◌^◌, ◌<◌, ◌≤◌, ◌≢◌, Bool, true, false, ◌||◌, ◌&&◌, length, get_or, set, eqb, refl, sym, ap, ◌∙◌, inl, inr, ◌⊎◌, arith, eq-eqb, w64, get_or-set_same, get_or-set_other}
 use Rattle.std.proofs.lemmas.Bool.{cases_eq, lt-ltb, ltb-true, ne_eqb, and_right}
 use Rattle.std.proofs.lemmas.Nat.Bits.{bit_at_or, bit_at_and, bit_at-zero, bit_at-lt, shr_and_one, bit_at_set_same, bit_at_set_other, bit_at_clear_same, bit_at_clear_other, bit_at-trailing_zeros}
@@ -65,7 +65,7 @@ or_true : (b : Bool) → true ≡ (b || true)
 or_true true = refl
 or_true false = refl
 
--- one bit more
+-- one more bit
 pub has-inserted : (m : Mask) (p : ℕ) → p < 512 → length m.words ≡ 8 → (q : ℕ)
     → has (record {
       words = set m.words (p / 64)
@@ -107,7 +107,7 @@ has-inserted m p small eight q =
           (sym (ne_eqb q p other))
     ]
 
--- one bit less
+-- one bit fewer
 pub has-removed : (m : Mask) (p : ℕ) → p < 512 → length m.words ≡ 8 → (q : ℕ)
     → has (record {
       words = set m.words (p / 64)
@@ -199,7 +199,7 @@ no-bit a b each p =
       | false ↦ λ _. refl
     ] refl
 
--- no words, no places
+-- no words, no indexes
 pub has-none : (m : Mask) → ((k : ℕ) → get_or m.words k 0 ≡ 0) → (p : ℕ) → has m p ≡ false
 unfolding has
 has-none m zeros p = and_right (nat_lt p 512) _ (ne_eqb _ 1 (λ one.

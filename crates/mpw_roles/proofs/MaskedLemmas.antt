@@ -99,12 +99,12 @@ table-front ns ps p os table = (
         let rest = split qs both.1 in
         (and_both (is_between os q) _ both.0 rest.0, rest.1)
 
--- a number that is there has a place
+-- a number that is there has an index
 pub placed : (os : List ℕ) (n : ℕ) → has_number os n ≡ true → position (λ m. eqb n m) os ≡ None → ⊥
 placed os n there none =
     true≢false (sym (position-any (λ m. eqb n m) os ∙ there) ∙ ap is_some none)
 
--- one pair more
+-- one more pair
 pub masked-more : (ns : List Name) (ps : List Pair) (p : Pair) (os : List ℕ) (i k : ℕ)
     (old new : List Mask) → IsTable ns (ps ++ p ∷ []) os
     → Some i ≡ position (λ m. eqb p.senior m) os → Some k ≡ position (λ m. eqb p.junior m) os

@@ -1,4 +1,4 @@
--- The places of some names, and how many of them others have.
+-- The indexes of some names, and how many of them others have.
 use Rattle.std.proofs.Common.{◌≡◌, ℕ, zero, suc, ◌+◌, ◌-◌, ◌<◌, ◌≤◌, Bool, true, false, cond, ◌&&◌, ◌||◌, List, [], ◌∷◌, length, filter, get_or, eqb, eq-eqb, Some, refl, sym, ap, ◌∙◌, true≢false, inl, inr, arith}
 use Rattle.std.proofs.Math.Nat.{add-zero}
 use Rattle.std.specs.Prelude.{nat_lt, not, position, count_by}
@@ -28,7 +28,7 @@ others-apart n [] e = tt
 others-apart n (x ∷ xs) e = let p = neither (name_eq n x) (contains_name xs n) e in
     (p.0, others-apart n xs p.1)
 
--- names of which none stands twice
+-- names that each occur once
 pub names-apart : (ns : List Name) → are_distinct ns ≡ true → IsDistinct name_eq ns
 unfolding IsDistinct
 names-apart [] e = tt
@@ -37,7 +37,7 @@ names-apart (n ∷ ns) e =
     IsDistinct-cons name_eq n ns (others-apart n ns (not_true (contains_name ns n) p.0))
     (names-apart ns p.1)
 
--- the name at a place is that role at its own place alone
+-- the name at an index is that role, at its own index alone
 at-place : (h : Hierarchy) → IsHierarchy h → (n : Name) (i : ℕ)
     → Some i ≡ position (name_eq n) (role_names h) → (q : ℕ)
     → (nat_lt q (length (role_names h)) && name_eq (name_at h q) n) ≡ eqb q i
@@ -74,7 +74,7 @@ share true l a b c e = refl
 share false true a b c e = ap (λ t. t || b) (sym e)
 share false false a b c e = ap (λ t. t || false) (sym e)
 
--- the place of one name more
+-- the index of one more name
 pub turn-place : (h : Hierarchy) → IsHierarchy h → (n : Name) (rest : List Name) (i : ℕ)
     → Some i ≡ position (name_eq n) (role_names h) → (q : ℕ) (before : Bool)
     → ((before || eqb q i) || is_place_of (role_names h) rest q)
@@ -83,7 +83,7 @@ turn-place h is n rest i at q before =
     share before (nat_lt q (length (role_names h))) (name_eq (name_at h q) n)
     (contains_name rest (name_at h q)) (eqb q i) (at-place h is n i at q)
 
--- a name more that is no role has no place
+-- one more name that is no role has no index
 pub turn-no_place : (h : Hierarchy) (n : Name) (rest : List Name) (q : ℕ) (before : Bool)
     → is_role h n ≡ false
     → (before || is_place_of (role_names h) rest q)
@@ -124,7 +124,7 @@ apart-filter p (n ∷ ns) apart =
       | false ↦ apart-filter p ns (IsDistinct-tail name_eq n ns apart)
     ]
 
--- a count over the places of names is one over the names
+-- a count over the indexes of names is one over the names
 count-names : (p : Name → Bool) (q : ℕ → Bool) (ns : List Name) (k : ℕ)
     → ((i : ℕ) → i < length ns → q (k + i) ≡ p (get_or ns i []))
     → count_by q (range_with_len k (length ns)) ≡ count_by p ns
@@ -150,7 +150,7 @@ regroup true b s = refl
 regroup false b true = refl
 regroup false b false = refl
 
--- of distinct names as many are below some seniors as the masks of both have places in common
+-- of distinct names, as many are below some seniors as both masks have indexes in common
 pub common-below : (h : Hierarchy) (seniors names : List Name) (own below : Mask) → IsHierarchy h
     → IsDistinct name_eq names → ((q : ℕ) → has own q ≡ is_place_of (role_names h) names q)
     → ((q : ℕ) → has below q ≡ is_place_below h seniors q)

@@ -27,7 +27,7 @@ eqb-back n m is = elim (cases_eq n m) [
   | inr other ↦ absurd (true≢false (sym is ∙ ne_eqb n m other))
 ]
 
--- a number at a place is one of all
+-- a number at an index is one of all
 pub number-there : (os : List ℕ) (i n : ℕ) → slice_get os i ≡ Some n → has_number os n ≡ true
 number-there [] i n at = cc
 number-there (o ∷ os) zero n at =
@@ -35,7 +35,7 @@ number-there (o ∷ os) zero n at =
     ap (λ b. b || has_number os n) (eq-eqb n o (sym same))
 number-there (o ∷ os) (suc i) n at = or_later (eqb n o) _ (number-there os i n at)
 
--- a number that stands once is at its only place
+-- a number that occurs once is at its only index
 pub position-once : (os : List ℕ) (i n : ℕ) → are_once os ≡ true → slice_get os i ≡ Some n
     → Some i ≡ position (λ m. eqb n m) os
 position-once [] i n once at = cc
@@ -92,7 +92,7 @@ name-unnumbered ns r none k inside = refuted (name_eq r (name_of ns k)) (λ equa
     ∙ ap (contains_name ns) (sym (same_name r (name_of ns k) equal))
     ∙ sym (position-any (name_eq r) ns) ∙ ap is_some none))
 
--- the place of a name among those with some numbers
+-- the index of a name among those with some numbers
 pub place-number : (ns : List Name) (os : List ℕ)
     → ((k : ℕ) → has_number os k ≡ true → k < length ns) → are_distinct ns ≡ true
     → (r : Name) (n : ℕ) → Some n ≡ position (name_eq r) ns
@@ -144,7 +144,7 @@ contains-unnumbered ns (o ∷ os) known r none = λ t.
     name-unnumbered ns r none o (known o (ap (λ b. b || has_number os o) (eqb-same o))) t
     || contains-unnumbered ns os (λ k there. known k (or_later (eqb k o) _ there)) r none t
 
--- numbers that stand once have names that do
+-- numbers that occur once have names that do
 pub distinct-numbered : (ns : List Name) (os : List ℕ)
     → ((k : ℕ) → has_number os k ≡ true → k < length ns) → are_distinct ns ≡ true
     → are_once os ≡ true → are_distinct (map (name_of ns) os) ≡ true
@@ -157,7 +157,7 @@ distinct-numbered ns (o ∷ os) known names once =
     (ap not (contains-number ns os later names (name_of ns o) o own) ∙ p.0)
     (distinct-numbered ns os later names p.1)
 
--- numbers more and less
+-- more numbers and fewer
 pub has-more : (os : List ℕ) (n k : ℕ) → has_number (os ++ n ∷ []) k ≡ (has_number os k || eqb k n)
 has-more [] n k = or_false (eqb k n)
 has-more (o ∷ os) n k =

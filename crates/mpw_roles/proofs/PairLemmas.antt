@@ -107,7 +107,7 @@ juniors-less (p ∷ ps) s j = elim (eqb s p.senior) as (λ b. eqb s p.senior ≡
           ∙ juniors-less ps s j
     ] refl
 
--- a role less
+-- one role fewer
 pub juniors-without : (ps : List Pair) (n m : ℕ) → eqb n m ≡ false
     → juniors_of (filter (λ (p : Pair). not (is_end n p)) ps) m
     ≡ filter (λ k. not (eqb n k)) (juniors_of ps m)
@@ -134,7 +134,7 @@ juniors-without (p ∷ ps) n m apart =
           ]
     ] refl
 
--- what the pairs of a table keep
+-- the invariant of a table's pairs
 pub between-more : (ps : List Pair) (os : List ℕ) (n : ℕ) → list_all (is_between os) ps ≡ true
     → list_all (is_between (os ++ n ∷ [])) ps ≡ true
 between-more [] os n between = refl

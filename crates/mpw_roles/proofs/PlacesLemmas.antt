@@ -1,4 +1,4 @@
--- Places of roles, and the masks of each change of a hierarchy.
+-- Indexes of roles, and the masks of each change of a hierarchy.
 use Rattle.std.proofs.Common.{[], ◌≡◌, ℕ, zero, suc, ◌+◌, ◌<◌, ◌≤◌, Bool, true, false, cond, ◌||◌, ◌&&◌, ◌⊎◌, inl, inr, List, ◌∷◌, ◌++◌, length, get_or, eqb, eq-eqb, Some, refl, sym, ap, ◌∙◌, true≢false, arith, length-append, add-one, drop, take}
 use Rattle.std.specs.Prelude.{nat_lt, position}
 use Rattle.std.specs.Cmp.{both_ways}
@@ -18,7 +18,7 @@ use Rattle.mpw_roles.proofs.RoleLemmas.{juniors-with_role, at_least-fewer, chain
 use Rattle.mpw_roles.proofs.BoolLemmas.{refuted, and_or, or_assoc}
 use Rattle.mpw_roles.proofs.BitLemmas.{length-marks_from, mark-at, marked_names-places, name-found, name-is_role, stranger-above, stranger-below, mask-none}
 
--- one senior more, joined or no role
+-- one more senior: it is joined, or is no role
 pub below-cons : (h : Hierarchy) (s : Name) (rest : List Name) (p : ℕ)
     → is_place_below h (s ∷ rest) p ≡ (is_place_under h s p || is_place_below h rest p)
 below-cons h s rest p =
@@ -59,7 +59,7 @@ order-with_role h r a b = both_ways _ _
     (at_least-fewer h (with_role h r) (λ x y pair. ap (λ l. contains_name l y)
     (juniors-with_role h r x) ∙ pair) a b)
 
--- the places of one role more
+-- the indexes of one more role
 under-with_role : (h : Hierarchy) (r a : Name) (q : ℕ) → IsHierarchy h → is_role h r ≡ false
     → is_role h a ≡ true → is_place_under h a q ≡ is_place_under (with_role h r) a q
 under-with_role h r a q is none there =
@@ -87,7 +87,7 @@ under-with_role h r a q is none there =
           ]
     ]
 
--- the places of a role without pairs
+-- the indexes of a role without pairs
 own-with_role : (h : Hierarchy) (r : Name) (q : ℕ) → is_role h r ≡ false
     → eqb q (length h) ≡ is_place_under (with_role h r) r q
 own-with_role h r q none =
@@ -113,7 +113,7 @@ own-with_role h r q none =
           ]
     ]
 
--- a role more: its mask is its own place
+-- one more role: its mask is its own index
 pub IsMasked-with_role : (h : Hierarchy) (r : Name) (old new : List Mask) → is_role h r ≡ false
     → IsHierarchy h → IsMasked h old → length h < length new
     → ((p : ℕ) → p < length h → mask_at new p ≡ mask_at old p)
@@ -153,7 +153,7 @@ with_pair-there h s j there =
     or_later true b e = refl
     or_later false b e = e
 
--- a pair more: what is at least its senior is at least what its junior is at least
+-- one more pair: a role that is at least its senior is at least what its junior is at least
 pub order-with_pair : (h : Hierarchy) (s j : Name) → is_role h s ≡ true → (a b : Name)
     → at_least (with_pair h s j) a b ≡ (at_least h a b || (at_least h a s && at_least h j b))
 order-with_pair h s j there a b = both_ways _ _
@@ -220,7 +220,7 @@ IsMasked-with_pair h s j i k old new there at_s at_j masked long joined =
           (get_or (sym names t) q []));
     }
 
--- what is left from a place on begins with the item there
+-- what is left from an index on begins with the item there
 pub item-cons : (xs : List Name) (i : ℕ) (x : Name) → i < length xs → x ≡ get_or xs i x
     → drop i xs ≡ x ∷ drop (i + 1) xs
 item-cons [] i x inside at = absurd (omega arith)
@@ -228,7 +228,7 @@ item-cons (y ∷ ys) zero x inside at = ap (λ z. z ∷ ys) (sym at)
 item-cons (y ∷ ys) (suc i) x inside at =
     rw add-one (item-cons ys i x (omega arith) at ∙ rw add-one refl)
 
--- what was told of the items so far, and of those left, with the next one said apart
+-- what holds of the items so far, and of those left, with the next one apart
 pub next-item : (xs : List Name) (i : ℕ) (x : Name) → i < length xs → x ≡ get_or xs i x
     → (is_told : List Name → Bool) (so_far all : Bool) → (so_far || is_told (drop i xs)) ≡ all
     → (so_far || is_told (x ∷ drop (i + 1) xs)) ≡ all
@@ -239,13 +239,13 @@ pub same-role : (h k : Hierarchy) (r : Name) → role_names h ≡ role_names k
     → is_role h r ≡ is_role k r
 same-role h k r names = ap (λ l. contains_name l r) names
 
--- an item that is there is the one at its place, whatever stands in for none
+-- an item that is there is the one at its index, whatever the default is
 pub mask-there : (ms : List Mask) (i : ℕ) (m : Mask) → i < length ms → get_or ms i m ≡ mask_at ms i
 mask-there [] i m inside = absurd (omega arith)
 mask-there (x ∷ xs) zero m inside = refl
 mask-there (x ∷ xs) (suc i) m inside = mask-there xs i m (omega arith)
 
--- the names at the places of a mask
+-- the names at the indexes of a mask
 pub below-places : (h : Hierarchy) (seniors : List Name) (m : Mask)
     → ((q : ℕ) → has m q ≡ is_place_below h seniors q)
     → marked_names h (marks_from 0 (length h) m) ≡ roles_below h seniors

@@ -1,4 +1,4 @@
--- The first place at which a test passes.
+-- The first index at which a test passes.
 use Rattle.std.proofs.Common.{◌≡◌, ℕ, zero, suc, ◌+◌, ◌<◌, Bool, true, false, cond, not, ◌||◌, inl, inr, List, [], ◌∷◌, ◌++◌, length, get_or, take, Option, None, Some, is_some, refl, sym, ap, ◌∙◌, true≢false, arith}
 use Rattle.std.specs.Prelude.{nat_lt, position, slice_get}
 use Rattle.std.specs.List.{list_any, position_or_len}
@@ -7,7 +7,7 @@ use Rattle.std.proofs.lemmas.Bool.{cases_lt, lt-ltb, le-ltb}
 use Rattle.mpw_roles.proofs.BoolLemmas.{neither}
 
 module _ {X : Type 0} where
-  -- an item that is there is the one at its place
+  -- an item that is there is the one at its index
   pub item-there : (xs : List X) (i : ℕ) (x d : X) → i < length xs → get_or xs i d ≡ x
       → slice_get xs i ≡ Some x
   item-there [] i x d inside at = absurd (omega arith)
@@ -34,7 +34,7 @@ module _ {X : Type 0} where
         ]
       ]
 
-  -- there is one where the test passes somewhere
+  -- there is one if the test passes somewhere
   pub position-any : (p : X → Bool) (xs : List X) → is_some (position p xs) ≡ list_any p xs
   position-any p [] = refl
   position-any p (x ∷ xs) =
@@ -112,7 +112,7 @@ module _ {X : Type 0} where
       twice None = refl
       twice (Some i) = ap Some (omega arith)
 
-  -- an item behind the others where the test fails changes nothing
+  -- one more item at the end, for which the test fails, changes nothing
   pub position-behind : (p : X → Bool) (xs : List X) (x : X) → p x ≡ false
       → position p (xs ++ x ∷ []) ≡ position p xs
   position-behind p [] x fails =
@@ -122,7 +122,7 @@ module _ {X : Type 0} where
       ∙ ap (λ o. cond (p y) (Some 0) (option_map suc o)) (position-behind p ys x fails)
       ∙ sym (position-cons p y ys)
 
-  -- a test that passes at the same items finds the same place
+  -- a test that passes at the same items finds the same index
   pub position-same : (p q : X → Bool) (xs : List X)
       → ((i : ℕ) (d : X) → i < length xs → p (get_or xs i d) ≡ q (get_or xs i d))
       → position p xs ≡ position q xs
@@ -133,7 +133,7 @@ module _ {X : Type 0} where
       (position-same p q xs (λ i d inside. same (suc i) d (omega arith)) t)))
       ∙ sym (position-cons q x xs)
 
-  -- it is known by what stands there and before
+  -- the item at the index and those before determine it
   pub position-at : (p : X → Bool) (xs : List X) (i : ℕ) (d : X) → i < length xs
       → p (get_or xs i d) ≡ true → ((k : ℕ) → k < i → p (get_or xs k d) ≡ false)
       → Some i ≡ position p xs

@@ -11,7 +11,7 @@ use Rattle.mpw_roles.proofs.PositionLemmas.{position-any, position-cons, positio
 use Rattle.mpw_roles.proofs.RoleLemmas.{contains-append, name_eq-apart}
 use Rattle.mpw_roles.proofs.BoolLemmas.{and_parts, and_both, not_true, neither}
 
--- what stands behind some names is none of them
+-- the name that follows some names is none of them
 pub name-next : (xs ys : List Name) (n : Name) → are_distinct (xs ++ n ∷ ys) ≡ true
     → contains_name xs n ≡ false
 name-next [] ys n once = refl
@@ -23,7 +23,7 @@ name-next (x ∷ xs) ys n once =
     (neither (contains_name xs x) (contains_name (n ∷ ys) x) none).1).0 in
     (λ i. name_eq-apart x n apart i || name-next xs ys n p.1 i)
 
--- the first names are each there once too
+-- the first names are distinct too
 pub distinct-left : (xs ys : List Name) → are_distinct (xs ++ ys) ≡ true → are_distinct xs ≡ true
 distinct-left [] ys once = refl
 distinct-left (x ∷ xs) ys once =
@@ -33,7 +33,7 @@ distinct-left (x ∷ xs) ys once =
     and_both (not (contains_name xs x)) (are_distinct xs) (ap not none.0)
     (distinct-left xs ys p.1)
 
--- the next name goes into the set
+-- the next name is added to the set
 pub next-inserted : (set rest all : List Name) (n : Name) → are_distinct all ≡ true
     → set ++ n ∷ rest ≡ all → insert_key name_eq set n ++ rest ≡ all
 next-inserted set rest all n once is =

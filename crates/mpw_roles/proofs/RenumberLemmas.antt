@@ -1,4 +1,4 @@
--- The table of roles with other numbers.
+-- The table of roles with new numbers.
 use Rattle.std.proofs.Common.{◌≡◌, ℕ, zero, suc, ◌+◌, ◌<◌, ◌≤◌, true, false, cond, not, ◌||◌, inl, inr, List, [], ◌∷◌, ◌++◌, length, map, filter, take, get_or, eqb, eq-eqb, Some, None, is_some, refl, sym, ap, ◌∙◌, true≢false, arith}
 use Rattle.std.specs.Prelude.{position, unwrap_or}
 use Rattle.std.specs.List.{list_all, range_with_len}
@@ -15,7 +15,7 @@ use Rattle.mpw_roles.proofs.NumberLemmas.{or_later, eqb-back, position-once, dis
 use Rattle.mpw_roles.proofs.PositionLemmas.{item-there, position-any}
 use Rattle.mpw_roles.proofs.BoolLemmas.{refuted, and_parts, and_both}
 
--- one item more
+-- one more item
 pub mapped-more : {A B : Type 0} (f : A → B) (xs : List A) (i : ℕ) (d x : A) → i < length xs
     → x ≡ get_or xs i d → map f (take (i + 1) xs) ≡ map f (take i xs) ++ f x ∷ []
 mapped-more f xs i d x inside is = ap (map f) (take_more xs i d inside)
@@ -54,7 +54,7 @@ range-once k (suc n) = and_both (not (has_number (range_with_len (k + 1) n) k)) 
     let low = (range-has (k + 1) n k there).0 in absurd (omega (arith, low)))))
     (range-once (k + 1) n)
 
--- a number by its place and back
+-- a number by its index, and back
 place-back : (os : List ℕ) (n : ℕ) → has_number os n ≡ true
     → (place_in os n < length os) × (get_or os (place_in os n) 0 ≡ n)
 place-back os n there = found (position (λ m. eqb n m) os) refl
@@ -79,7 +79,7 @@ same-test os i n once inside there = both_ways _ _
     (λ is. eq-eqb i (place_in os n) (sym (place-of-item os i once inside)
     ∙ ap (place_in os) (eqb-back (get_or os i 0) n is)))
 
--- the juniors of a role by their places
+-- the juniors of a role by their indexes
 placed-juniors : (ns : List Name) (os : List ℕ) (ps : List Pair) (i : ℕ) → are_once os ≡ true
     → list_all (is_between os) ps ≡ true → i < length os
     → map (name_of (map (name_of ns) os)) (juniors_of (map (placed_pair os) ps) i)

@@ -1,4 +1,4 @@
--- What each change of the table makes of its row of tests.
+-- What each change of the table means for its decision table.
 use Rattle.std.proofs.Common.{◌≡◌, ◌<◌, true, false, length, Ok, refl}
 use Rattle.std.specs.Prelude.{nat_lt}
 use borrow.Author.Tests.{lt-ltb}

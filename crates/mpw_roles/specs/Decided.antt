@@ -1,4 +1,5 @@
--- A row of tests: a request is tested in the order of its row, and the first test that fails answers.
+-- Decision tables: a request is tested in the order of its table, and the first test that fails
+-- decides the answer.
 use Rattle.std.specs.Prelude.{Bool, List, [], ◌∷◌, Result, Ok, Err, if◌then◌else◌}
 
 abbrev pub decided : {A F : Type 0} → List (Bool × F) → A → Result A F

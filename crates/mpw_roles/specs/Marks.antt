@@ -1,4 +1,4 @@
--- Marks beside the roles: a list of tests, one for each role at its place.
+-- Marks of the roles: a list of tests, with one at the index of each role.
 use Rattle.std.specs.Prelude.{Bool, List, [], ◌∷◌, if◌then◌else◌}
 use Rattle.mpw_roles.specs.Hierarchy.{Name, Hierarchy}
 

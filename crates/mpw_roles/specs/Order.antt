@@ -9,7 +9,7 @@ use Rattle.mpw_roles.specs.Hierarchy.{Name, Hierarchy, max_roles, role_names, is
 abbrev pub IsAtLeast : Hierarchy → Name → Name → Type 0
 IsAtLeast hierarchy senior junior = Leads hierarchy senior junior
 
--- the same as a test
+-- the same, as a test
 abbrev pub at_least : Hierarchy → Name → Name → Bool
 at_least = leads
 
@@ -21,13 +21,13 @@ is_below hierarchy seniors role = list_any (λ senior. at_least hierarchy senior
 abbrev pub roles_below : Hierarchy → List Name → List Name
 roles_below hierarchy seniors = filter (is_below hierarchy seniors) (role_names hierarchy)
 
--- whether no name stands twice
+-- whether each name occurs once
 abbrev pub are_distinct : List Name → Bool
 are_distinct [] = true
 are_distinct (name ∷ names) = not (contains_name names name) && are_distinct names
 
--- what every hierarchy keeps: at most `max_roles` roles, each once; pairs of roles, each once; and no chain from a junior of a
--- pair up to its senior, so that the order is a partial order
+-- the invariant of a hierarchy: at most `max_roles` roles, each once; pairs of roles, each once; and no chain
+-- from a junior of a pair up to its senior, so that the order is a partial order
 pub record IsHierarchy (hierarchy : Hierarchy) : Type 0 where
   pub small : length hierarchy ≤ max_roles
   pub roles_once : are_distinct (role_names hierarchy) ≡ true

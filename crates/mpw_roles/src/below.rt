@@ -1,4 +1,4 @@
-//! The roles at or below some others, as a mask of their places.
+//! The roles at or below some others, as a mask of their indexes.
 ghost use Rattle.std.specs.Prelude.{◌≡◌, ◌<◌, ◌+◌, ◌++◌, length, IfOk, OnOk, drop};
 ghost use Rattle.mpw_geom.specs.Names.{contains_name};
 ghost use Rattle.mpw_roles.specs.Marks.{marked_names};
@@ -10,7 +10,7 @@ use mpw_geom::{Name, Names};
 use std::alloc::{AllocError, Global};
 use std::marker::Model;
 
-/// Adds the role at a place to the names, where the mask has the place.
+/// Adds the role at an index to the names, if the mask has the index.
 fn push_marked(
     table: &Table,
     mask: &Mask,
@@ -30,7 +30,7 @@ fn push_marked(
     Ok(())
 }
 
-/// The roles at or below some seniors, in the order of the roles: a mask beside the roles.
+/// The roles at or below some seniors, in the order of the roles: the roles with a mask.
 #[derive(Drop)]
 pub struct Below<'a> {
     table: &'a Table,
@@ -48,14 +48,14 @@ impl<'a> Model for Below<'a> {
 }
 
 impl<'a> Below<'a> {
-    /// The roles whose places the mask has. It takes no memory.
+    /// The roles whose indexes the mask has. It takes no memory.
     pub(crate) fn new(table: &'a Table, mask: Mask) -> Below<'a>
         ensures { result ≡ marked_names table.now (marks_from 0 (length table.now) mask) }
     {
         Below { table, mask }
     }
 
-    /// Whether the role is one of them: a look-up. It takes no memory.
+    /// Whether the role is one of them. Cost: a look-up. It takes no memory.
     pub fn contains(&self, role: &Name) -> bool
         ensures { result ≡ contains_name self.now role.now }
     {
@@ -68,7 +68,7 @@ impl<'a> Below<'a> {
     /// These roles, in the order of the roles.
     ///
     /// # Errors
-    /// Where there is no room for them.
+    /// Out of memory.
     pub fn names(&self, alloc: Global) -> Result<Names, AllocError>
         ensures { IfOk result (λ names. names ≡ self.now) }
     {

@@ -10,9 +10,9 @@ use std::fmt;
 /// Why a command on the hierarchy was refused.
 #[derive(Clone, Copy)]
 pub enum RolesFault {
-    /// What is named is no role (DeleteRole, AddInheritance).
+    /// A name isn't a role (DeleteRole, AddInheritance).
     NoRole,
-    /// The role is there (AddRole), or the two are an immediate pair (AddInheritance).
+    /// The role exists already (AddRole), or the two are an immediate pair (AddInheritance).
     Known,
     /// The junior is at least the senior, so the pair would close a cycle (AddInheritance).
     Cycle,
@@ -20,12 +20,12 @@ pub enum RolesFault {
     NoPair,
     /// There are 512 roles (AddRole).
     Full,
-    /// There was no room; the roles are as they were.
+    /// Memory ran out. The roles are unchanged.
     Memory,
 }
 
 impl RolesFault {
-    /// What is said of it.
+    /// The text of the fault.
     fn words(self) -> &'static str {
         match self {
             RolesFault::NoRole => "no such role",

@@ -1,10 +1,9 @@
-//! The role hierarchy: roles, their immediate pairs, and the order that these make
-//! (ANSI INCITS 359-2004, general role hierarchies).
+//! The role hierarchy: roles, their immediate pairs, and the order that these make (ANSI INCITS 359-2004, general role hierarchies).
 //!
-//! [`Roles`] keeps the commanded pairs, and for each role a [`Mask`]: the places of the roles at or below it, a bit
-//! each. The place of a role is where it stands in the order of the roles. So a question of order is one bit, and the
-//! roles below several others are their masks joined. A change of pairs keeps the masks right: a new pair joins masks,
-//! and where a pair or a role goes, all are written anew by a pass over them for each pair that is left.
+//! [`Roles`] stores the pairs that were added, and for each role a [`Mask`]: the indexes of the roles at or below it, one bit each. The
+//! index of a role is its position in the order of the roles. So a question of order is one bit, and the roles below several others are the
+//! union of their masks. A change of pairs keeps the masks right. A new pair joins masks. If a pair or a role is removed, all masks are
+//! made again, with a pass over them for each pair that is left.
 #![tactic(auto)]
 
 mod below;

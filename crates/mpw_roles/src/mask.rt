@@ -1,4 +1,4 @@
-//! Sets of places, 512 at most, as the bits of eight words.
+//! Sets of indexes below 512, as the bits of eight words.
 ghost use Rattle.std.specs.Prelude.{◌≡◌, ℕ, ◌≤◌, ◌<◌, true, false, ◌||◌, ◌&&◌, ◌==◌, not, length, OnOk};
 ghost use Rattle.mpw_roles.specs.Mask.{has, common};
 ghost use Rattle.mpw_roles.specs.Places.{mask_at};
@@ -8,24 +8,24 @@ use std::alloc::AllocError;
 /// The number of words.
 const WORDS: usize = 8;
 
-/// The number of places.
+/// The number of possible indexes.
 const PLACES: usize = 512;
 
-/// A set of places below 512: what one word does to 64 places at once.
+/// A set of indexes below 512. One operation on a word works on 64 indexes at once.
 #[derive(Clone, Copy)]
 pub struct Mask {
     words: [u64; WORDS],
 }
 
 impl Mask {
-    /// The set without places.
+    /// The empty set.
     pub fn new() -> Mask
         ensures { (place : ℕ) → has result place ≡ false }
     {
         Mask { words: [0; WORDS] }
     }
 
-    /// Whether the place is in the set.
+    /// Whether the index is in the set.
     pub fn contains(&self, place: usize) -> bool
         ensures { result ≡ has self.now place }
     {
@@ -35,7 +35,7 @@ impl Mask {
         (self.words[place / 64] >> (place % 64)) & 1 == 1
     }
 
-    /// Adds a place.
+    /// Adds an index.
     pub fn insert(&mut self, place: usize)
         requires { place < 512 }
         ensures { (other : ℕ) → has self.new other ≡ (has self.old other || other == place) }
@@ -43,7 +43,7 @@ impl Mask {
         self.words[place / 64] |= 1u64 << (place % 64);
     }
 
-    /// Takes a place away.
+    /// Removes an index.
     pub fn remove(&mut self, place: usize)
         requires { place < 512 }
         ensures { (other : ℕ) → has self.new other ≡ (has self.old other && not (other == place)) }
@@ -51,7 +51,7 @@ impl Mask {
         self.words[place / 64] &= !(1u64 << (place % 64));
     }
 
-    /// Adds the places of another set.
+    /// Adds the indexes of another set.
     pub fn add(&mut self, other: &Mask)
         ensures { (place : ℕ) → has self.new place ≡ (has self.old place || has other.now place) }
     {
@@ -60,7 +60,7 @@ impl Mask {
         }
     }
 
-    /// Whether a place is in both sets.
+    /// Whether some index is in both sets.
     pub fn meets(&self, other: &Mask) -> bool
         ensures some { result ≡ true → (place : ℕ) × (has self.now place ≡ true) × (has other.now place ≡ true) }
         ensures none { result ≡ false → (place : ℕ) → (has self.now place && has other.now place) ≡ false }
@@ -73,7 +73,7 @@ impl Mask {
         false
     }
 
-    /// How many places are in both sets: an `and` and a count of ones for each word.
+    /// How many indexes are in both sets. Cost: an `and` and a count of ones for each word.
     pub fn common(&self, other: &Mask) -> usize
         ensures { result ≡ common self.now other.now }
     {
@@ -85,10 +85,10 @@ impl Mask {
     }
 }
 
-/// Makes room for a mask behind so many: one more, where there are no others yet.
+/// Makes sure that there are more than `count` masks: adds one if there are no more.
 ///
 /// # Errors
-/// Where there is no room. The masks are then as they were.
+/// Out of memory. Then the masks are unchanged.
 pub fn reserve_mask(masks: &mut Vec<Mask>, count: usize) -> Result<(), AllocError>
     requires { count ≤ length masks.old.items }
     ensures ok { OnOk result (count < length masks.new.items) }
@@ -101,7 +101,7 @@ pub fn reserve_mask(masks: &mut Vec<Mask>, count: usize) -> Result<(), AllocErro
     Ok(())
 }
 
-/// Each mask that has a place gets the places of another mask too.
+/// Adds the indexes of another mask to each mask that has an index.
 pub fn join_masks(masks: &mut [Mask], place: usize, added: &Mask)
     ensures joined { (k : ℕ) → k < length masks.old → (other : ℕ) → has (mask_at masks.new k) other ≡ (has (mask_at masks.old k) other || (has (mask_at masks.old k) place && has added.now other)) }
     ensures long { length masks.new ≡ length masks.old }

@@ -1,4 +1,4 @@
-//! Immediate pairs by the numbers of their roles, and where a number stands in the order of the roles.
+//! Immediate pairs by the numbers of their roles, and the index of a number in the order of the roles.
 ghost use Rattle.std.specs.Prelude.{◌≡◌, ◌==◌, not, true, filter, position};
 ghost use Rattle.std.specs.List.{list_any};
 ghost use Rattle.mpw_roles.specs.Internal.Table.{are_once, is_pair, is_end};
@@ -10,7 +10,7 @@ pub(crate) struct Pair {
     pub(crate) junior: usize,
 }
 
-/// Whether the pair of two numbers is there: a look at each pair.
+/// Whether the pair of two numbers exists. Cost: a comparison for each pair.
 pub(crate) fn has_pair(pairs: &[Pair], senior: usize, junior: usize) -> bool
     ensures { result ≡ list_any (is_pair senior junior) pairs.now }
 {
@@ -22,7 +22,7 @@ pub(crate) fn has_pair(pairs: &[Pair], senior: usize, junior: usize) -> bool
     false
 }
 
-/// The pair of two numbers goes. It takes no memory.
+/// Removes the pair of two numbers. It takes no memory.
 pub(crate) fn without_pair(pairs: &mut Vec<Pair>, senior: usize, junior: usize)
     ensures { pairs.new.items ≡ filter (λ pair. not (is_pair senior junior pair)) pairs.old.items }
 {
@@ -33,7 +33,7 @@ pub(crate) fn without_pair(pairs: &mut Vec<Pair>, senior: usize, junior: usize)
     );
 }
 
-/// Each pair of a role goes. It takes no memory.
+/// Removes each pair of a role. It takes no memory.
 pub(crate) fn without_ends(pairs: &mut Vec<Pair>, number: usize)
     ensures { pairs.new.items ≡ filter (λ pair. not (is_end number pair)) pairs.old.items }
 {
@@ -44,7 +44,7 @@ pub(crate) fn without_ends(pairs: &mut Vec<Pair>, number: usize)
     );
 }
 
-/// A number goes. It takes no memory.
+/// Removes a number. It takes no memory.
 pub(crate) fn without_number(order: &mut Vec<usize>, number: usize)
     ensures { order.new.items ≡ filter (λ other. not (number == other)) order.old.items }
 {
@@ -55,7 +55,8 @@ pub(crate) fn without_number(order: &mut Vec<usize>, number: usize)
     );
 }
 
-/// The place of a number in the order: a look at the place of that number, where no role went, and otherwise at each.
+/// The index of a number in the order. It is found at once if it is the number itself, as always if no role was removed. Else the search
+/// compares each.
 pub(crate) fn place_of(order: &[usize], number: usize) -> Option<usize>
     requires { are_once order.now ≡ true }
     ensures { result ≡ position (λ other. number == other) order.now }

@@ -1,4 +1,4 @@
-//! The places of names.
+//! The indexes of names.
 ghost use Rattle.std.specs.Prelude.{◌≡◌, ℕ};
 ghost use Rattle.mpw_roles.specs.Hierarchy.{role_names};
 ghost use Rattle.mpw_roles.specs.Mask.{has};
@@ -9,7 +9,7 @@ use crate::Mask;
 use crate::table::Table;
 use mpw_geom::Name;
 
-/// The places of those names that are roles: a look-up for each.
+/// The indexes of those names that are roles. Cost: a look-up for each.
 pub(crate) fn places_of(table: &Table, names: &[Name]) -> Mask
     requires { IsHierarchy table.now }
     ensures { (place : ℕ) → has result place ≡ is_place_of (role_names table.now) names.now place }

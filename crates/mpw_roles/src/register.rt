@@ -1,8 +1,8 @@
 //! Names, each once, with their numbers.
 //!
-//! A name's number is how many names came before it, and stays. Most names stand in a set that copies share, and the latest
-//! in a short list beside it: a copy is a count and the latest names, and a look-up a hash and a look at those. Where the list
-//! is full, the next name makes a set of all, of which each name in the list so pays a part.
+//! A name's number is how many names were added before it, and never changes. Most names are in a set that copies share. The latest names
+//! are in a short list next to it. A copy costs a count and the latest names. A look-up costs a hash and a comparison with each of the
+//! latest. If the list is full, the next name makes a new set of all. Each name in the list pays for a part of it.
 ghost use Rattle.std.specs.Prelude.{◌≡◌, ◌<◌, ◌≤◌, ◌∷◌, ◌++◌, [], true, false, length, position, slice_get, IfOk, IfSome, OnOk, OnErr};
 ghost use Rattle.std.specs.Option.{option_copied};
 ghost use Rattle.mpw_geom.specs.Names.{name_eq, contains_name};
@@ -13,10 +13,10 @@ use mpw_geom::{Name, Names};
 use std::alloc::{AllocError, Global};
 use std::marker::Model;
 
-/// How many names stand beside the set at most.
+/// The greatest number of names next to the set.
 const LATEST: usize = 32;
 
-/// Names, each once, in the order in which they were added. The number of a name is its place there.
+/// Names, each once, in the order in which they were added. The number of a name is its index in that order.
 pub struct Register {
     settled: Settled,
     latest: Names,
@@ -41,7 +41,7 @@ impl Model for Register {
     ghost invariant = { λ register. IsRegister register.settled register.latest };
 }
 
-/// The place of a name among some.
+/// The index of a name among some.
 fn place_among(names: &[Name], name: &Name) -> Option<usize>
     ensures { result ≡ position (name_eq name.now) names.now }
 {
@@ -53,8 +53,7 @@ fn place_among(names: &[Name], name: &Name) -> Option<usize>
     None
 }
 
-/// Takes the latest names into the set where there is no place for one more. Where there is no memory, all stay where they
-/// were.
+/// Moves the latest names into the set if their list is full. If memory runs out, all stay where they were.
 fn make_place(settled: &mut Settled, latest: &mut Names, alloc: Global) -> Result<(), AllocError>
     requires once { are_distinct (settled.old ++ latest.old) ≡ true }
     requires few { length latest.old ≤ 32 }
@@ -81,10 +80,10 @@ impl Register {
         }
     }
 
-    /// The register of these names: a hash for each.
+    /// The register of these names. Cost: a hash for each.
     ///
     /// # Errors
-    /// Where there is no room.
+    /// Out of memory.
     pub fn of_names(alloc: Global, names: &[Name]) -> Result<Register, AllocError>
         requires { are_distinct names.now ≡ true }
         ensures { IfOk result (λ register. register ≡ names.now) }
@@ -103,7 +102,7 @@ impl Register {
         self.settled.len() + self.latest.as_slice().len()
     }
 
-    /// The number of a name: a hash, and a comparison for each of the latest names where it is none of the others.
+    /// The number of a name. Cost: a hash. If it is none of the names in the set, also a comparison for each of the latest names.
     pub fn number(&self, name: &Name) -> Option<usize>
         ensures number { result ≡ position (name_eq name.now) self.now }
         ensures within { IfSome result (λ number. number < length self.now) }
@@ -130,10 +129,10 @@ impl Register {
         }
     }
 
-    /// Adds a name that isn't there.
+    /// Adds a name that isn't there yet.
     ///
     /// # Errors
-    /// Where there is no room; the names are then as they were.
+    /// Out of memory. Then the names are unchanged.
     pub fn push(&mut self, alloc: Global, name: Name) -> Result<(), AllocError>
         requires { contains_name self.old name ≡ false }
         ensures ok { OnOk result (self.new ≡ self.old ++ name ∷ []) }
@@ -144,10 +143,10 @@ impl Register {
         Ok(())
     }
 
-    /// The same names: a count, and one for each of the latest names.
+    /// The same names. Cost: a count, and one for each of the latest names.
     ///
     /// # Errors
-    /// Where there is no room.
+    /// Out of memory.
     pub fn copy(&self) -> Result<Register, AllocError>
         ensures { IfOk result (λ register. register ≡ self.now) }
     {

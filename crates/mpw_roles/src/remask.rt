@@ -1,4 +1,4 @@
-//! The masks of roles, joined along immediate pairs: for a new pair, or pair by pair anew.
+//! The masks of roles, joined along immediate pairs: for a new pair, or again for all pairs.
 ghost use Rattle.std.specs.Prelude.{◌≡◌, ℕ, ◌≤◌, ◌<◌, ◌==◌, ◌&&◌, ◌||◌, ◌++◌, ◌∷◌, [], List, length, true};
 ghost use Rattle.mpw_roles.specs.Internal.Table.{IsTable, entries_of, are_once};
 ghost use Rattle.mpw_roles.specs.Mask.{has};
@@ -9,7 +9,7 @@ use crate::Mask;
 use crate::mask::join_masks;
 use crate::pairs::{Pair, place_of};
 
-/// Writes the mask of a role that has no juniors: its own place.
+/// Sets the mask of a role without juniors: its own index.
 pub(crate) fn write_own(masks: &mut [Mask], place: usize)
     requires within { place < length masks.old }
     requires small { place < 512 }
@@ -22,7 +22,7 @@ pub(crate) fn write_own(masks: &mut [Mask], place: usize)
     masks[place] = own;
 }
 
-/// Writes the own place of each of so many roles.
+/// Sets the mask of each of the first `count` roles to its own index.
 fn write_all_own(masks: &mut [Mask], count: usize)
     requires within { count ≤ length masks.old }
     requires small { count ≤ 512 }
@@ -34,7 +34,7 @@ fn write_all_own(masks: &mut [Mask], count: usize)
     }
 }
 
-/// Each mask that has the place of the senior gets the places of the junior's mask.
+/// Adds the indexes of the junior's mask to each mask that has the senior's index.
 pub(crate) fn join_places(masks: &mut [Mask], senior: usize, junior: usize)
     requires senior { senior < length masks.old }
     requires junior { junior < length masks.old }
@@ -61,7 +61,7 @@ fn join_pair(order: &[usize], pair: &Pair, masks: &mut [Mask])
     join_places(masks, above, below);
 }
 
-/// Writes the mask of each role anew: a pass over the masks for each pair. It takes no memory.
+/// Makes the mask of each role again. Cost: a pass over the masks for each pair. It takes no memory.
 pub(crate) fn remask(order: &[usize], pairs: &[Pair], masks: &mut [Mask])
     requires once { are_once order.now ≡ true }
     requires small { length order.now ≤ 512 }

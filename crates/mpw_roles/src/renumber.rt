@@ -1,4 +1,4 @@
-//! The numbers of the table of roles anew: each role's is its place.
+//! New numbers for the table of roles: the number of each role is its index.
 ghost use Rattle.std.specs.Prelude.{◌≡◌, map, true, IfOk};
 ghost use Rattle.std.specs.List.{range_with_len};
 ghost use Rattle.mpw_roles.specs.Internal.Table.{name_of, are_once, place_in, placed_pair};
@@ -26,7 +26,7 @@ pub(crate) fn names_with(
     Ok(copy)
 }
 
-/// So many numbers from 0 on, with room for one more.
+/// The numbers from 0 on, `count` of them, with room for one more.
 pub(crate) fn numbers(alloc: Global, count: usize) -> Result<Vec<usize>, AllocError>
     ensures { IfOk result (λ numbers. numbers.items ≡ range_with_len 0 count) }
 {
@@ -37,7 +37,7 @@ pub(crate) fn numbers(alloc: Global, count: usize) -> Result<Vec<usize>, AllocEr
     Ok(numbers)
 }
 
-/// The pair by the places of its roles.
+/// The pair by the indexes of its roles.
 fn placed_pair(order: &[usize], pair: &Pair) -> Pair
     requires { are_once order.now ≡ true }
     ensures { result ≡ placed_pair order.now pair.now }
@@ -47,7 +47,7 @@ fn placed_pair(order: &[usize], pair: &Pair) -> Pair
     Pair { senior, junior }
 }
 
-/// The pairs by the places of their roles, with room for one more.
+/// The pairs by the indexes of their roles, with room for one more.
 pub(crate) fn placed_pairs(
     alloc: Global,
     order: &[usize],
@@ -63,7 +63,7 @@ pub(crate) fn placed_pairs(
     Ok(placed)
 }
 
-/// Whether each number is its place, and there is no other: then nothing is gained by other numbers.
+/// Whether each number is its own index, and there is no other number. Then new numbers gain nothing.
 pub(crate) fn is_straight(order: &[usize], count: usize) -> bool {
     if order.len() != count {
         return false;

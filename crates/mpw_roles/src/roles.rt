@@ -21,8 +21,8 @@ use std::slice;
 /// The greatest number of roles.
 pub const MAX_ROLES: usize = 512;
 
-/// Roles in the order in which they were added, each with its immediate juniors; and for the role at each place the mask
-/// of the places of the roles at or below it. There may be more masks than roles.
+/// Roles in the order in which they were added, each with its immediate juniors. The mask at the index of a role has the indexes of the
+/// roles at or below it. There may be more masks than roles.
 pub struct Roles {
     table: Table,
     masks: Vec<Mask>,
@@ -62,7 +62,7 @@ fn join(table: &Table, masks: &mut [Mask], senior: &Name, junior: &Name)
     join_places(masks, above, below);
 }
 
-/// The masks of the roles among the seniors, joined.
+/// The union of the masks of those seniors that are roles.
 fn union_of_masks(table: &Table, masks: &[Mask], seniors: &[Name]) -> Mask
     requires hierarchy { IsHierarchy table.now }
     requires masked { IsMasked table.now masks.now }
@@ -100,7 +100,7 @@ impl Roles {
         self.table.len()
     }
 
-    /// Whether that is a role.
+    /// Whether the role exists.
     pub fn contains(&self, role: &Name) -> bool
         ensures { result ≡ is_role self.now role.now }
     {
@@ -110,7 +110,7 @@ impl Roles {
     /// Adds a role, without pairs.
     ///
     /// # Errors
-    /// `Known`, then `Full`; or `Memory`. The roles are then as they were.
+    /// `Known`, then `Full`; or `Memory`. Then the roles are unchanged.
     pub fn add(&mut self, role: Name) -> Result<(), RolesFault>
         ensures ok { OnOk result (rows.add self.old role ≡ Ok self.new) }
         ensures refused { IfErr result (λ fault. (fault ≡ RolesFault.Memory) ⊎ (rows.add self.old role ≡ Err fault)) }
@@ -126,7 +126,7 @@ impl Roles {
         Ok(())
     }
 
-    /// Adds a role that isn't there, where there are fewer than the most.
+    /// Adds a role that doesn't exist yet, if there are fewer than the greatest number.
     fn add_new(&mut self, role: Name) -> Result<(), AllocError>
         requires new { is_role self.old role ≡ false }
         requires room { length self.old < 512 }
@@ -140,10 +140,10 @@ impl Roles {
         Ok(())
     }
 
-    /// Removes a role with each pair that it is in. It takes no memory, and costs a pass over the masks for each pair.
+    /// Removes a role with each pair that it is in. It takes no memory. Cost: a pass over the masks for each pair.
     ///
     /// # Errors
-    /// `NoRole`. The roles are then as they were.
+    /// `NoRole`. Then the roles are unchanged.
     pub fn remove(&mut self, role: &Name) -> Result<(), RolesFault>
         ensures ok { OnOk result (rows.remove self.old role.now ≡ Ok self.new) }
         ensures refused { IfErr result (λ fault. rows.remove self.old role.now ≡ Err fault) }
@@ -160,8 +160,7 @@ impl Roles {
     /// Makes the senior an immediate senior of the junior.
     ///
     /// # Errors
-    /// `NoRole`, then `Known`, then `Cycle` where the junior is at least the senior; or `Memory`. The roles are then
-    /// as they were.
+    /// `NoRole`, then `Known`, then `Cycle` if the junior is at least the senior; or `Memory`. Then the roles are unchanged.
     pub fn inherit(&mut self, senior: &Name, junior: &Name) -> Result<(), RolesFault>
         ensures ok { OnOk result (rows.inherit self.old senior.now junior.now ≡ Ok self.new) }
         ensures refused { IfErr result (λ fault. (fault ≡ RolesFault.Memory) ⊎ (rows.inherit self.old senior.now junior.now ≡ Err fault)) }
@@ -181,11 +180,10 @@ impl Roles {
         Ok(())
     }
 
-    /// Takes back that the senior is an immediate senior of the junior. It takes no memory, and costs a pass over the masks for
-    /// each pair.
+    /// Removes an immediate pair. It takes no memory. Cost: a pass over the masks for each pair.
     ///
     /// # Errors
-    /// `NoPair`. The roles are then as they were.
+    /// `NoPair`. Then the roles are unchanged.
     pub fn uninherit(&mut self, senior: &Name, junior: &Name) -> Result<(), RolesFault>
         ensures ok { OnOk result (rows.uninherit self.old senior.now junior.now ≡ Ok self.new) }
         ensures refused { IfErr result (λ fault. rows.uninherit self.old senior.now junior.now ≡ Err fault) }
@@ -199,14 +197,14 @@ impl Roles {
         Ok(())
     }
 
-    /// Whether the pair was commanded.
+    /// Whether the two are an immediate pair.
     pub fn is_immediate(&self, senior: &Name, junior: &Name) -> bool
         ensures { result ≡ is_immediate self.now senior.now junior.now }
     {
         self.table.is_immediate(senior, junior)
     }
 
-    /// The place of a role: where it stands in the order of the roles, which is its bit in every mask. A look-up.
+    /// The index of a role: its position in the order of the roles, and its bit in every mask. Cost: a look-up.
     pub fn place(&self, role: &Name) -> Option<usize>
         ensures place { result ≡ position (name_eq role.now) (role_names self.now) }
         ensures within { IfSome result (λ place. place < length self.now) }
@@ -215,14 +213,14 @@ impl Roles {
         self.table.place(role)
     }
 
-    /// The places of those names that are roles. It takes no memory, and costs a look-up for each name.
+    /// The indexes of those names that are roles. It takes no memory. Cost: a look-up for each name.
     pub fn places(&self, names: &[Name]) -> Mask
         ensures { (place : ℕ) → has result place ≡ is_place_of (role_names self.now) names.now place }
     {
         places_of(&self.table, names)
     }
 
-    /// The places of the roles at or below a role; of a name that is no role none. A look-up.
+    /// The indexes of the roles at or below a role. It is empty for a name that is no role. Cost: a look-up.
     pub fn mask(&self, role: &Name) -> Mask
         ensures { (place : ℕ) → has result place ≡ is_place_under self.now role.now place }
     {
@@ -232,16 +230,14 @@ impl Roles {
         }
     }
 
-    /// The places of the roles at or below some others, which need not be roles. It takes no memory, and costs a look-up
-    /// for each of them.
+    /// The indexes of the roles at or below some others, which need not be roles. It takes no memory. Cost: a look-up for each of them.
     pub fn mask_below(&self, seniors: &[Name]) -> Mask
         ensures { (place : ℕ) → has result place ≡ is_place_below self.now seniors.now place }
     {
         union_of_masks(&self.table, &self.masks, seniors)
     }
 
-    /// The roles at or below some others, which need not be roles. It takes no memory, and costs a look-up for each of
-    /// them.
+    /// The roles at or below some others, which need not be roles. It takes no memory. Cost: a look-up for each of them.
     pub fn below<'a>(&'a self, seniors: &[Name]) -> Below<'a>
         ensures { result ≡ roles_below self.now seniors.now }
     {
@@ -250,8 +246,7 @@ impl Roles {
         Below::new(&self.table, mask)
     }
 
-    /// The roles at the places of a mask. Where the mask was kept for some seniors, these are the roles at or below them. It
-    /// takes no memory.
+    /// The roles at the indexes of a mask. If the mask is that of some seniors, these are the roles at or below them. It takes no memory.
     pub fn at_places<'a>(&'a self, mask: &Mask) -> Below<'a>
         ensures { (seniors : List (List ℕ)) → ((place : ℕ) → has mask.now place ≡ is_place_below self.now seniors place) → result ≡ roles_below self.now seniors }
     {
@@ -259,8 +254,8 @@ impl Roles {
         Below::new(&self.table, *mask)
     }
 
-    /// Whether the senior is the junior, or a chain of immediate pairs leads from it down to the junior: two look-ups and
-    /// a bit. It takes no memory.
+    /// Whether the senior is the junior, or a chain of immediate pairs leads from it down to the junior. Cost: two look-ups and a bit. It
+    /// takes no memory.
     pub fn at_least(&self, senior: &Name, junior: &Name) -> bool
         ensures { result ≡ at_least self.now senior.now junior.now }
     {
@@ -270,10 +265,10 @@ impl Roles {
         }
     }
 
-    /// The roles at or below a role, by name: what `below` costs, and a sort.
+    /// The roles at or below a role, in alphabetical order. Cost: that of `below`, and a sort.
     ///
     /// # Errors
-    /// Where there is no room for them.
+    /// Out of memory.
     pub fn juniors(&self, role: &Name) -> Result<Names, AllocError>
         ensures { IfOk result (λ names. names ≡ by_name (roles_below self.now (role.now ∷ []))) }
     {
@@ -286,7 +281,7 @@ impl Roles {
     /// The same roles with the same pairs.
     ///
     /// # Errors
-    /// Where there is no room.
+    /// Out of memory.
     pub fn copy(&self) -> Result<Roles, AllocError>
         ensures { IfOk result (λ roles. roles ≡ self.now) }
     {
@@ -295,15 +290,14 @@ impl Roles {
         Ok(Roles { table, masks })
     }
 
-    /// Every value keeps what a hierarchy keeps: 512 roles at most, each once, pairs of roles, each once, and no cycle.
-    /// A law: the function does nothing.
+    /// Every value is a hierarchy: at most 512 roles, each once; pairs of roles, each once; and no cycle. A law: the function does nothing.
     pub fn is_hierarchy(&self)
         ensures { IsHierarchy self.now }
     {
         let _roles = &self.table;
     }
 
-    /// No cycle stands in any hierarchy, so the order is a partial order. A law: the function does nothing.
+    /// No hierarchy has a cycle, so the order is a partial order. A law: the function does nothing.
     pub fn order_is_antisymmetric(&self)
         ensures { (a b : RoleName) → at_least self.now a b ≡ true → at_least self.now b a ≡ true → a ≡ b }
     {

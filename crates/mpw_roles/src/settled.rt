@@ -10,7 +10,7 @@ use std::alloc::{AllocError, Global};
 use std::marker::Model;
 use std::sync::Arc;
 
-/// Names, each once, in the order in which they were added: none without a set.
+/// Names, each once, in the order in which they were added. Without a set there are none.
 pub(crate) struct Settled {
     names: Option<Arc<IndexSet<Name>>>,
 }
@@ -31,7 +31,7 @@ impl Model for Settled {
     ghost view = { λ settled. option_map_or (λ names. names.value.keys) settled.names [] };
 }
 
-/// Adds names that the set hasn't.
+/// Adds names that the set doesn't have.
 fn add_all(set: &mut IndexSet<Name>, names: &[Name]) -> Result<(), AllocError>
     requires { are_distinct (set.old.keys ++ names.now) ≡ true }
     ensures { OnOk result (set.new.keys ≡ set.old.keys ++ names.now) }
@@ -42,7 +42,7 @@ fn add_all(set: &mut IndexSet<Name>, names: &[Name]) -> Result<(), AllocError>
     Ok(())
 }
 
-/// Adds names that the set hasn't, and others behind them.
+/// Adds names that the set doesn't have, and others after them.
 fn add_both(set: &mut IndexSet<Name>, names: &[Name], others: &[Name]) -> Result<(), AllocError>
     requires empty { set.old.keys ≡ [] }
     requires once { are_distinct (names.now ++ others.now) ≡ true }
@@ -52,7 +52,7 @@ fn add_both(set: &mut IndexSet<Name>, names: &[Name], others: &[Name]) -> Result
     add_all(set, others)
 }
 
-/// A set of some names, and of others behind them.
+/// A set of some names, and of others after them.
 fn set_of(alloc: Global, names: &[Name], others: &[Name]) -> Result<IndexSet<Name>, AllocError>
     requires { are_distinct (names.now ++ others.now) ≡ true }
     ensures { IfOk result (λ set. set.keys ≡ names.now ++ others.now) }
@@ -92,7 +92,7 @@ impl Settled {
         }
     }
 
-    /// The place of a name: a hash and a comparison.
+    /// The index of a name. Cost: a hash and a comparison.
     pub(crate) fn place(&self, name: &Name) -> Option<usize>
         ensures { result ≡ position (name_eq name.now) self.now }
     {
@@ -102,7 +102,7 @@ impl Settled {
         }
     }
 
-    /// The name at a place.
+    /// The name at an index.
     pub(crate) fn get(&self, place: usize) -> Option<&Name>
         ensures { option_copied result ≡ slice_get self.now place }
     {
@@ -112,7 +112,7 @@ impl Settled {
         }
     }
 
-    /// These names, and others behind them: a hash for each.
+    /// These names, and others after them. Cost: a hash for each.
     pub(crate) fn with(&self, alloc: Global, others: &[Name]) -> Result<Settled, AllocError>
         requires { are_distinct (self.now ++ others.now) ≡ true }
         ensures { IfOk result (λ all. all ≡ self.now ++ others.now) }
@@ -123,7 +123,7 @@ impl Settled {
         })
     }
 
-    /// The same names: a count.
+    /// The same names. Cost: a count.
     pub(crate) fn copy(&self) -> Result<Settled, AllocError>
         ensures { IfOk result (λ settled. settled ≡ self.now) }
     {

@@ -1,8 +1,8 @@
 //! The table of roles: each role with its immediate juniors, in the order in which the roles were added.
 //!
-//! A role stands in it by its name's number in a [`Register`], which copies share, and a pair by two numbers. So a copy of
-//! the table copies plain numbers, and counts the latest names alone. A role that goes leaves its name in the register: to
-//! take it out takes no memory, and the next copy numbers the names anew.
+//! The table has a role as the number of its name in a [`Register`], which copies share, and a pair as two numbers. So a copy of the table
+//! copies plain numbers, and counts the latest names alone. If a role is removed, its name stays in the register, so the removal takes no
+//! memory. The next copy numbers the names again.
 ghost use Rattle.std.specs.Prelude.{◌≡◌, ℕ, ◌<◌, ◌≤◌, [], true, false, length, position, slice_get, slice_index_or, is_some, IfOk, IfSome, OnOk, OnErr, Some};
 ghost use Rattle.std.specs.Option.{option_copied};
 ghost use Rattle.mpw_geom.specs.Names.{name_eq};
@@ -50,7 +50,7 @@ impl Model for Table {
     ghost invariant = { λ table. IsTable table.names table.pairs.items table.order.items };
 }
 
-/// The number of a name, which gets one where it has none.
+/// The number of a name. A name without a number gets one.
 fn number_of(names: &mut Register, alloc: Global, name: Name) -> Result<usize, AllocError>
     ensures number { IfOk result (λ number. Some number ≡ position (name_eq name) names.new) }
     ensures once { are_distinct names.new ≡ true }
@@ -77,10 +77,10 @@ impl Table {
         }
     }
 
-    /// The same roles. The names are numbered anew where roles went.
+    /// The same roles. If roles were removed, the names are numbered again.
     ///
     /// # Errors
-    /// Where there is no room.
+    /// Out of memory.
     pub(crate) fn copy(&self) -> Result<Table, AllocError>
         ensures { IfOk result (λ table. table ≡ self.now) }
     {
@@ -90,7 +90,7 @@ impl Table {
         self.copy_with_new_numbers()
     }
 
-    /// The same roles with the same numbers: a copy of the numbers, and what a copy of the register costs.
+    /// The same roles with the same numbers. Cost: a copy of the numbers, and that of a copy of the register.
     fn copy_with_same_numbers(&self) -> Result<Table, AllocError>
         ensures { IfOk result (λ table. table ≡ self.now) }
     {
@@ -105,8 +105,7 @@ impl Table {
         })
     }
 
-    /// The same roles with other numbers, each its place: a hash for each role, and for each pair two looks through the
-    /// order of the roles.
+    /// The same roles with new numbers, each its index. Cost: a hash for each role, and for each pair two searches through the order of the roles.
     fn copy_with_new_numbers(&self) -> Result<Table, AllocError>
         ensures { IfOk result (λ table. table ≡ self.now) }
     {
@@ -123,7 +122,7 @@ impl Table {
         })
     }
 
-    /// Writes the mask of each role anew: a pass over the masks for each pair. It takes no memory.
+    /// Makes the mask of each role again. Cost: a pass over the masks for each pair. It takes no memory.
     pub(crate) fn remask(&self, masks: &mut [Mask])
         requires small { length self.now ≤ 512 }
         requires long { length self.now ≤ length masks.old }
@@ -145,7 +144,7 @@ impl Table {
         self.order.len()
     }
 
-    /// The place of a role: a look-up of its name's number.
+    /// The index of a role. Cost: a look-up of its name's number.
     pub(crate) fn place(&self, role: &Name) -> Option<usize>
         ensures place { result ≡ position (name_eq role.now) (role_names self.now) }
         ensures found { is_some result ≡ is_role self.now role.now }
@@ -158,7 +157,7 @@ impl Table {
         }
     }
 
-    /// The name of the role at a place.
+    /// The name of the role at an index.
     pub(crate) fn name(&self, place: usize) -> Option<&Name>
         ensures { option_copied result ≡ slice_get (role_names self.now) place }
     {
@@ -168,7 +167,7 @@ impl Table {
         }
     }
 
-    /// Whether the pair was commanded: two look-ups, and a look at each pair.
+    /// Whether the two are an immediate pair. Cost: two look-ups, and a comparison for each pair.
     pub(crate) fn is_immediate(&self, senior: &Name, junior: &Name) -> bool
         ensures { result ≡ is_immediate self.now senior.now junior.now }
     {
@@ -184,7 +183,7 @@ impl Table {
     /// Adds a role, without pairs.
     ///
     /// # Errors
-    /// Where there is no room. The roles are then as they were.
+    /// Out of memory. Then the roles are unchanged.
     pub(crate) fn add(&mut self, role: Name) -> Result<(), AllocError>
         requires { is_role self.old role ≡ false }
         ensures ok { OnOk result (self.new ≡ with_role self.old role) }
@@ -211,7 +210,7 @@ impl Table {
     /// Adds an immediate pair of roles.
     ///
     /// # Errors
-    /// Where there is no room. The roles are then as they were.
+    /// Out of memory. Then the roles are unchanged.
     pub(crate) fn add_pair(&mut self, senior: &Name, junior: &Name) -> Result<(), AllocError>
         requires senior { is_role self.old senior.now ≡ true }
         requires junior { is_role self.old junior.now ≡ true }
@@ -228,7 +227,7 @@ impl Table {
         Ok(())
     }
 
-    /// Takes an immediate pair of roles away. It takes no memory.
+    /// Removes an immediate pair of roles. It takes no memory.
     pub(crate) fn remove_pair(&mut self, senior: &Name, junior: &Name)
         requires senior { is_role self.old senior.now ≡ true }
         requires junior { is_role self.old junior.now ≡ true }

@@ -1,4 +1,4 @@
--- What events are answered, step by step.
+-- The answers to events, step by step.
 use Rattle.std.proofs.Common.{◌≡◌, ℕ, ◌+◌, ◌^◌, ◌<◌, ◌≤◌, Bool, true, false, List, length, get_or, Option, Some, None, refl, sym, subst, ap, ◌∙◌}
 use Rattle.std.specs.Prelude.{slice_get, slice_set, is_some, if◌then◌else◌}
 use Rattle.std.proofs.lemmas.Bool.{false≢true}
@@ -25,7 +25,7 @@ use Rattle.mpw_run.proofs.TileLists.{new_tile}
 use Rattle.mpw_run.proofs.Opened.{filled_lists, answers_all}
 use Rattle.mpw_run.proofs.Changes.{phase_of, cut_prepared, last, keep_prepared, finish_prepared}
 
--- ---- what events are answered, step by step
+-- ---- the answers to events, step by step
 
 abbrev Prepares : Prepared → Run → Outcome → Type 0
 Prepares p run o = IsPrepared p run o
@@ -60,7 +60,7 @@ own_job p run c answer x e s t h =
     (subst (λ (y : Option Tile). Prepares p run
     (kept run c (set_tile (answered_by answer.markers) answer.job.tile c.tiles y))) e h))
 
--- ---- what is prepared, by the code's values
+-- ---- what is prepared, in terms of the code's values
 
 -- the check begins
 pub cut_is : (run : Run) (planned : Planned) (answer : CutWindows) (windows : List (List Rectangle))
@@ -78,7 +78,8 @@ cut_is run planned answer windows xs e few h same right w x =
     made : List (List Rectangle) → List Tile → Prepared
     made ws ts = record { reply = reply.Kept; change = change.Check ws ts }
 
--- what is true of a tile that is answered now: there is such a tile, which is not answered yet, and the markers answer its job
+-- what holds of a tile that is answered now: there is such a tile, it is unanswered, and the markers are
+-- those of its job
 pub record IsOpen (run : Run) (c : Checks) (answer : FoundMarkers) (k : ℕ) : Type 0 where
   pub phase : run.phase ≡ Checking c
   pub few : run.number < 2 ^ 32
@@ -113,7 +114,7 @@ answers_job : (run : Run) (c : Checks) (answer : FoundMarkers) (k : ℕ) → IsO
     → Answers (job_of_tile run.number c k) answer.markers
 answers_job run c answer k h = subst (λ (t : TileJob). Answers t answer.markers) h.job h.right
 
--- what is kept is the reply to the answer
+-- the outcome `kept` is that of the answer
 own_kept : (p : Prepared) (run : Run) (c : Checks) (answer : FoundMarkers) (k : ℕ)
     → IsOpen run c answer k
     → Prepares p run (kept run c (set_tile (answered_by answer.markers) k c.tiles
@@ -141,7 +142,7 @@ own_kept p run c answer k h made =
     open_now = ap (λ (a : Option (List Marker)). is_some a)
         (h.unanswered (tile_at c n) (ap (slice_get c.tiles) same ∙ at))
 
--- a tile is left
+-- an unanswered tile is left
 pub keep_is : (run : Run) (c : Checks) (answer : FoundMarkers) (k : ℕ) (m : List Marker)
     → IsOpen run c answer k → m ≡ answer.markers → answered c.tiles + 1 < tiles c.planned.plan
     → IsPrepared (let p : Prepared = record { reply = reply.Kept; change = change.Keep k m } in p)

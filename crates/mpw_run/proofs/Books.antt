@@ -8,7 +8,7 @@ use Rattle.mpw_markers.specs.Markers.{HasRow}
 use Rattle.mpw_markers.specs.Book.{IsBook}
 use Rattle.mpw_markers.proofs.Marked.{alike}
 
--- markers of a book that have a row of a line are one
+-- markers of a book that share a row of a line are one
 pub one_by_row : (book : List Marker) (m n : Marker) (line : Line) (j : ℤ) → IsBook book
     → Contains book m → Contains book n → HasRow m line j → HasRow n line j → m ≡ n
 one_by_row book m n line j h p q r s =

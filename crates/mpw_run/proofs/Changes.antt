@@ -1,4 +1,4 @@
--- What changes keep.
+-- What changes preserve.
 use Rattle.std.proofs.Common.{◌≡◌, ℕ, ◌+◌, ◌^◌, ◌<◌, ◌≤◌, Bool, true, false, List, Option, Some, None, refl, sym, subst, ap, ◌∙◌, arith}
 use Rattle.std.specs.Prelude.{◌==◌, slice_get, slice_set, option_map, if◌then◌else◌}
 use Rattle.std.proofs.lemmas.Bool.{eqb-true, eq-eqb}
@@ -26,7 +26,7 @@ use Rattle.mpw_run.proofs.Opened.{raise_keeps, answer_keeps, begins, finishes}
 
 -- ---- what is prepared
 
--- what is true of a run, by the phase that it has
+-- what holds of a run, by its phase
 pub phase_of : (run : Run) (phase : Phase) → run.phase ≡ phase → IsRun run
     → IsPhase run.number phase
 phase_of run phase e h = subst (IsPhase run.number) e h
@@ -153,7 +153,7 @@ test_is_not a b x y ne = by (a == b) refl
     by true e = absurd (ne (eqb-true a b e))
     by false e = refl
 
--- the markers of a tile are kept, and a tile is left
+-- the markers of a tile are accepted, and an unanswered tile is left
 pub keep_prepared : (run : Run) (c : Checks) (k : ℕ) (x : Tile) (m : List Marker)
     → run.phase ≡ Checking c → run.number < 2 ^ 32 → IsRun run
     → slice_get c.tiles k ≡ Some x → x.answer ≡ None → Answers (job_of_tile run.number c k) m

@@ -23,7 +23,7 @@ names = pointwise_decides Decides-eqb
 pub lists : {X : Type 0} (test : X → X → Bool) → Exact test → Exact (pointwise test)
 lists test exact = pointwise_decides exact
 
--- a test that decides something else that is as good, and two parts, three, and four
+-- a test that decides an equivalent statement; and tests with two parts, three, and four
 pub one : {P X : Type 0} (p : Bool) → Decides p P → (P → X) → (X → P) → Decides p X
 one p f to from = Decides-like p to from f
 
@@ -73,7 +73,7 @@ layers a b =
     (λ e f. λ i. record { layer = e i; datatype = f i })
     (λ e. (ap (λ (l : Layer). l.layer) e, ap (λ (l : Layer). l.datatype) e))
 
--- the orientation at a place
+-- the orientation at an index
 orient_at : ℕ → Orient
 orient_at n = get_or (R0 ∷ R90 ∷ R180 ∷ R270 ∷ M0 ∷ M90 ∷ M180 ∷ M270 ∷ []) n R0
 

@@ -145,7 +145,7 @@ structures a b =
     (λ e f. λ i. record { name = e i; elements = f i })
     (λ e. (ap (λ (p : Structure). p.name) e, ap (λ (p : Structure). p.elements) e))
 
--- ---- submissions, and where they are placed
+-- ---- submissions, and their places
 
 bindings : Exact same_binding
 bindings a b =
@@ -246,7 +246,7 @@ decks a b =
     (λ e f. λ i. record { tile = e i; rules = f i })
     (λ e. (ap (λ (d : Deck). d.tile) e, ap (λ (d : Deck). d.rules) e))
 
--- ---- what a run looks at, and the job of a tile
+-- ---- what a run checks, and the job of a tile
 
 pub snapshots : (a b : Snapshot) → Decides (same_snapshot a b) (a ≡ b)
 unfolding same_snapshot

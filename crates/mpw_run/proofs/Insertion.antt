@@ -1,4 +1,4 @@
--- One marker more in a book.
+-- One more marker in a book.
 use Rattle.std.proofs.Common.{[], ◌≡◌, ℕ, suc, ℤ, ◌≤ℤ◌, Bool, true, false, List, ◌∷◌, ◌⊎◌, inl, inr, refl, sym, subst, ap, ◌∙◌, arith}
 use Rattle.std.specs.Prelude.{int_lt, Contains, ◌↔◌, if◌then◌else◌}
 use Rattle.std.specs.Ordering.{ordering_reverse}
@@ -23,7 +23,7 @@ use Rattle.mpw_run.proofs.Books.{one_by_row}
 use Rattle.mpw_run.specs.Stitching.{joined, beside, placed, with_marker}
 use Rattle.mpw_run.proofs.Uniting.{head_at, none_in, cons_pairs, union_has, union_ascends}
 
--- ---- where a marker stands
+-- ---- the position of a marker
 
 abbrev Position : Marker → Marker → Ordering → Type 0
 Position m n Less = StandsBefore m n
@@ -45,9 +45,9 @@ position m n Equal e = tests (int_lt m.y1 n.y0) (int_lt n.y1 m.y0) refl refl
     tests false true f g = inr (sym same, lt_from_test n.y1 m.y0 g)
     tests false false f g = (same, ge_from_test m.y1 n.y0 f, ge_from_test n.y1 m.y0 g)
 
--- ---- one marker more
+-- ---- one more marker
 
--- a part with a row and numbers that ascend
+-- a part with a row and ascending numbers
 abbrev pub IsPart : Marker → Type 0
 IsPart m = IsFilled m × IsAscending m.met
 
@@ -63,7 +63,7 @@ wider a b line j l r = (sym l.0 ∙ r.0, omega (arith, ints, l.1, r.1), omega (a
 pub own_rows : (n : Marker) → IsFilled n → HasRow n (line_of n) n.y0
 own_rows n f = (refl, omega (arith, ints), f)
 
--- a marker stands before each marker of a book whose parts it stands before
+-- a marker before all parts of a book is before each marker of the book
 before_all : (P : Marker → Type 0) (n : Marker) (book : List Marker) → IsJoined P book
     → ((p : Marker) → P p → StandsBefore n p) → (y : Marker) → Contains book y → StandsBefore n y
 before_all P n book h near y c =
@@ -71,7 +71,7 @@ before_all P n book h near y c =
     let p = (h.rows (line_of y) y.y0).0 (y, c, own_rows y f) in
     StandsBefore-begins n p.0 y (near p.0 p.1) (inr (p.2.0, p.2.1))
 
--- a marker that stands before the parts of a book is put before it
+-- a marker before the parts of a book is put before it
 put_first : (P : Marker → Type 0) (n : Marker) (book : List Marker) → IsJoined P book → AreParts P
     → IsPart n → ((p : Marker) → P p → StandsBefore n p) → IsJoined (λ x. (n ≡ x) ⊎ P x) (n ∷ book)
 put_first P n book h parts own near = record {
@@ -237,7 +237,7 @@ split_part P m n book touch pm pn h = record {
           ((union_has n.met m.met o).1 (inl (subst (λ (z : Marker). Contains z.met o) (sym e) p.3)))
     ]
 
--- a book has its own markers for parts
+-- the parts of a book are its own markers
 pub own_book : (book : List Marker) → IsBook book → IsJoined (Contains book) book
 own_book book b = record {
   markers = b;

@@ -7,7 +7,7 @@ use Rattle.mpw_markers.specs.declared.marker.Marker.{Marker}
 use Rattle.mpw_run.specs.Run.{Tile}
 use Rattle.mpw_run.specs.Step.{Offer, handed_out, first_of, offered, next_from}
 
--- The offer is a tile of the list, counted from a number on, and is not answered.
+-- The offer is a tile of the list, counted from a number on, and is unanswered.
 pub record IsOffered (from : ℕ) (xs : List Tile) (o : Offer) : Type 0 where
   pub place : ℕ
   pub number : o.number ≡ from + place
@@ -59,7 +59,7 @@ pub next_is : (k : ℕ) (xs : List Tile) (o : Offer) → next_from k xs ≡ Some
 next_is k [] o e = absurd (none-some o e)
 next_is k (x ∷ xs) o e = offered_is k x xs o (λ p f. next_is (k + 1) xs p f) e
 
--- ---- the loop, which goes over the tiles from the last to the first
+-- ---- the loop, from the last tile to the first
 
 pub next_none : (xs : List Tile) (n : ℕ) → length xs ≤ n → next_from n (drop n xs) ≡ None
 next_none xs n l = ap (next_from n) (drop_all n xs l)
@@ -72,7 +72,7 @@ next_back xs k x l e =
     ∙ ap (λ (t : Tile). offered t.answer (record { number = k; tile = t })
     (next_from (k + 1) (drop (k + 1) xs))) (sym e)
 
--- one tile more is passed
+-- one more tile is passed
 pub next_step : (xs : List Tile) (rest : ℕ) (x : Tile) (best next : Option (ℕ × ℕ)) → 0 < rest
     → rest ≤ length xs → x ≡ get_or xs (rest - 1) x
     → best ≡ option_map handed_out (next_from rest (drop rest xs))

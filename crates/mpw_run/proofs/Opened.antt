@@ -1,4 +1,4 @@
--- What is true of checks, and of the book.
+-- What holds of checks, and of the book.
 use Rattle.std.proofs.Common.{◌≡◌, ℕ, ◌<◌, ◌≤◌, List, [], length, get_or, Some, sym, subst, ap, ◌∙◌, inl, inr, arith, length-set}
 use Rattle.std.specs.Prelude.{slice_get, slice_set}
 use Rattle.std.proofs.Math.ListN.{length-replicate}
@@ -22,13 +22,13 @@ use Rattle.mpw_run.specs.Stitching.{stitched, AreFilled}
 use Rattle.mpw_run.specs.Laws.{StitchedComputes}
 use Rattle.mpw_run.proofs.TileLists.{same_tile, other_tile, raised_same, new_answered, new_open, all_answered}
 
--- ---- what is true of checks
+-- ---- what holds of checks
 
 -- a plan has a tile
 pub some_tile : (plan : Tiling) → 1 ≤ tiles plan
 some_tile plan = omega (arith, some_columns plan.grid, columns_few plan.grid)
 
--- a tile that is set keeps it, where its answer is right and a tile is left
+-- setting a tile preserves it, if its answer is right and an unanswered tile is left
 pub set_keeps : (run : ℕ) (c : Checks) (k : ℕ) (x y : Tile) → IsChecks run c
     → slice_get c.tiles k ≡ Some x
     → ((markers : List Marker) → y.answer ≡ Some markers
@@ -81,7 +81,7 @@ begins run planned windows h = record {
 
 -- ---- the book
 
--- what is kept for all tiles answers them
+-- the stored answers of all tiles answer them
 pub answers_tiles : (run : ℕ) (planned : Planned) (windows : List (List Rectangle)) (xs : List Tile)
     → length xs ≡ tiles planned.plan → answered xs ≡ tiles planned.plan
     → ((k : ℕ) (t : Tile) (m : List Marker) → slice_get xs k ≡ Some t → t.answer ≡ Some m
@@ -94,7 +94,7 @@ answers_tiles run planned windows xs count all right = record {
       right k a.0 (get_or (answers_of xs) k []) a.1 a.2;
 }
 
--- answers have rows, and meet numbers that ascend
+-- answers have rows, and touch submissions with ascending numbers
 pub filled_lists : (s : Snapshot) (plan : Tiling) (windows : List (List Rectangle)) (run : ℕ)
     (lists : List (List Marker)) → AnswerTiles s plan windows run lists → AreFilled lists
 filled_lists s plan windows run lists a m p =

@@ -69,7 +69,7 @@ own_none x e = ap (λ (a : Option (List Marker)). length (option_to_list a)) e
 pub own_some : (x : Tile) (m : List Marker) → x.answer ≡ Some m → length (own x) ≡ 1
 own_some x m e = ap (λ (a : Option (List Marker)). length (option_to_list a)) e
 
--- a tile is answered, that was not, or that was
+-- a tile is answered, which was unanswered or not
 pub one_answered : (xs : List Tile) (k : ℕ) (x : Tile) (m : List Marker) → slice_get xs k ≡ Some x
     → x.answer ≡ None → answered (slice_set xs k (answered_by m x)) ≡ answered xs + 1
 one_answered xs k x m e n = omega (
@@ -103,7 +103,7 @@ pub new_open : (n k : ℕ) (x : Tile) (m : List Marker) → slice_get (new_tiles
     → x.answer ≡ Some m → ⊥
 new_open n k x m e s = none-some m (sym (new_get n k x e) ∙ s)
 
--- where all are answered, the lists are by tile
+-- if all are answered, the lists are by tile
 abbrev pub HasAnswer : List Tile → ℕ → Type 0
 HasAnswer xs k =
     (x : Tile) × (slice_get xs k ≡ Some x) × (x.answer ≡ Some (get_or (answers_of xs) k []))
@@ -142,7 +142,7 @@ all_answered (t ∷ xs) e k l = answered_on t xs (λ f j u. all_answered xs f j 
 
 -- ---- loops
 
--- one tile more is listed
+-- one more tile is listed
 pub answers_more : (xs : List Tile) (k : ℕ) (x : Tile) → slice_get xs k ≡ Some x
     → answers_of (take (k + 1) xs) ≡ answers_of (take k xs) ++ own x
 answers_more xs k x e =
@@ -151,7 +151,7 @@ answers_more xs k x e =
     ∙ ap (λ (t : Tile). answers_of (take k xs) ++ (own t ++ [])) (get_or_from_slice_get xs k x x e)
     ∙ ap (λ (zs : List (List Marker)). answers_of (take k xs) ++ zs) (append-nil (own x))
 
--- a tile of the list is set, by a test of its place
+-- a tile of the list is set, by a test of its index
 pub set_there : (change : Tile → Tile) (k : ℕ) (xs : List Tile) (x : Tile) → slice_get xs k ≡ Some x
     → set_tile change k xs (slice_get xs k) ≡ slice_set xs k (change x)
 set_there change k xs x e = ap (set_tile change k xs) e
@@ -161,7 +161,7 @@ set_there change k xs x e = ap (set_tile change k xs) e
 regroup : {X : Type 0} (a b c d : List X) → ((a ++ b) ++ c) ++ d ≡ a ++ ((b ++ c) ++ d)
 regroup a b c d = simp append_assoc
 
--- the lists before a tile, those of the tile, and those behind it
+-- the lists before a tile, those of the tile, and those after it
 pub set_lists : (xs : List Tile) (k : ℕ) (x : Tile) (m : List Marker) → slice_get xs k ≡ Some x
     → (answers_of (take k xs) ++ m ∷ []) ++ answers_of (drop (k + 1) xs)
     ≡ answers_of (slice_set xs k (answered_by m x))
@@ -173,7 +173,7 @@ set_lists (t ∷ xs) (suc k) x m e =
     ∙ regroup (own t) (answers_of (take k xs)) (m ∷ []) (answers_of (drop (k + 1) xs))
     ∙ ap (λ (ys : List (List Marker)). own t ++ ys) (set_lists xs k x m e)
 
--- one tile more is counted, and there are no more of them than tiles
+-- one more tile is counted, and there are no more of them than tiles
 pub count_more : (xs : List Tile) (k : ℕ) (x : Tile) → slice_get xs k ≡ Some x
     → answered (take (k + 1) xs) ≡ answered (take k xs) + length (own x)
 count_more xs k x e = ap (λ (ls : List (List Marker)). length ls) (answers_more xs k x e)
@@ -188,7 +188,7 @@ count_within xs k x e =
 abbrev pub new_tile : Tile
 new_tile = record { taken = 0; answer = None }
 
--- the lists of all tiles, put together from those before a tile, its own and those behind it
+-- the lists of all tiles, put together from those before a tile, its own and those after it
 pub lists_are : (xs : List Tile) (k : ℕ) (m own_markers : List Marker)
     (none before along behind : List (List Marker)) → k < length xs → none ≡ []
     → before ≡ none ++ answers_of (take k xs) → own_markers ≡ m → along ≡ before ++ own_markers ∷ []

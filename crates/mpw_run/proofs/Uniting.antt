@@ -1,4 +1,4 @@
--- Numbers met, united.
+-- The union of the numbers of touched submissions.
 use Rattle.std.proofs.Common.{◌≡◌, ℕ, zero, suc, ◌<◌, Bool, true, false, List, [], ◌∷◌, get_or, ◌⊎◌, inl, inr, refl, sym, subst, ◌∙◌, arith}
 use Rattle.std.specs.Prelude.{◌==◌, nat_le, Contains, AllPairs, ◌↔◌, fold, if◌then◌else◌}
 use Rattle.std.proofs.lemmas.Bool.{cases_eq, eqb-true, eq-eqb, leb-true, leb-false, false≢true}
@@ -22,7 +22,7 @@ cons_pairs R y ys near rest zero (suc j) d l b =
     near (get_or ys j d) (Contains-get_or ys j d (omega (arith, b)))
 cons_pairs R y ys near rest (suc i) (suc j) d l b = rest i j d (omega (arith, l)) (omega (arith, b))
 
--- ---- numbers met
+-- ---- the numbers of touched submissions
 
 has_on : (n k : ℕ) (ks : List ℕ) (x : ℕ) → (Contains (met_with n ks) x ↔ ((n ≡ x) ⊎ Contains ks x))
     → Contains (met_with n (k ∷ ks)) x ↔ ((n ≡ x) ⊎ Contains (k ∷ ks) x)

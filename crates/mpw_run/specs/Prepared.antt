@@ -1,4 +1,4 @@
--- What an event changes in a run, and what is true of the change.
+-- The change of a run by an event, and what holds of it.
 use Rattle.std.specs.Prelude.{◌≡◌, ◌<◌, ◌^◌, ⊤, ℕ, ◌+◌, List, Option, Some, None, slice_get, slice_set}
 use Rattle.mpw_run.specs.declared.phase.Phase.{Phase}
 use Rattle.mpw_run.specs.declared.phase.Phase.TheVariants.{Idle, Cutting, Checking, Finished}
@@ -8,7 +8,7 @@ use Rattle.mpw_run.specs.declared.prepare.Prepared.{Prepared}
 use Rattle.mpw_run.specs.Run.{Tile, Checks}
 use Rattle.mpw_run.specs.Step.{Run, Outcome, IsRun, raised, answered_by, with_tiles}
 
--- A tile of the list is changed; where there is none, nothing is.
+-- A tile of the list is changed. If there is none, nothing is.
 abbrev pub set_tile : (Tile → Tile) → ℕ → List Tile → Option Tile → List Tile
 set_tile change number tiles None = tiles
 set_tile change number tiles (Some tile) = slice_set tiles number (change tile)
@@ -17,7 +17,7 @@ set_tile change number tiles (Some tile) = slice_set tiles number (change tile)
 abbrev pub with_tile : (Tile → Tile) → ℕ → Checks → Checks
 with_tile change number c = with_tiles c (set_tile change number c.tiles (slice_get c.tiles number))
 
--- The phase that a change leaves. What does not fit a phase leaves it as it was.
+-- The phase after a change. A change that doesn't fit a phase leaves it unchanged.
 abbrev pub next_phase : Change → Phase → Phase
 next_phase change.Nothing phase = phase
 next_phase (change.Start planned) phase = Cutting planned
@@ -41,7 +41,7 @@ next_phase (change.Finish book) (Checking c) =
     Finished (record { planned = c.planned; book = book })
 next_phase (change.Finish book) (Finished f) = Finished f
 
--- The number that a change leaves: a new run has the next one.
+-- The number after a change: a new run has the next one.
 abbrev pub next_number : Change → ℕ → ℕ
 next_number change.Nothing number = number
 next_number (change.Start planned) number = number + 1
@@ -50,7 +50,7 @@ next_number (change.Take tile) number = number
 next_number (change.Keep tile markers) number = number
 next_number (change.Finish book) number = number
 
--- The run that a change leaves.
+-- The run after a change.
 abbrev pub applied : Change → Run → Run
 applied change run =
     record { number = next_number change run.number; phase = next_phase change run.phase }
@@ -65,7 +65,7 @@ MayTake number (Cutting planned) = ⊤
 MayTake number (Checking c) = (tile : Tile) → slice_get c.tiles number ≡ Some tile → MayCount tile
 MayTake number (Finished f) = ⊤
 
--- A tile that the change counts as handed out can be.
+-- A tile that the change counts as handed out can be counted.
 abbrev pub IsCountable : Change → Phase → Type 0
 IsCountable change.Nothing phase = ⊤
 IsCountable (change.Start planned) phase = ⊤
@@ -74,7 +74,8 @@ IsCountable (change.Take number) phase = MayTake number phase
 IsCountable (change.Keep number markers) phase = ⊤
 IsCountable (change.Finish book) phase = ⊤
 
--- The change may be made to the run: it leaves what is true of a run, and its number and what was handed out can be counted.
+-- The change may be made to the run: the run after it is sound, and its number and its hand-outs can be
+-- counted.
 pub record IsFitting (change : Change) (run : Run) : Type 0 where
   pub left : IsRun (applied change run)
   pub number : next_number change run.number < 2 ^ 32

@@ -1,4 +1,4 @@
--- A run of the desk: its number, what it looks at, and how far it is.
+-- A run of the desk: its number, what it checks, and how far it is.
 use Rattle.std.specs.Prelude.{◌≡◌, ◌<◌, ℕ, List, length, Option, Some, slice_get}
 use Rattle.std.specs.List.{flat_map}
 use Rattle.std.specs.Option.{option_to_list}
@@ -14,7 +14,7 @@ pub record Planned : Type 0 where
   pub snapshot : Snapshot
   pub plan : Tiling
 
--- A tile of a run: how often it was handed out, and the markers that were kept for it.
+-- A tile of a run: how often it was handed out, and its markers.
 pub record Tile : Type 0 where
   pub taken : ℕ
   pub answer : Option (List Marker)
@@ -25,20 +25,20 @@ pub record Checks : Type 0 where
   pub windows : List (List Rectangle)
   pub tiles : List Tile
 
--- What is true of a snapshot with its plan.
+-- What holds of a snapshot with its plan.
 pub record IsPlanned (p : Planned) : Type 0 where
   pub snapshot : IsSnapshot p.snapshot
   pub plan : plan_for p.snapshot ≡ Some p.plan
 
--- The markers of each tile that is answered, in order, and how many those are.
+-- The markers of each answered tile, in order, and how many tiles those are.
 abbrev pub answers_of : List Tile → List (List Marker)
 answers_of tiles = flat_map (λ (tile : Tile). option_to_list tile.answer) tiles
 
 abbrev pub answered : List Tile → ℕ
 answered tiles = length (answers_of tiles)
 
--- What is true of a run whose snapshot is cut: its windows stand for the snapshot, there is a tile for each of the plan's, what was kept
--- for a tile answers that tile's job, and a tile is left.
+-- What holds of a run whose snapshot is cut: its windows represent the snapshot, there is a tile for each of
+-- the plan's, each stored answer is that of its tile's job, and an unanswered tile is left.
 pub record IsChecks (run : ℕ) (c : Checks) : Type 0 where
   pub windows : StandFor c.planned.snapshot c.windows
   pub count : length c.tiles ≡ tiles c.planned.plan

@@ -1,5 +1,5 @@
 -- Tests of equality by value, from numbers up to snapshots and jobs of tiles. They compute, and each is
--- true just where its two values are equal (the law `TestsAreExact`).
+-- true exactly if its two values are equal (the law `TestsAreExact`).
 use Rattle.std.specs.Prelude.{ℕ, ◌==◌, ◌&&◌, Bool, false, List}
 use Rattle.std.specs.Ordering.{int_eq}
 use Rattle.std.specs.Cmp.Lexicographic.{pointwise}
@@ -35,7 +35,7 @@ same_point a b = int_eq a.x b.x && int_eq a.y b.y
 abbrev pub same_box : Box2 → Box2 → Bool
 same_box a b = (int_eq a.x0 b.x0 && int_eq a.y0 b.y0) && (int_eq a.x1 b.x1 && int_eq a.y1 b.y1)
 
--- An orientation by its place among the eight.
+-- An orientation by its index among the eight.
 abbrev pub orient_number : Orient → ℕ
 orient_number R0 = 0
 orient_number R90 = 1
@@ -93,7 +93,7 @@ same_structure a b = name_eq a.name b.name && pointwise same_element a.elements 
 abbrev pub same_library : List Structure → List Structure → Bool
 same_library = pointwise same_structure
 
--- ---- submissions, and where they are placed
+-- ---- submissions, and their places
 
 abbrev pub same_binding : Binding → Binding → Bool
 same_binding a b = name_eq a.name b.name && (a.submission == b.submission)
@@ -140,7 +140,7 @@ same_rules = pointwise same_rule
 abbrev pub same_deck : Deck → Deck → Bool
 same_deck a b = (a.tile == b.tile) && same_rules a.rules b.rules
 
--- ---- what a run looks at, and the job of a tile
+-- ---- what a run checks, and the job of a tile
 
 unfoldable pub same_snapshot : Snapshot → Snapshot → Bool
 same_snapshot a b =

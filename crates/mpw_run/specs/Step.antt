@@ -1,4 +1,4 @@
--- What the events of a run are answered, and the state that each leaves.
+-- The replies to the events of a run, and the state after each.
 use Rattle.std.specs.Prelude.{◌≡◌, ◌≤◌, ◌==◌, ⊤, ℕ, ◌+◌, List, [], ◌∷◌, length, Option, Some, None, slice_get, slice_set, replicate, nat_le, nat_lt, if◌then◌else◌}
 use Rattle.mpw_tiles.specs.Plan.{tiles}
 use Rattle.mpw_markers.specs.declared.marker.Marker.{Marker}
@@ -17,17 +17,17 @@ use Rattle.mpw_run.specs.Run.{Planned, Tile, Checks, answers_of, answered, IsPla
 use Rattle.mpw_run.specs.Same.{same_snapshot, same_tile_job}
 use Rattle.mpw_run.specs.Stitching.{stitched}
 
--- A run: its number, which counts the runs that were accepted, and how far it is.
+-- A run: its number, which counts the accepted runs, and how far it is.
 pub record Run : Type 0 where
   pub number : ℕ
   pub phase : Phase
 
--- A reply with the run that it leaves.
+-- A reply with the run after it.
 pub record Outcome : Type 0 where
   pub reply : RunReply
   pub run : Run
 
--- How many markers the book of a run has: none before it is finished.
+-- The number of markers in the book of a run: 0 before it is finished.
 abbrev pub book_size : Phase → ℕ
 book_size Idle = 0
 book_size (Cutting planned) = 0
@@ -44,14 +44,14 @@ findings (Finished f) = Some f
 abbrev pub new_run : Run
 new_run = record { number = 0; phase = Idle }
 
--- A new run looks at the snapshot. A run that is cancelled leaves its number.
+-- A new run checks the snapshot. A cancelled run leaves its number.
 abbrev pub started : Run → Planned → Run
 started run planned = record { number = run.number + 1; phase = Cutting planned }
 
 abbrev pub cancelled : Run → Run
 cancelled run = record { number = run.number; phase = Idle }
 
--- A run whose tiles are checked goes back to where it is cut, as where what was handed out is lost. Another is left.
+-- A run in `Checking` goes back to `Cutting`, since what was handed out is lost. Any other is unchanged.
 abbrev pub restarted_phase : Phase → Phase
 restarted_phase Idle = Idle
 restarted_phase (Cutting planned) = Cutting planned
@@ -80,12 +80,13 @@ first_of offer None = Some offer
 first_of offer (Some other) =
     Some (if nat_le offer.tile.taken other.tile.taken then offer else other)
 
--- A tile that is answered is not offered.
+-- An answered tile is not offered.
 abbrev pub offered : Option (List Marker) → Offer → Option Offer → Option Offer
 offered None offer others = first_of offer others
 offered (Some markers) offer others = others
 
--- The unanswered tile that was handed out fewest times, the least number among these. Tiles are counted from a number on.
+-- The unanswered tile that was handed out the fewest times, and of these the one with the least number. Tiles
+-- are counted from a number on.
 abbrev pub next_from : ℕ → List Tile → Option Offer
 next_from number [] = None
 next_from number (tile ∷ rest) =
@@ -101,11 +102,12 @@ answered_by markers tile = record { taken = tile.taken; answer = Some markers }
 abbrev pub with_tiles : Checks → List Tile → Checks
 with_tiles c tiles = record { planned = c.planned; windows = c.windows; tiles = tiles }
 
--- Tiles that nobody was handed, and none is answered.
+-- Tiles that weren't handed out and aren't answered.
 abbrev pub new_tiles : ℕ → List Tile
 new_tiles n = replicate n (record { taken = 0; answer = None })
 
--- A call for a job. A snapshot is cut first; then the tiles are handed out, each again and again until it is answered.
+-- A call for a job. A snapshot is cut first. Then the tiles are handed out, each again and again until it is
+-- answered.
 abbrev pub handed : Run → Checks → Option Offer → Outcome
 handed run c None = record { reply = reply.NoJob; run = run }
 handed run c (Some offer) = record {
@@ -129,7 +131,7 @@ taken_in run (Finished f) = record { reply = reply.NoJob; run = run }
 abbrev pub taken : Run → Outcome
 taken run = taken_in run run.phase
 
--- An answer that is not kept leaves the run as it was.
+-- An answer that is not accepted leaves the run unchanged.
 abbrev pub left_as : RunReply → Run → Outcome
 left_as r run = record { reply = r; run = run }
 
@@ -159,7 +161,7 @@ abbrev pub cut_answered : Run → CutWindows → Outcome
 cut_answered run answer =
     if run.number == answer.job.run then cut_in run answer run.phase else left_as reply.OldRun run
 
--- The run with the markers of a tile; with the last one its book is stitched.
+-- The run with the markers of a tile. The last one stitches its book.
 abbrev pub kept : Run → Checks → List Tile → Outcome
 kept run c now = if answered now == tiles c.planned.plan
     then record {
@@ -201,7 +203,8 @@ abbrev pub tile_answered : Run → FoundMarkers → Outcome
 tile_answered run answer =
     if run.number == answer.job.run then tile_in run answer run.phase else left_as reply.OldRun run
 
--- What is true of a run, by its phase. The book of a run that is finished has just the markers of its snapshot's flat layout.
+-- What holds of a run, by its phase. The book of a finished run has exactly the markers of its snapshot's
+-- flat layout.
 abbrev pub IsPhase : ℕ → Phase → Type 0
 IsPhase number Idle = ⊤
 IsPhase number (Cutting planned) = IsPlanned planned
@@ -211,7 +214,7 @@ IsPhase number (Finished f) = IsPlanned f.planned × AreLayoutMarkers f.planned.
 abbrev pub IsRun : Run → Type 0
 IsRun run = IsPhase run.number run.phase
 
--- Each tile of a phase was handed out so many times at most.
+-- Each tile of a phase was handed out at most that many times.
 abbrev pub TakenAtMost : ℕ → Phase → Type 0
 TakenAtMost most Idle = ⊤
 TakenAtMost most (Cutting planned) = ⊤

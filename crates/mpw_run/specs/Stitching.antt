@@ -1,4 +1,4 @@
--- A book put together marker by marker. It computes.
+-- A book that is put together marker by marker. It computes.
 use Rattle.std.specs.Prelude.{ℕ, ◌==◌, nat_le, int_lt, List, [], ◌∷◌, fold, if◌then◌else◌}
 use Rattle.std.specs.List.{flat_map}
 use Rattle.std.specs.Int.{int_min, int_max}
@@ -10,7 +10,7 @@ use Rattle.mpw_markers.specs.Markers.{line_of, IsFilled}
 use Rattle.mpw_markers.specs.Order.{line_cmp}
 use Rattle.mpw_markers.specs.Stitched.{IsListed}
 
--- The number stands in the ascending list.
+-- The ascending list with the number added.
 abbrev pub met_with : ℕ → List ℕ → List ℕ
 met_with n [] = n ∷ []
 met_with n (k ∷ ks) =
@@ -29,13 +29,15 @@ joined m n = record {
   met = fold (λ met k. met_with k met) n.met m.met;
 }
 
--- Where a marker stands with regard to one of a book: before it, behind it, or joined with it, where their rows overlap or touch.
+-- The position of a marker relative to one of a book: before it, after it, or joined with it, if their rows
+-- overlap or touch.
 abbrev pub beside : Ordering → Marker → Marker → Ordering
 beside Less m n = Less
 beside Greater m n = Greater
 beside Equal m n = if int_lt m.y1 n.y0 then Less else (if int_lt n.y1 m.y0 then Greater else Equal)
 
--- The book with one more marker. Which of three books it is: the marker stands before, is joined, or stands behind.
+-- The book with one more marker. Which of three books it is: the marker comes before, is joined, or comes
+-- after.
 abbrev pub placed : Ordering → (before joins behind : List Marker) → List Marker
 placed Less before joins behind = before
 placed Equal before joins behind = joins
@@ -50,6 +52,6 @@ with_marker (n ∷ book) m = placed (beside (line_cmp (line_of m) (line_of n)) m
 abbrev pub stitched : List (List Marker) → List Marker
 stitched lists = fold with_marker [] (flat_map (λ list. list) lists)
 
--- Each marker of the lists has a row, and meets numbers that ascend.
+-- Each marker of the lists has a row, and touches submissions with ascending numbers.
 abbrev pub AreFilled : List (List Marker) → Type 0
 AreFilled lists = (m : Marker) → IsListed lists m → IsFilled m × IsAscending m.met

@@ -1,4 +1,4 @@
-//! The run of a desk: what is cut, what is handed out, and which answers are kept.
+//! The run of a desk: what is cut, what is handed out, and which answers are accepted.
 #![tactic(auto)]
 
 mod laws;

@@ -15,7 +15,7 @@ use mpw_tiles::{Plan, Snapshot, Windows};
 use std::alloc::{AllocError, Global};
 use std::marker::Model;
 
-/// A snapshot with the plan of its tiles: contracts see both.
+/// A snapshot with the plan of its tiles. Contracts see both.
 #[derive(Drop)]
 pub struct Planned {
     pub(crate) snapshot: Snapshot,
@@ -33,8 +33,8 @@ impl Model for Planned {
 }
 
 impl Planned {
-    /// The snapshot with the plan of its tiles; none where it has no plan, for it shows no shape, or there would be more
-    /// than 4096 tiles. Linear in the roots and the rules; takes no memory.
+    /// The snapshot with the plan of its tiles. None if it has no plan, since it has no shape, or there would be more than 4096 tiles.
+    /// Linear in the roots and the rules. It takes no memory.
     pub fn of(snapshot: Snapshot) -> Option<Planned>
         ensures some { IfSome result (λ p. p.snapshot ≡ snapshot) }
         ensures none { IfNone result (plan_for snapshot ≡ None) }
@@ -66,7 +66,7 @@ impl Planned {
     }
 }
 
-/// A run whose snapshot is cut: contracts see the snapshot with its plan, the windows, and the tiles in order.
+/// A run whose snapshot is cut. Contracts see the snapshot with its plan, the windows, and the tiles in order.
 #[derive(Drop)]
 pub struct Checks {
     pub(crate) planned: Planned,
@@ -97,10 +97,10 @@ impl Checks {
         &self.windows
     }
 
-    /// The job of a tile, in constant time and without further memory.
+    /// The job of a tile. Constant time; it takes no memory.
     ///
     /// # Errors
-    /// Where no more copies of its parts can be counted.
+    /// No more copies of its parts can be counted.
     pub(crate) fn tile_job(&self, run: u32, tile: u32) -> Result<TileJob, AllocError>
         requires tile { tile < tiles self.now.planned.plan }
         requires windows { StandFor self.now.planned.snapshot self.now.windows }
@@ -116,7 +116,7 @@ impl Checks {
         )
     }
 
-    /// How many tiles are answered. Linear in the tiles.
+    /// The number of answered tiles. Linear in the tiles.
     pub fn done(&self) -> usize
         ensures { result ≡ answered self.now.tiles }
     {
@@ -130,7 +130,7 @@ impl Checks {
         self.planned.total()
     }
 
-    /// The unanswered tile that was handed out fewest times, the least number among these.
+    /// The unanswered tile that was handed out the fewest times, and of these the one with the least number.
     pub(crate) fn next(&self) -> Option<u32>
         requires { length self.now.tiles < 2 ^ 32 }
         ensures { result ≡ option_map (λ (o : Offer). o.number) (next_from 0 self.now.tiles) }
@@ -167,16 +167,16 @@ pub struct Checked {
 pub enum Phase {
     /// There was no run yet, or the last one was cancelled.
     Idle,
-    /// A run has begun, and its windows haven't come yet. A restart takes a run that is checking back to here.
+    /// A run has begun, and its windows aren't there yet. A restart takes a run in `Checking` back to here.
     Cutting(Planned),
-    /// The snapshot is cut, and a tile at least has no answer yet.
+    /// The snapshot is cut, and at least one tile has no answer yet.
     Checking(Checks),
-    /// Each tile was answered, and the book is stitched. A restart leaves it so.
+    /// Each tile was answered, and the book is stitched. A restart leaves it unchanged.
     Finished(Checked),
 }
 
 impl Phase {
-    /// What a run found that is finished; none of another.
+    /// What a finished run found, or none if the run isn't finished.
     pub fn findings(&self) -> Option<&Checked>
         ensures { option_map (λ f. f.now) result ≡ findings self.now }
     {
@@ -187,27 +187,24 @@ impl Phase {
     }
 }
 
-/// What an event is answered.
+/// The reply to an event.
 pub enum RunReply {
-    /// To a call for a job: while the run is cutting its cut, while it is checking the tile without an answer that was
-    /// handed out fewest times, the least number among these. A job can be handed out again until it is answered.
+    /// To a call for a job. In `Cutting` it is the cut. In `Checking` it is the unanswered tile that was handed out the fewest times, and
+    /// of these the one with the least number. A job can be handed out again until it is answered.
     Taken(Job),
     /// To a call for a job: the run is idle or finished.
     NoJob,
-    /// To the windows of the cutting run's own snapshot: they are kept, and checking begins. To the markers of a tile:
-    /// they are kept, and another tile has no answer yet. A run that begins gives it too.
+    /// To the windows of the run's own snapshot in `Cutting`: they are accepted, and checking begins. To the markers of a tile: they are
+    /// accepted, and another tile has no answer yet. A run that begins has this reply too.
     Kept,
-    /// To the markers of the last tile without an answer: they are kept, the book is stitched, and the run is finished.
+    /// To the markers of the last unanswered tile: they are accepted, the book is stitched, and the run is finished.
     Finished,
-    /// To the windows of another snapshot than the cutting run's; to the markers of a tile that were found in another
-    /// core or window or by other rules than its own, of a tile that the run doesn't have, or while the run is cutting.
-    /// They aren't kept.
+    /// To windows of another snapshot than that of the run in `Cutting`. To the markers of a tile that were found in another core or window
+    /// or by other rules than its own, of a tile that the run doesn't have, or in `Cutting`. They aren't accepted.
     Stranger,
-    /// To windows where the run is checking or finished, and to the markers of a tile that has an answer: they aren't
-    /// kept, whatever they are.
+    /// To windows if the run is in `Checking` or finished, and to the markers of a tile that has an answer. They aren't accepted, whatever they are.
     Double,
-    /// To windows or markers with the number of another run, or where the run is idle: they aren't kept, whatever they
-    /// are. It is tested first.
+    /// To windows or markers with the number of another run, or if the run is idle. They aren't accepted, whatever they are. This is tested first.
     OldRun,
 }
 
@@ -229,7 +226,7 @@ impl RunReply {
     /// The same reply, which shares the parts of a job that was handed out.
     ///
     /// # Errors
-    /// Where no more copies can be counted, or there is no memory for them.
+    /// Out of memory, or no more copies can be counted.
     pub fn copy(&self, alloc: Global) -> Result<RunReply, AllocError>
         ensures { IfOk result (λ reply. reply ≡ self.now) }
     {

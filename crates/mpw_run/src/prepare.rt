@@ -1,4 +1,4 @@
-//! What an event changes in a run, made ready before anything is changed.
+//! The change of a run by an event, prepared before anything changes.
 
 ghost use Rattle.std.specs.Prelude.{◌≡◌, ◌<◌, ◌^◌};
 ghost use Rattle.mpw_run.specs.declared.prepare.Change.TheVariants as change;
@@ -10,7 +10,7 @@ use crate::tiles::Tiles;
 use mpw_markers::{Book, TileMarkers};
 use mpw_tiles::Windows;
 
-/// A change of a run, with all that it moves in.
+/// A change of a run, with everything that it moves in.
 #[derive(Drop)]
 pub(crate) enum Change {
     Nothing,
@@ -21,15 +21,15 @@ pub(crate) enum Change {
     Finish(Book),
 }
 
-/// The reply to an event, and what it changes in the run that it was prepared for.
+/// The reply to an event, and the change of the run that it was prepared for.
 #[derive(Drop)]
 pub struct Prepared {
-    /// What the event is answered where the change is made.
+    /// The reply to the event if the change is made.
     pub reply: RunReply,
     pub(crate) change: Change,
 }
 
-/// The number of the run that a change leaves.
+/// The number of the run after a change.
 pub(crate) fn next_number(change: &Change, number: u32) -> u32
     requires { next_number change.now number < 2 ^ 32 }
     ensures { result ≡ next_number change.now number }
@@ -40,7 +40,7 @@ pub(crate) fn next_number(change: &Change, number: u32) -> u32
     }
 }
 
-/// A check that begins: its windows and its tiles. A phase that is not cut is left.
+/// A check that begins: its windows and its tiles. A phase other than `Cutting` is unchanged.
 fn check(phase: Phase, windows: Windows, tiles: Tiles) -> Phase
     ensures { result ≡ next_phase (change.Check windows tiles) phase }
 {
@@ -54,7 +54,7 @@ fn check(phase: Phase, windows: Windows, tiles: Tiles) -> Phase
     }
 }
 
-/// The check of which a tile was handed out. A phase that is not checked is left.
+/// The check after a tile was handed out. A phase other than `Checking` is unchanged.
 fn take(phase: Phase, tile: u32) -> Phase
     requires { MayTake tile phase }
     ensures { result ≡ next_phase (change.Take tile) phase }
@@ -71,7 +71,7 @@ fn take(phase: Phase, tile: u32) -> Phase
     }
 }
 
-/// The check of which a tile is answered. A phase that is not checked is left.
+/// The check after a tile was answered. A phase other than `Checking` is unchanged.
 fn keep(phase: Phase, tile: u32, markers: TileMarkers) -> Phase
     ensures { result ≡ next_phase (change.Keep tile markers) phase }
 {
@@ -87,7 +87,7 @@ fn keep(phase: Phase, tile: u32, markers: TileMarkers) -> Phase
     }
 }
 
-/// The run with its book. A phase that is not checked is left.
+/// The run with its book. A phase other than `Checking` is unchanged.
 fn finish(phase: Phase, book: Book) -> Phase
     ensures { result ≡ next_phase (change.Finish book) phase }
 {
@@ -100,7 +100,7 @@ fn finish(phase: Phase, book: Book) -> Phase
     }
 }
 
-/// How many markers the book of a phase has: none before the run is finished.
+/// The number of markers in the book of a phase: 0 before the run is finished.
 fn book_size(phase: &Phase) -> usize
     ensures { result ≡ book_size phase.now }
 {
@@ -110,7 +110,7 @@ fn book_size(phase: &Phase) -> usize
     }
 }
 
-/// How many markers the book has that finishes a run in this phase.
+/// The number of markers in the book that finishes a run in this phase.
 fn finished_size(phase: &Phase, book: &Book) -> usize
     ensures { result ≡ book_size (next_phase (change.Finish book.now) phase.now) }
 {
@@ -120,7 +120,7 @@ fn finished_size(phase: &Phase, book: &Book) -> usize
     }
 }
 
-/// How many markers the book of the phase has that a change leaves.
+/// The number of markers in the book of the phase after a change.
 pub(crate) fn next_size(change: &Change, phase: &Phase) -> usize
     ensures { result ≡ book_size (next_phase change.now phase.now) }
 {
@@ -131,7 +131,7 @@ pub(crate) fn next_size(change: &Change, phase: &Phase) -> usize
     }
 }
 
-/// The phase that a change leaves.
+/// The phase after a change.
 pub(crate) fn next_phase(change: Change, phase: Phase) -> Phase
     requires { IsCountable change phase }
     ensures { result ≡ next_phase change phase }

@@ -17,7 +17,7 @@ use std::alloc::{AllocError, Global};
 use std::marker::Model;
 use std::mem;
 
-/// A run of the desk: contracts see its number, which counts the runs that were accepted, and its phase.
+/// A run of the desk. Contracts see its number, which counts the accepted runs, and its phase.
 pub struct Run {
     number: u32,
     phase: Phase,
@@ -51,7 +51,7 @@ impl Run {
         }
     }
 
-    /// The number of runs that were accepted.
+    /// The number of accepted runs.
     pub fn number(&self) -> u32
         ensures { result ≡ self.now.number }
     {
@@ -65,14 +65,14 @@ impl Run {
         &self.phase
     }
 
-    /// Leaves the run, and keeps its number. It takes no memory.
+    /// Cancels the run. Its number stays. It takes no memory.
     pub fn cancel(&mut self)
         ensures { self.new ≡ cancelled self.old }
     {
         self.phase = Phase::Idle;
     }
 
-    /// Takes a run whose tiles are checked back to where it is cut, and leaves another. It takes no memory.
+    /// Takes a run in `Checking` back to `Cutting`, and leaves any other unchanged. It takes no memory.
     pub fn restart(&mut self)
         ensures { self.new ≡ restarted self.old }
     {
@@ -80,21 +80,21 @@ impl Run {
         self.phase = cut_again(phase);
     }
 
-    /// Each run keeps what is true of runs. A law: the function does nothing.
+    /// Every run is sound. A law: the function does nothing.
     pub fn is_run(&self)
         ensures { IsRun self.now }
     {
         let _number = self.number;
     }
 
-    /// Each run's number is counted. A law: the function does nothing.
+    /// Each run's number is below 2^32. A law: the function does nothing.
     fn is_counted(&self)
         ensures { self.now.number < 2 ^ 32 }
     {
         let _number = self.number;
     }
 
-    /// The answer of an event that leaves the run as it is.
+    /// The answer to an event that leaves the run unchanged.
     fn no_change(&self, reply: RunReply) -> Prepared
         ensures { IsPrepared result self.now (record { reply = reply; run = self.now }) }
     {
@@ -105,15 +105,14 @@ impl Run {
         }
     }
 
-    /// How many markers the book has of the run that the prepared change leaves: none before it is finished. Constant time; it
-    /// takes no memory.
+    /// The number of markers in the book of the run after the prepared change: 0 before it is finished. Constant time; it takes no memory.
     pub fn next_size(&self, prepared: &Prepared) -> usize
         ensures { result ≡ book_size (applied prepared.now.change self.now).phase }
     {
         next_size(&prepared.change, &self.phase)
     }
 
-    /// Makes the change that was prepared for the run as it is, and gives the reply. It takes no memory.
+    /// Makes the change that was prepared for the run as it is, and returns the reply. It takes no memory.
     pub fn commit(&mut self, prepared: Prepared) -> RunReply
         requires { IsFitting prepared.change self.old }
         ensures reply { result ≡ prepared.reply }
@@ -126,7 +125,7 @@ impl Run {
         prepared.reply
     }
 
-    /// What begins a run over the snapshot.
+    /// Prepares a run over the snapshot.
     pub fn prepare_start(&self, planned: Planned) -> Prepared
         requires { self.now.number + 1 < 2 ^ 32 }
         ensures { IsPrepared result self.now (record { reply = Kept; run = started self.now planned }) }
@@ -138,11 +137,11 @@ impl Run {
         }
     }
 
-    /// What a call for a job is answered: the cut, or the unanswered tile that was handed out fewest times, the least number
-    /// among these, or none. Linear in the tiles.
+    /// Prepares the answer to a call for a job: the cut, or the unanswered tile that was handed out the fewest times, and of these the one
+    /// with the least number, or none. Linear in the tiles.
     ///
     /// # Errors
-    /// Where no more copies of the job's parts can be counted, or there is no memory for them.
+    /// Out of memory, or no more copies of the job's parts can be counted.
     pub fn prepare_take(&self, alloc: Global) -> Result<Prepared, AllocError>
         requires { TakenAtMost (2 ^ 63) self.now.phase }
         ensures { IfOk result (λ p. IsPrepared p self.now (taken self.now)) }
@@ -160,7 +159,7 @@ impl Run {
         }
     }
 
-    /// What a call for a job is answered while tiles are checked.
+    /// Prepares the answer to a call for a job in `Checking`.
     fn prepare_tile_job(&self, c: &Checks) -> Result<Prepared, AllocError>
         requires phase { self.now.phase ≡ Checking c.now }
         requires taken { TakenAtMost (2 ^ 63) self.now.phase }
@@ -179,11 +178,11 @@ impl Run {
         })
     }
 
-    /// What the markers of a tile are answered. Its input is compared by value with the run's own, up to the first difference;
-    /// the last tile's answer stitches the book.
+    /// Prepares the answer to the markers of a tile. Their input is compared by value with the run's own, up to the first difference. The
+    /// last tile's answer stitches the book.
     ///
     /// # Errors
-    /// Where no more copies can be counted, or there is no memory for the book.
+    /// Out of memory for the book, or no more copies can be counted.
     pub fn prepare_tile(&self, alloc: Global, answer: &TileAnswer) -> Result<Prepared, AllocError>
         ensures { IfOk result (λ p. IsPrepared p self.now (tile_answered self.now answer.now)) }
     {
@@ -204,7 +203,7 @@ impl Run {
         }
     }
 
-    /// What the markers of a tile are answered while tiles are checked.
+    /// Prepares the answer to the markers of a tile in `Checking`.
     fn prepare_kept(
         &self,
         alloc: Global,
@@ -228,7 +227,7 @@ impl Run {
         self.tile_kept(alloc, c, number, answer)
     }
 
-    /// What the markers of a tile that is not answered yet are answered, where they answer the run's own job.
+    /// Prepares the answer to the markers of an unanswered tile, if they are those of the run's own job.
     fn tile_kept(
         &self,
         alloc: Global,
@@ -262,10 +261,10 @@ impl Run {
         })
     }
 
-    /// What the windows of a cut are answered. The comparison of the snapshots stops at the first difference.
+    /// Prepares the answer to the windows of a cut. The comparison of the snapshots stops at the first difference.
     ///
     /// # Errors
-    /// Where no more copies can be counted, or there is no memory for the tiles.
+    /// Out of memory for the tiles, or no more copies can be counted.
     pub fn prepare_cut(&self, alloc: Global, answer: &CutAnswer) -> Result<Prepared, AllocError>
         ensures { IfOk result (λ p. IsPrepared p self.now (cut_answered self.now answer.now)) }
     {
@@ -285,7 +284,7 @@ impl Run {
         }
     }
 
-    /// What the windows of the run's own snapshot are answered: the check of its tiles begins.
+    /// Prepares the answer to the windows of the run's own snapshot: the check of its tiles begins.
     fn check_begun(
         &self,
         alloc: Global,
@@ -308,7 +307,7 @@ impl Run {
     }
 }
 
-/// The phase that a restart leaves.
+/// The phase after a restart.
 fn cut_again(phase: Phase) -> Phase
     ensures { result ≡ restarted_phase phase }
 {

@@ -1,4 +1,4 @@
-//! Whether snapshots, and jobs of tiles, are equal by value: the definitions' tests.
+//! Whether snapshots, and jobs of tiles, are equal by value: the tests of the definitions.
 
 ghost use Rattle.std.specs.Prelude.{◌≡◌};
 ghost use Rattle.mpw_run.specs.Same.{same_snapshot, same_tile_job};

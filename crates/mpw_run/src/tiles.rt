@@ -1,4 +1,4 @@
-//! The tiles of a run: how often each was handed out, and what was kept for it.
+//! The tiles of a run: how often each was handed out, and its answer.
 
 ghost use Rattle.std.specs.Prelude.{◌≡◌, ◌<◌, ◌^◌, ◌++◌, length, IfOk, OnOk, slice_get, Option, Some, option_map};
 ghost use Rattle.std.specs.Option.{option_to_list};
@@ -13,11 +13,11 @@ use mpw_markers::{Book, TileMarkers, lists_determine_the_book, stitch};
 use std::alloc::{AllocError, Global};
 use std::marker::Model;
 
-/// A tile of a run: how often it was handed out, and the markers that were kept for it.
+/// A tile of a run: how often it was handed out, and its markers.
 pub(crate) struct Tile {
     /// How often it was handed out.
     pub taken: u64,
-    /// The markers that were kept; none before it is answered.
+    /// The markers of its answer, or none before it is answered.
     pub answer: Option<TileMarkers>,
 }
 
@@ -45,7 +45,7 @@ impl Tile {
         self.taken += 1;
     }
 
-    /// How many lists are kept for it: 1 where it is answered.
+    /// The number of lists stored for it: 1 if it is answered.
     fn count(&self) -> usize
         ensures { result ≡ length (option_to_list self.now.answer) }
     {
@@ -55,7 +55,7 @@ impl Tile {
         }
     }
 
-    /// Keeps the markers.
+    /// Stores the markers.
     fn keep(&mut self, markers: TileMarkers)
         ensures { self.new ≡ answered_by markers self.old }
     {
@@ -63,7 +63,7 @@ impl Tile {
     }
 }
 
-/// The tiles of a run, which contracts see as a list.
+/// The tiles of a run. Contracts see them as a list.
 pub(crate) struct Tiles {
     items: Vec<Tile>,
 }
@@ -92,14 +92,14 @@ impl Tiles {
         self.items.as_slice()
     }
 
-    /// How many are answered. Linear in the tiles.
+    /// The number of answered tiles. Linear in the tiles.
     pub(crate) fn done(&self) -> usize
         ensures { result ≡ answered self.now }
     {
         answer_count(self.items.as_slice())
     }
 
-    /// Tiles that nobody was handed, and none is answered.
+    /// Tiles that weren't handed out and aren't answered.
     pub(crate) fn new(alloc: Global, count: u32) -> Result<Tiles, AllocError>
         ensures { IfOk result (λ t. t ≡ new_tiles count) }
     {
@@ -113,7 +113,7 @@ impl Tiles {
         Ok(Tiles { items })
     }
 
-    /// The unanswered tile that was handed out fewest times, the least number among these.
+    /// The unanswered tile that was handed out the fewest times, and of these the one with the least number.
     pub(crate) fn next(&self) -> Option<u32>
         requires { length self.now < 2 ^ 32 }
         ensures { result ≡ option_map (λ (o : Offer). o.number) (next_from 0 self.now) }
@@ -149,7 +149,7 @@ impl Tiles {
         Ok(book)
     }
 
-    /// The markers of the tiles that are answered, in order, with these for one of them.
+    /// The markers of the answered tiles, in order, with these for one of them.
     fn lists_with(
         &self,
         alloc: Global,
@@ -168,7 +168,7 @@ impl Tiles {
         Ok(lists)
     }
 
-    /// Keeps the markers of a tile.
+    /// Stores the markers of a tile.
     pub(crate) fn keep(&mut self, tile: u32, markers: TileMarkers)
         requires { tile < length self.old }
         ensures { self.new ≡ set_tile (answered_by markers) tile self.old (slice_get self.old tile) }
@@ -186,7 +186,7 @@ impl Tiles {
     }
 }
 
-/// How many of the tiles are answered.
+/// The number of answered tiles.
 fn answer_count(tiles: &[Tile]) -> usize
     ensures { result ≡ answered tiles.now }
 {
@@ -197,7 +197,7 @@ fn answer_count(tiles: &[Tile]) -> usize
     count
 }
 
-/// Adds the markers that are kept for a tile.
+/// Adds the markers of a tile, if it is answered.
 fn add_answer(lists: &mut Vec<TileMarkers>, tile: &Tile) -> Result<(), AllocError>
     ensures { OnOk result (lists.new.items ≡ lists.old.items ++ option_to_list tile.now.answer) }
 {
@@ -207,7 +207,7 @@ fn add_answer(lists: &mut Vec<TileMarkers>, tile: &Tile) -> Result<(), AllocErro
     Ok(())
 }
 
-/// Adds the markers that are kept for the tiles, in order.
+/// Adds the markers of the answered tiles, in order.
 fn add_answers(lists: &mut Vec<TileMarkers>, tiles: &[Tile]) -> Result<(), AllocError>
     ensures { OnOk result (lists.new.items ≡ lists.old.items ++ answers_of tiles.now) }
 {

@@ -37,9 +37,9 @@ use Rattle.mpw_run_laws.specs.Calls.{asks_run, asks_cancel, is_restart, is_accep
 use Rattle.mpw_run_laws.specs.Finishing.{StandsIn}
 use Rattle.mpw_run_laws.proofs.Moves.{Takes, Cuts, Answered, takes, cuts, answers}
 
--- ---- a call that the run doesn't notice
+-- ---- a call that doesn't change the run
 
--- it begins and leaves no run, and keeps no tile's answer
+-- it neither begins nor leaves a run, and no tile's answer is accepted
 pub record IsQuiet (call : Call) : Type 0 where
   pub goes_on : GoesOn call
   pub keeps_none : (tile : ℕ) → KeepsTile tile call → ⊥
@@ -63,7 +63,7 @@ pub data Does (s : State) (call : Call) (s' : State) : Type 0 where
 
 -- ---- how a change is settled
 
--- the step is what was wanted, or the desk is closed
+-- the step is the requested one, or the desk is closed
 pub data Settled (s : State) (e : Event) (kept : Bool) (o : Outcome) : Type 0 where
   as_wanted : step s e kept ≡ o → Settled s e kept o
   closes : step s e kept ≡ no_change (not_kept_response e) (record s { closed = true })
@@ -91,7 +91,7 @@ run_of e = ap (λ (o : Outcome). o.state.run) e
 pub told_of : {a b : Outcome} → a ≡ b → a.response ≡ b.response
 told_of e = ap (λ (o : Outcome). o.response) e
 
--- ---- the row of a run
+-- ---- the decision table of a run
 
 ok_is : (x y : Planned) → ◌≡◌ {A = Result Planned Ending} (Ok x) (Ok y) → x ≡ y
 ok_is x y e = cc
@@ -110,7 +110,7 @@ planned_over : (s : Snapshot) (p : Planned) (items : List Item)
 planned_over s p [] e = absurd cc
 planned_over s p (item ∷ items) e = covered s p (plan_for s) refl e
 
--- what a run looks at, with the deck that there is
+-- what a run checks, with the present deck
 record LooksAt (deck : Option Deck) (s : Deck → Snapshot) (p : Planned) : Type 0 where
   own : Deck
   has : deck ≡ Some own
@@ -210,7 +210,7 @@ call_of e r kept = record { event = e; response = r; kept = kept }
 abbrev DoesAs : State → Event → Response → Bool → Type 0
 DoesAs s e r kept = Does s (call_of e r kept) (after s e kept)
 
--- a request that leaves the run, whatever is told
+-- a request that leaves the run unchanged, whatever its reply
 left_alone : (s : State) (connection : ℕ) (request : Request) (r : Response) (kept : Bool)
     → asks_run (event.Ask connection request) ≡ false
     → asks_cancel (event.Ask connection request) ≡ false
@@ -321,7 +321,7 @@ gone_does s connection r kept =
     by (Settled.as_wanted e) = run_of e
     by (Settled.closes e c) = run_of e
 
--- an event of the run that doesn't finish it is settled as it is wanted
+-- an event of the run that doesn't finish it has the requested step
 pub unfinished : (s : State) (e : Event) (kept : Bool) (o : machine.Outcome)
     → event_outcome s e ≡ of_run s o → finishes o.reply ≡ false → step s e kept ≡ of_run s o
 unfinished s e kept o is goes = by (settled s e kept (of_run s o) is)

@@ -1,4 +1,4 @@
--- Tiles that are checked, and what calls keep of them.
+-- Tiles that are being checked, and which of their answers calls store.
 use Rattle.std.proofs.Common.{◌≡◌, ℕ, ◌<◌, true, false, List, [], ◌∷◌, ◌++◌, length, Some, refl, sym, subst, ap, ◌∙◌, inl, inr, arith, length-set}
 use Rattle.std.specs.Prelude.{slice_get, slice_set}
 use Rattle.std.proofs.Math.ListN.{length-replicate}
@@ -21,9 +21,9 @@ use Rattle.mpw_run_laws.specs.Calls.{GoesOn, is_kept, KeepsTile, WasKept}
 use Rattle.mpw_run_laws.proofs.Moves.{tiles_with, keeps}
 use Rattle.mpw_run_laws.proofs.Calls.{IsQuiet}
 
--- ---- tiles that are checked
+-- ---- tiles that are being checked
 
--- each tile of the plan is listed, and one is left
+-- each tile of the plan is listed, and an unanswered one is left
 pub record IsCounted (c : Checks) : Type 0 where
   pub count : length c.tiles ≡ tiles c.planned.plan
   pub left : answered c.tiles < tiles c.planned.plan
@@ -56,7 +56,7 @@ more_counted c answer x h ne =
       left = omega (arith, ne, few_answered (tiles_with c answer x), count);
     }
 
--- a tile among those of which one is set
+-- a tile of a list in which one is set
 pub set_cases : (xs : List Tile) (k j : ℕ) (x y t : Tile) → slice_get xs k ≡ Some x
     → slice_get (slice_set xs k y) j ≡ Some t → (P : Type 0) → (j ≡ k → y ≡ t → P)
     → ((j ≡ k → ⊥) → slice_get xs j ≡ Some t → P) → P
@@ -66,7 +66,7 @@ set_cases xs k j x y t at g P same other = elim (cases_eq j k) [
   | inr ne ↦ other ne (sym (other_tile xs k j y ne) ∙ g)
 ]
 
--- ---- what calls keep
+-- ---- which answers calls store
 
 pub kept_as : (r : RunReply) → is_kept (response.Run r) ≡ keeps r
 kept_as (reply.Taken job) = refl
@@ -103,7 +103,7 @@ pub was_now : (calls : List Call) (call : Call) (k : ℕ) → KeepsTile k call
     → WasKept (calls ++ call ∷ []) k
 was_now calls call k h = (call, Contains-push calls call, h)
 
--- what was kept with one call more was kept before, or by the call
+-- an answer that was accepted with one more call was accepted before, or by the call
 pub was_cases : (calls : List Call) (call : Call) (k : ℕ) (P : Type 0)
     → WasKept (calls ++ call ∷ []) k → (WasKept calls k → P) → (KeepsTile k call → P) → P
 was_cases calls call k P w old new = elim (Contains-push_cases calls call w.0 w.1) [

@@ -1,4 +1,4 @@
--- Where each tile was kept in one stretch: the run is finished.
+-- If each tile was accepted in one stretch, the run is finished.
 use Rattle.std.proofs.Common.{◌≡◌, ℕ, suc, ◌<◌, true, false, List, [], ◌∷◌, ◌++◌, length, Option, Some, None, refl, sym, subst, ap, ◌∙◌, arith, length-append}
 use Rattle.std.specs.Prelude.{All, slice_get, slice_set, is_some}
 use Rattle.std.proofs.lemmas.Bool.{true≢false}
@@ -72,7 +72,7 @@ follows_on p s call s' (Does.answered answer o ev told g r (Answered.more c x a 
 follows_on p s call s' (Does.answered answer o ev told g r (Answered.last c x a reply same all) e)
     goes h = follows_run p s'.run _ (e ∙ same) (subst (Follows p) a.phase h).0
 
--- what was kept in the stretch so far is kept by the run
+-- the run has the answers that were accepted in the stretch so far
 abbrev Holds : List Call → Phase → Type 0
 Holds done Idle = Unit {0}
 Holds done (Cutting q) = (k : ℕ) → WasKept done k → ⊥
@@ -144,7 +144,7 @@ holds_on done s call s' (Does.answered answer o ev told g r (Answered.more c x a
 holds_on done s call s' (Does.answered answer o ev told g r (Answered.last c x a reply same all) e)
     goes r' h = holds_run (done ++ call ∷ []) s'.run _ (e ∙ same) tt
 
--- the run is finished, and looked at that
+-- the run is finished, and checked that
 abbrev IsAtEnd : Planned → Phase → Type 0
 IsAtEnd p Idle = ⊥
 IsAtEnd p (Cutting q) = ⊥
@@ -184,7 +184,7 @@ ends_on p s call s' (Does.answered answer o ev told g r (Answered.more c x a rep
 ends_on p s call s' (Does.answered answer o ev told g r (Answered.last c x a reply same all) e) goes
     h = absurd (subst (IsAtEnd p) a.phase h)
 
--- where each tile has an answer, all are answered
+-- if each tile has an answer, all are answered
 each_on : (t : Tile) (xs : List Tile) (a : Option (List Marker)) → t.answer ≡ a
     → is_some t.answer ≡ true → answered xs ≡ length xs
     → answered (t ∷ xs) ≡ length (t ∷ xs)
@@ -223,7 +223,7 @@ ended_as p s (Checking c) e h = absurd h
 ended_as p s (Finished f) e h =
     record { checked = f; finished = e; looked_at = ap (λ (q : Planned). q.snapshot) h }
 
--- what stands in a state is one snapshot
+-- a state has one such snapshot
 one_stands : (s : State) (a b : Snapshot) → StandsIn s a → StandsIn s b → a ≡ b
 one_stands s a b f g =
     let decks : a.deck ≡ b.deck = same_Some a.deck b.deck (sym f.deck ∙ g.deck) in
@@ -237,7 +237,7 @@ one_stands s a b f g =
     λ ss. record { deck = b.deck; roots = b.roots; shelf = ss } in
     ap first decks ∙ ap second roots ∙ ap third shelves
 
--- the state behind the call with which a run begins
+-- the state after the call with which a run begins
 record IsBegun (s : State) (snapshot : Snapshot) : Type 0 where
   p : Planned
   phase : s.run.phase ≡ Cutting p

@@ -1,4 +1,4 @@
--- How the events of a run move it.
+-- How the events of a run change it.
 use Rattle.std.proofs.Common.{◌≡◌, ℕ, Bool, true, false, List, Option, Some, None, refl, sym, ap, ◌∙◌, arith}
 use Rattle.std.specs.Prelude.{◌==◌, slice_get, slice_set, nat_lt, if◌then◌else◌}
 use Rattle.std.proofs.lemmas.Bool.{true≢false, eqb-true, eq-eqb}
@@ -17,7 +17,7 @@ use Rattle.mpw_run.specs.Stitching.{stitched}
 use Rattle.mpw_run.proofs.Exactness.{snapshots, tile_jobs}
 use Rattle.mpw_run.proofs.Next.{next_is}
 
--- what is true of both outcomes of a test is true of the one that it gives
+-- what holds of both outcomes of a test holds of the one that it gives
 pub either : (P : Outcome → Type 0) (b : Bool) (x y : Outcome) → (b ≡ true → P x)
     → (b ≡ false → P y) → P (if b then x else y)
 either P true x y f g = f refl
@@ -25,7 +25,7 @@ either P false x y f g = g refl
 
 -- ---- calls for a job
 
--- the run is as it was, or a tile was handed out once more
+-- the run is unchanged, or a tile was handed out once more
 pub data Takes (run : Run) (o : Outcome) : Type 0 where
   stays : o.run ≡ run → finishes o.reply ≡ false → Takes run o
   raises : (c : Checks) (k : ℕ) (x : Tile) → run.phase ≡ Checking c → slice_get c.tiles k ≡ Some x
@@ -53,7 +53,7 @@ takes run = takes_in run run.phase refl
 
 -- ---- windows
 
--- the run is as it was, or the windows of its own snapshot came and its tiles are checked
+-- the run is unchanged, or the windows of its own snapshot were handed in and its tiles are being checked
 pub data Cuts (run : Run) (answer : CutWindows) (o : Outcome) : Type 0 where
   stays : o.run ≡ run → finishes o.reply ≡ false → Cuts run answer o
   begins : (planned : Planned) → run.phase ≡ Cutting planned
@@ -86,20 +86,20 @@ cuts run answer = either (Cuts run answer) (run.number == answer.job.run) _ _
 abbrev pub tiles_with : Checks → FoundMarkers → Tile → List Tile
 tiles_with c answer x = slice_set c.tiles answer.job.tile (answered_by answer.markers x)
 
--- the reply tells that the markers are kept
+-- the reply says that the markers are accepted
 abbrev pub keeps : RunReply → Bool
 keeps reply.Kept = true
 keeps reply.Finished = true
 keeps _ = false
 
--- the tile is checked and has no answer yet, and the markers are of its job
+-- the tile is being checked and has no answer yet, and the markers are those of its job
 pub record IsAsked (run : Run) (answer : FoundMarkers) (c : Checks) (x : Tile) : Type 0 where
   pub phase : run.phase ≡ Checking c
   pub at : slice_get c.tiles answer.job.tile ≡ Some x
   pub unanswered : x.answer ≡ None
   pub job : answer.job ≡ job_of_tile run.number c answer.job.tile
 
--- the run is as it was, or the markers are kept: as one more tile's, or as the last one's
+-- the run is unchanged, or the markers are accepted: as one more tile's, or as the last one's
 pub data Answered (run : Run) (answer : FoundMarkers) (o : Outcome) : Type 0 where
   stays : o.run ≡ run → keeps o.reply ≡ false → finishes o.reply ≡ false → Answered run answer o
   more : (c : Checks) (x : Tile) → IsAsked run answer c x → o.reply ≡ reply.Kept

@@ -1,4 +1,4 @@
--- What a restart leaves, and what it takes back.
+-- What a restart leaves unchanged, and what it undoes.
 use Rattle.std.proofs.Common.{◌≡◌, ◌∙◌, ℕ, Bool, true, false, Option, Some, Ok, refl, sym, ap, None}
 use Rattle.std.proofs.lemmas.Option.{none-some, same_Some}
 use Rattle.mpw_rbac.specs.Policy.{Policy}
@@ -67,7 +67,7 @@ lists_by policy a b connection e = ap (λ (o : Option Checked).
     session_test policy connection >>= λ inside.
     needed code.NotFinished o >>= λ f. Ok (checked_lines policy connection f)) e
 
--- ---- events behind it
+-- ---- events after it
 
 module _ (s : State) (none : (c : Checks) → s.run.phase ≡ Checking c → ⊥) where
   pub unkept : (answer : FoundMarkers) (kept : Bool)
@@ -163,7 +163,7 @@ handed_no_cut : (r : machine.Run) (c : Checks) (number : ℕ) (planned : Planned
 handed_no_cut r c number planned None e = cc
 handed_no_cut r c number planned (Some offer) e = cc
 
--- a call for a job that is handed the cut is of a run that is cutting
+-- a call for a job that gets the cut is of a run in `Cutting`
 cuts_only : (r : machine.Run) (number : ℕ) (planned : Planned) (phase : Phase)
     → response.Run (machine.taken_in r phase).reply
     ≡ response.Run (reply.Taken (job.Cut (cutting number planned)))
@@ -180,7 +180,7 @@ unfolding event_outcome
 taken_reply s worker kept = told_of (unfinished s (event.Take worker) kept (machine.taken s.run)
     refl (taken_goes s.run _ (takes s.run)))
 
--- a run that is cut and looks at that
+-- a run in `Cutting` that checks that
 cut_phase : (phase : Phase) (q planned : Planned) → phase ≡ Cutting q
     → looked_at phase ≡ Some planned → phase ≡ Cutting planned
 cut_phase phase q planned e looks =

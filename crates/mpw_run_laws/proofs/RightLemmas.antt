@@ -1,4 +1,4 @@
--- Behind a history of right answers, the book of a finished run is that of the flat layout.
+-- After a history of right answers, the book of a finished run is that of the flat layout.
 use Rattle.std.proofs.Common.{◌≡◌, ◌∙◌, ℕ, ◌<◌, List, [], ◌∷◌, length, get_or, Some, sym, ap, subst, arith, length-set}
 use Rattle.std.specs.Prelude.{All}
 use Rattle.std.proofs.lemmas.List.{get_or_default}
@@ -26,7 +26,7 @@ use Rattle.mpw_run_laws.specs.Right.{IsRightCut, IsRight, IsRightHistory, BooksA
 use Rattle.mpw_run_laws.proofs.Moves.{Takes, Cuts, Answered, IsAsked, tiles_with}
 use Rattle.mpw_run_laws.proofs.Calls.{Does, does}
 
--- ---- what is true of a phase behind right answers
+-- ---- what holds of a phase after right answers
 
 record IsCheckedRight (number : ℕ) (c : Checks) : Type 0 where
   snapshot : IsSnapshot c.planned.snapshot
@@ -159,7 +159,7 @@ books_are law computes officer digest calls f right e =
 
 -- ---- a legal history of right answers
 
--- the call at a place of the list
+-- the call at an index of the list
 pub right_call : (calls : List Call) (i k : ℕ) (d x : Call) → k ≡ i → i < length calls
     → x ≡ get_or calls i x → IsRight x.event → IsRight (get_or calls k d).event
 right_call calls i k d x same l is right =

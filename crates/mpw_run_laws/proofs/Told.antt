@@ -1,4 +1,4 @@
--- Where the run is finished: what was called.
+-- If the run is finished: what was called.
 use Rattle.std.proofs.Common.{◌≡◌, ℕ, ◌<◌, true, false, List, [], ◌∷◌, ◌++◌, length, Some, refl, sym, subst, ap, ◌∙◌, arith, append-nil, append_assoc, length-set}
 use Rattle.std.specs.Prelude.{All, slice_get, slice_set}
 use Rattle.std.proofs.lemmas.List.Elements.{All-nil, All-push}
@@ -21,7 +21,7 @@ use Rattle.mpw_run_laws.proofs.Calls.{Does, IsQuiet, does}
 use Rattle.mpw_run_laws.proofs.Histories.{state_after-append, along}
 use Rattle.mpw_run_laws.proofs.Counted.{IsCounted, new_counted, raised_counted, more_counted, set_cases, unkept_quiet, keeps_tile, was_before, was_now}
 
--- a run that began among the calls goes on behind it
+-- a run that began among the calls goes on after it
 record Began (first : State) (calls : List Call) (p : Planned) (rest : List Call) : Type 0 where
   before : List Call
   begin : Call
@@ -76,7 +76,7 @@ Told first calls (Cutting p) = IsCutting first calls p
 Told first calls (Checking c) = IsChecking first calls c
 Told first calls (Finished f) = IsDone first calls f.planned
 
--- a run that is finished stays so
+-- a finished run stays so
 done_on : (first : State) (calls : List Call) (call : Call) (p : Planned) → GoesOn call
     → IsDone first calls p → IsDone first (calls ++ call ∷ []) p
 done_on first calls call p goes t = record {
@@ -91,7 +91,7 @@ done_on first calls call p goes t = record {
   all = t.all;
 }
 
--- a call that the run doesn't notice
+-- a call that doesn't change the run
 quiet_on : (first : State) (calls : List Call) (call : Call) (phase : Phase) → IsQuiet call
     → is_restart call.event ≡ false → Told first calls phase → Told first (calls ++ call ∷ []) phase
 quiet_on first calls call Idle q r t = tt
@@ -125,7 +125,7 @@ restarted_on first calls call (Checking c) q t = record {
 }
 restarted_on first calls call (Finished f) q t = done_on first calls call f.planned q.goes_on t
 
--- what is told of a phase is told of that of a run
+-- what holds of a phase holds of that of a run
 at_phase : (first : State) (calls : List Call) (r : Run) (phase : Phase) → r.phase ≡ phase
     → Told first calls r.phase → Told first calls phase
 at_phase first calls r phase e t = subst (Told first calls) e t
@@ -152,7 +152,7 @@ raised_on first calls call c k x q r at t =
           (λ ne g'. u.kept j y m g' a);
     }
 
--- the windows came
+-- the windows are handed in
 cut_on : (first : State) (calls : List Call) (call : Call) (answer : CutWindows) (p : Planned)
     → IsQuiet call → is_restart call.event ≡ false → IsCutting first calls p
     → IsChecking first (calls ++ call ∷ []) (record {
@@ -170,7 +170,7 @@ cut_on first calls call answer p q r t = record {
   kept = λ k x m at e. absurd (new_open (tiles p.plan) k x m at e);
 }
 
--- the markers of a tile came
+-- the markers of a tile are handed in
 kept_with : (c : Checks) (answer : FoundMarkers) (x : Tile) (stretch : List Call) (call : Call)
     → slice_get c.tiles answer.job.tile ≡ Some x → KeepsTile answer.job.tile call
     → ((k : ℕ) (y : Tile) (m : List Marker) → slice_get c.tiles k ≡ Some y → y.answer ≡ Some m

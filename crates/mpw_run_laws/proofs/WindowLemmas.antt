@@ -1,4 +1,4 @@
--- What a tile's core finds, and what it meets, is told by the squares of the tile's window.
+-- The squares of a tile's window decide what the tile's core finds, and what it touches.
 use Rattle.std.proofs.Common.{◌≡◌, ℕ, ◌+◌, ◌≤◌, true, List, Some, refl, sym, subst, ap, ◌∙◌, arith}
 use Rattle.std.specs.Prelude.{ℤ, pos, ◌-ℤ◌, ◌≤ℤ◌, Contains, slice_get}
 use Rattle.std.proofs.lemmas.Int.{ints}
@@ -50,7 +50,7 @@ same_coverage window first second same layer i j l r d t =
     (λ k. let p = f.listed_at i j k in g.all i j p.0 ((same.squares q layer p.0 w).0 p.1))
     (λ k. let p = g.listed_at i j k in f.all i j p.0 ((same.squares q layer p.0 w).1 p.1))
 
--- origins with a square at a box, where such squares lie in the window
+-- origins with a square at a box, if such squares are in the window
 met_alike : (window : Box2) (first second : List Rectangle) (box : Box2) (origin : ℕ)
     → HaveSameSquares window first second
     → ((s : Square) → Meet (closed_square s) box → has_square window s ≡ true)
@@ -68,9 +68,9 @@ turned window first second same = record {
   squares = λ s layer origin w. let both = same.squares s layer origin w in (both.1, both.0);
 }
 
--- ---- squares that meet a row
+-- ---- squares that touch a row
 
--- the square is at most one nm from the box
+-- the square is at most 1 nm from the box
 record IsNext (b : Box2) (s : Square) : Type 0 where
   left : (b.x0 -ℤ pos 1) ≤ℤ s.column
   right : s.column ≤ℤ b.x1

@@ -1,4 +1,4 @@
--- What the calls of a history tell of its runs.
+-- What the calls of a history say of its runs.
 use Rattle.std.specs.Prelude.{◌≡◌, ℕ, Bool, true, false, ◌&&◌, List, Contains}
 use Rattle.mpw_job.specs.Jobs.{FoundMarkers}
 use Rattle.mpw_run.specs.declared.phase.RunReply.TheVariants as run_reply
@@ -29,31 +29,31 @@ abbrev pub is_accepted : Response → Bool
 is_accepted (response.Told (reply.Ok lines)) = true
 is_accepted _ = false
 
--- With the call a run begins: an accepted `run`. With the call the run is left: an accepted `cancel`.
+-- The call begins a run: an accepted `run`. The call leaves the run: an accepted `cancel`.
 abbrev pub begins : Call → Bool
 begins call = asks_run call.event && is_accepted call.response
 
 abbrev pub leaves : Call → Bool
 leaves call = asks_cancel call.event && is_accepted call.response
 
--- The run of before goes on with the call.
+-- The earlier run goes on with the call.
 pub record GoesOn (call : Call) : Type 0 where
   pub same : begins call ≡ false
   pub stays : leaves call ≡ false
 
--- What was handed in is kept: `Kept`, or `Finished` with the last tile's.
+-- An answer was accepted: `Kept`, or `Finished` with the last tile's.
 abbrev pub is_kept : Response → Bool
 is_kept (response.Run run_reply.Kept) = true
 is_kept (response.Run run_reply.Finished) = true
 is_kept _ = false
 
--- With the call an answer of the tile is kept.
+-- The call is an answer of the tile that is accepted.
 pub record KeepsTile (tile : ℕ) (call : Call) : Type 0 where
   pub answer : FoundMarkers
   pub is : call.event ≡ event.Tile answer
   pub of_tile : answer.job.tile ≡ tile
   pub kept : is_kept call.response ≡ true
 
--- With one of the calls.
+-- One of the calls is.
 abbrev pub WasKept : List Call → ℕ → Type 0
 WasKept calls tile = (call : Call) × Contains calls call × KeepsTile tile call

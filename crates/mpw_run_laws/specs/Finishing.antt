@@ -1,4 +1,4 @@
--- When a run is finished, told by the calls of a history, and what it looked at.
+-- When a run is finished, in terms of the calls of a history, and what it checked.
 use Rattle.std.specs.Prelude.{◌≡◌, ◌<◌, ◌↔◌, ℕ, true, false, List, ◌∷◌, ◌++◌, All, Some}
 use Rattle.mpw_placings.specs.Placements.{roots_of}
 use Rattle.mpw_tiles.specs.Plan.{Tiling, tiles}
@@ -16,8 +16,8 @@ pub record StandsIn (state : State) (snapshot : Snapshot) : Type 0 where
   pub roots : roots_of state.wafer.placings ≡ snapshot.roots
   pub shelf : state.shelf ≡ snapshot.shelf
 
--- A run over the snapshot began among the calls, and none began or was left since. In a stretch of calls since, with no restart
--- among them, an answer of each of its tiles was kept.
+-- A run over the snapshot began among the calls, and none began or was cancelled since. In a stretch of calls
+-- since, with no restart among them, an answer of each of its tiles was accepted.
 pub record WasChecked (first : State) (calls : List Call) (snapshot : Snapshot) : Type 0 where
   pub before : List Call
   pub begin : Call
@@ -33,13 +33,13 @@ pub record WasChecked (first : State) (calls : List Call) (snapshot : Snapshot) 
   pub planned : plan_for snapshot ≡ Some plan
   pub all : (tile : ℕ) → tile < tiles plan → WasKept stretch tile
 
--- The run of the state is finished, and looked at the snapshot.
+-- The run of the state is finished, and checked the snapshot.
 pub record HasChecked (state : State) (snapshot : Snapshot) : Type 0 where
   pub checked : Checked
   pub finished : state.run.phase ≡ Finished checked
   pub looked_at : checked.planned.snapshot ≡ snapshot
 
--- In the state that a legal history leads to, a run over a snapshot is finished exactly where that is so.
+-- In the state that a legal history leads to, a run over a snapshot is finished exactly if this holds.
 abbrev pub FinishedExactlyThen : Type 0
 FinishedExactlyThen =
     (officer digest : List ℕ) (calls : List Call) (snapshot : Snapshot)

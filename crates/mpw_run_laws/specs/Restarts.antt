@@ -1,4 +1,4 @@
--- What a restart leaves, and what it takes back.
+-- What a restart leaves unchanged, and what it undoes.
 use Rattle.std.specs.Prelude.{◌≡◌, ℕ, Bool, false, Option, None, Some}
 use Rattle.mpw_rbac.specs.Policy.{Policy}
 use Rattle.mpw_job.specs.Jobs.{CutWindows, FoundMarkers}
@@ -15,27 +15,27 @@ use Rattle.mpw_events.specs.declared.event.Response.TheVariants as response
 use Rattle.mpw_events.specs.Step.{State, response_of, after}
 use Rattle.mpw_run_laws.specs.Calls.{is_kept}
 
--- What a run looks at that began and was not left.
+-- What a run checks that began and was not cancelled.
 abbrev pub looked_at : Phase → Option Planned
 looked_at Idle = None
 looked_at (Cutting planned) = Some planned
 looked_at (Checking c) = Some c.planned
 looked_at (Finished f) = Some f.planned
 
--- What a run looks at that is not finished.
+-- What an unfinished run checks.
 abbrev pub worked_on : Phase → Option Planned
 worked_on Idle = None
 worked_on (Cutting planned) = Some planned
 worked_on (Checking c) = Some c.planned
 worked_on (Finished f) = None
 
--- The job of cutting what a run looks at.
+-- The job of cutting what a run checks.
 abbrev pub cutting : ℕ → Planned → CutJob
 cutting number planned = record { run = number; snapshot = planned.snapshot }
 
--- The run keeps its number, what it looks at, and what it found where it is finished: whoever asks is listed the same markers, and the
--- waivers are as they were. No answer of a tile counts: none is kept, who calls for a job of a run that is not finished is handed the
--- cut, and behind the windows no tile is answered.
+-- The run keeps its number, what it checks, and, if it is finished, what it found: everybody gets the same
+-- list of markers, and the waivers are the same. No answer of a tile counts: none is accepted, a call for a
+-- job of an unfinished run gets the cut, and after the windows no tile is answered.
 pub record TakesBack (state behind : State) : Type 0 where
   pub number : behind.run.number ≡ state.run.number
   pub looks_at : looked_at behind.run.phase ≡ looked_at state.run.phase
@@ -55,7 +55,7 @@ pub record TakesBack (state behind : State) : Type 0 where
 abbrev pub RestartsTakeBack : Type 0
 RestartsTakeBack = (state : State) (kept : Bool) → TakesBack state (after state event.Restart kept)
 
--- No other run is so: whatever else takes a run back is a restart of it.
+-- This holds of no other run: whatever else takes a run back is a restart of it.
 abbrev pub OnlyRestartsTakeBack : Type 0
 OnlyRestartsTakeBack = (state behind : State) → TakesBack state behind
     → behind.run ≡ restarted state.run

@@ -1,4 +1,5 @@
--- Histories as desks have them: each call is legal, and each answer that was handed in is right. A worker's answer is so by its type.
+-- Histories as desks have them: each call is legal, and each answer that was handed in is right. A worker's
+-- answer is right by its type.
 use Rattle.std.specs.Prelude.{◌≡◌, ℕ, List, [], ◌∷◌}
 use Rattle.mpw_tiles.specs.Snapshots.{IsSnapshot}
 use Rattle.mpw_job.specs.Jobs.{CutWindows, IsCutAnswer, IsTileAnswer}
@@ -11,12 +12,12 @@ use Rattle.mpw_events.specs.declared.event.Event.TheVariants as event
 use Rattle.mpw_events.specs.History.{state_after, IsCall}
 use Rattle.mpw_events.specs.Step.{State, new_state, after}
 
--- The job's snapshot is one, and the windows stand for it.
+-- The job's snapshot is one, and the windows represent it.
 pub record IsRightCut (answer : CutWindows) : Type 0 where
   pub snapshot : IsSnapshot answer.job.snapshot
   pub windows : IsCutAnswer answer
 
--- What the event hands in is right; most hand nothing in.
+-- The answer that the event hands in is right; most events hand none in.
 abbrev pub IsRight : Event → Type 0
 IsRight (event.Ask connection request) = Unit {0}
 IsRight (event.Gone connection) = Unit {0}
@@ -35,7 +36,7 @@ IsRightHistory state [] = Unit {0}
 IsRightHistory state (call ∷ calls) =
     IsRightCall state call × IsRightHistory (after state call.event call.kept) calls
 
--- Behind such a history the book of a run that is finished is that of its snapshot's flat layout.
+-- After such a history the book of a finished run is that of its snapshot's flat layout.
 abbrev pub BooksAreOfTheLayout : Type 0
 BooksAreOfTheLayout =
     (officer digest : List ℕ) (calls : List Call) (f : Checked)

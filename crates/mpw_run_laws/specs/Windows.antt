@@ -1,4 +1,5 @@
--- What a tile's window decides: the pair steps of the tile's core, row by row, and the origins that each row meets.
+-- What a tile's window decides: the pair steps of the tile's core, row by row, and the origins that each row
+-- touches.
 use Rattle.std.specs.Prelude.{◌≡◌, ◌↔◌, ℕ, ℤ, pos, ◌+ℤ◌, List, Contains}
 use Rattle.mpw_geom.specs.declared.plane.Box2.{Box2}
 use Rattle.mpw_geom.specs.Meeting.{IsMet}
@@ -27,7 +28,7 @@ HasListedStep rule core listed =
 abbrev pub row_box : Axis → ℤ → ℤ → ℤ → Box2
 row_box axis x1 x2 j = box_on axis x1 x2 j (j +ℤ pos 1)
 
--- Both lists have the same pair steps, row by row, and each such row meets the same origins.
+-- Both lists have the same pair steps, row by row, and each such row touches the same origins.
 pub record TellTheSame (rule : Rule) (core : Box2) (first second : List Rectangle) : Type 0 where
   pub steps : (axis : Axis) (side : ℕ) (x1 x2 j : ℤ)
       → HasListedStep rule core first axis side x1 x2 j

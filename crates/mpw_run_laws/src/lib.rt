@@ -1,7 +1,7 @@
-//! Laws of checking runs that none of the desk's calls rests on: what a tile's window decides, what finishes a run, what a restart
-//! takes back, and that right answers make the flat layout's markers.
+//! Laws of checking runs that none of the desk's calls needs: what a tile's window decides, what finishes a run, what a restart undoes, and
+//! that right answers make the flat layout's markers.
 //!
-//! The functions do nothing: their contracts are the laws, and speak of the definitions alone. No program links this crate.
+//! The functions do nothing. Their contracts are the laws, and speak of the definitions alone. No program links this crate.
 #![tactic(auto)]
 
 mod finishing;

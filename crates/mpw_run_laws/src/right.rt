@@ -8,8 +8,8 @@ use mpw_events::Event;
 use mpw_job::answers_make_the_layout;
 use mpw_run::stitched_computes;
 
-/// Behind a history whose calls are legal and hand in right answers, the book of a run that is finished has just the markers of the flat
-/// layout of its snapshot. A law: the function does nothing.
+/// After a history whose calls are legal and hand in right answers, the book of a finished run has exactly the markers of the flat layout
+/// of its snapshot. A law: the function does nothing.
 pub fn right_answers_make_the_layout()
     ensures { BooksAreOfTheLayout }
 {
@@ -17,7 +17,7 @@ pub fn right_answers_make_the_layout()
     stitched_computes();
 }
 
-/// The history of each desk is such a one: an answer is right by its type. It goes over the calls, and changes nothing.
+/// The history of each desk is such a one: an answer is right by its type. It visits the calls, and changes nothing.
 pub fn histories_are_right(core: &Core)
     ensures { IsRightHistory (new_state core.now.officer core.now.digest) core.now.history }
 {
@@ -27,7 +27,7 @@ pub fn histories_are_right(core: &Core)
     }
 }
 
-/// What the event hands in is right. The function changes nothing.
+/// The answer that the event hands in is right. The function changes nothing.
 fn hand_in(event: &Event)
     ensures { IsRight event.now }
 {

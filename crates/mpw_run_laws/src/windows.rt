@@ -4,8 +4,8 @@ ghost use Rattle.mpw_run_laws.specs.Windows.{SquaresDecideRows, SquaresDecideAns
 
 use mpw_tiles::{each_window_decides, each_window_tells_met};
 
-/// Two windows of a tile with the same squares, by layer and origin, however these are cut into rectangles, tell the same: row by row the
-/// pair steps of the tile's core, and which origins each row meets. So the markers that answer the tile's job are the same too.
+/// If two windows of a tile have the same squares, by layer and origin, however these are cut into rectangles, they have the same rows: the same pair
+/// steps of the tile's core, and the same origins that each row touches. So the markers that answer the tile's job are the same too.
 pub fn squares_decide()
     ensures rows { SquaresDecideRows }
     ensures answers { SquaresDecideAnswers }

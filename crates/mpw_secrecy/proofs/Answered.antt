@@ -1,4 +1,5 @@
--- What two desks of the same view answer to the requests that a view decides is the same, and leaves the same view.
+-- Two desks with the same view give the same answers to the requests that a view decides, and have the same
+-- view after it.
 use Rattle.std.proofs.Common.{◌≡◌, ◌∙◌, ℕ, Bool, true, false, cond, [], ◌∷◌, refl, sym, subst}
 use Rattle.std.specs.Prelude.{◌&&◌, not}
 use Rattle.mpw_hier.specs.Shelved.{PresentAreOfTheirCell}

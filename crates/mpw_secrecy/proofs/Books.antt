@@ -1,4 +1,4 @@
--- `status`, `markers` and `waivers` are told by the view.
+-- The view decides `status`, `markers` and `waivers`.
 use Rattle.std.proofs.Common.{◌≡◌, ◌∙◌, ℕ, suc, ◌+◌, Bool, true, false, cond, nat_lt, not, length, List, [], ◌∷◌, ◌++◌, map, slice_get, Option, None, Some, Result, Ok, Err, is_some, refl, sym, ap}
 use Rattle.std.specs.Prelude.{option_map}
 use Rattle.std.specs.List.{flat_map, position, position_or_len}
@@ -112,7 +112,7 @@ full_by rules shelf seen user m waiver =
       | false ↦ refl
     ]
 
--- lines that go down a book are those that are told of what is seen of each marker, if those of each marker are
+-- lines of a book depend on what is seen of each marker, if those of each marker do
 told_from : {X : Type 0} (told : MarkerSeen → List X) (shelf : List Submission) (seen : List Bool)
     (user : Name) (waivers : List (Option Waiver)) (lines : ℕ → List Marker → List X)
     (line : Marker → Option Waiver → List X)
@@ -180,7 +180,7 @@ checked_by policy connection waivers f =
     ∙ ap (λ names. flat_map (told_in names) markers
     ++ flat_map rule_told (rules_seen seen f.book 0 rules)) (names_from seen f.book 0 rules)
 
--- the rows behind their first test
+-- the decision tables after their first test
 abbrev book_row : Option BookSeen → Result (List Listed) Ending
 book_row None = Err (ending.Refused code.NotFinished)
 book_row (Some book) = Ok (book_told book)

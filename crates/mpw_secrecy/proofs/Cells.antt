@@ -1,4 +1,4 @@
--- `cells` and `shapes` are told by the view.
+-- The view decides `cells` and `shapes`.
 use Rattle.std.proofs.Common.{◌≡◌, ◌∙◌, ℕ, ◌+◌, Bool, true, false, cond, ◌||◌, List, [], ◌∷◌, ◌++◌, map, slice_get, Option, None, Some, Result, Ok, Err, is_some, refl, sym, ap, subst, true≢false}
 use Rattle.std.specs.List.{flat_map}
 use Rattle.std.proofs.lemmas.List.{map-append}
@@ -36,7 +36,7 @@ both_false true b e = absurd (true≢false e)
 
 -- ---- cells
 
--- a cell that no submission is of has no present one
+-- a cell without submissions has no present one
 present_none : (number : ℕ) (shelf : List Submission) (cell : Name)
     → contains_name (map (λ s. s.cell) shelf) cell ≡ false → present_from number shelf cell ≡ None
 present_none number [] cell none = refl

@@ -1,4 +1,4 @@
--- What two desks of the same view list is the same, and leaves the views as they were.
+-- Two desks with the same view list the same, and their views are unchanged after it.
 use Rattle.std.proofs.Common.{◌≡◌, ◌∙◌, ℕ, Bool, true, false, cond, List, [], ◌∷◌, Option, None, Some, Result, Ok, Err, is_some, refl, sym, ap, subst}
 use Rattle.std.specs.Prelude.{◌&&◌, not, option_map}
 use Rattle.std.specs.Option.{option_map_or}
@@ -33,13 +33,13 @@ use Rattle.mpw_secrecy.specs.Views.{SameView}
 use Rattle.mpw_secrecy.proofs.Books.{markers_alike, status_alike, waivers_alike}
 use Rattle.mpw_secrecy.proofs.Cells.{cells_alike, shapes_alike}
 
--- outcomes that tell the same, change alike, and leave the same view
+-- outcomes with the same response and the same change or none, and the same view after them
 pub record SameOutcome (connection : ℕ) (a b : Outcome) : Type 0 where
   pub told : a.response ≡ b.response
   pub changes : a.changes ≡ b.changes
   pub view : SameView connection a.state b.state
 
--- a view has nothing of the trail, nor of whether the desk is closed
+-- a view has nothing of the trail, nor whether the desk is closed
 pub besides : (connection : ℕ) (a b : State) (first second : List Entry) (c d : Bool)
     → SameView connection a b
     → SameView connection (record a { trail = first; closed = c })
@@ -50,7 +50,7 @@ besides connection a b first second c d same = record {
       record { grants = s.grants; cells = s.cells; run = s.run; book = s.book };
 }
 
--- an outcome that leaves the state
+-- an outcome that leaves the state unchanged
 abbrev pub Leaves : State → Outcome → Type 0
 Leaves state o = (o.state ≡ state) × (o.changes ≡ false)
 
@@ -64,13 +64,13 @@ of_listing connection a b first second same told leaves_a leaves_b = record {
       (subst (SameView connection a) (sym leaves_b.0) same);
 }
 
--- ---- rows that list
+-- ---- decision tables that list
 
 abbrev pub reply_by : Result (List Listed) Ending → Reply
 reply_by (Ok lines) = reply.Ok lines
 reply_by (Err why) = ended_by why
 
--- an outcome that tells what a row lists, and leaves the state
+-- an outcome that has what a decision table lists, and leaves the state unchanged
 abbrev pub Lists : (State → Result (List Listed) Ending → Outcome) → Type 0
 Lists by = (s : State) (row : Result (List Listed) Ending)
     → ((by s row).response ≡ response.Told (reply_by row)) × Leaves s (by s row)
@@ -178,7 +178,7 @@ listing presents connection a b (ask.SignOff sign.Waivers) same is =
 listing presents connection a b (ask.SignOff sign.Verdict) same is = absurd cc
 listing presents connection a b ask.Trail same is = absurd cc
 
--- ---- with the outcome of keeping
+-- ---- with whether the change is stored
 
 pub settled_alike : (connection : ℕ) (a b : State) (request : Request) (kept : Bool)
     (first second : Outcome) → SameView connection a b → SameOutcome connection first second

@@ -1,4 +1,4 @@
--- What is told of names in order: a name of which nothing is told makes no difference.
+-- What lists give for names in order: a name that gives nothing makes no difference.
 use Rattle.std.proofs.Common.{◌≡◌, ◌∙◌, ℕ, Bool, true, false, ◌||◌, List, [], ◌∷◌, ◌++◌, map, refl, sym, ap, true≢false}
 use Rattle.std.specs.List.{flat_map}
 use Rattle.std.specs.declared.cmp.Ordering.TheVariants.{Less, Equal, Greater}
@@ -74,7 +74,8 @@ swap_contains : (xs ys : List Name) (q : Name)
 swap_contains xs ys q = list_any-append (name_eq q) xs ys
     ∙ or_swap (contains_name xs q) (contains_name ys q) ∙ sym (list_any-append (name_eq q) ys xs)
 
--- what two lists tell alike of each name, and nothing of names that they don't have, they tell alike in order
+-- if two lists give the same for each name, and nothing for names that they don't have, they give the same in
+-- order
 pub told_alike : {A : Type 0} (f g : Name → List A) (xs ys : List Name)
     → ((name : Name) → f name ≡ g name)
     → ((name : Name) → contains_name xs name ≡ false → f name ≡ [])

@@ -1,4 +1,5 @@
--- The parts of rows that are alike in two desks of which a connection's sessions have the same view.
+-- The parts of decision tables that are the same on two desks on which a connection's sessions have the same
+-- view.
 use Rattle.std.proofs.Common.{◌≡◌, ◌∙◌, ℕ, Bool, true, false, cond, [], ◌∷◌, Option, None, Some, Result, Ok, Err, is_some, refl, sym, ap}
 use Rattle.std.specs.Prelude.{option_map}
 use Rattle.std.specs.Option.{option_map_or}
@@ -15,14 +16,14 @@ use Rattle.mpw_replies.specs.declared.row.Ending.TheVariants as ending
 use Rattle.mpw_events.specs.Step.{State}
 use Rattle.mpw_secrecy.specs.Views.{SameView}
 
--- ---- rows
+-- ---- decision tables
 
 on_alike : {A B : Type 0} (x : Result A Ending) (f g : A → Result B Ending)
     → ((value : A) → x ≡ Ok value → f value ≡ g value) → (x >>= f) ≡ (x >>= g)
 on_alike (Ok value) f g on = on value refl
 on_alike (Err why) f g on = refl
 
--- rows that begin alike, and go on alike where they go on
+-- tables that begin in the same way, and go on in the same way if they go on
 pub same_behind : {A B : Type 0} (x y : Result A Ending) (f g : A → Result B Ending) → x ≡ y
     → ((value : A) → x ≡ Ok value → f value ≡ g value) → (x >>= f) ≡ (y >>= g)
 same_behind x y f g e on = on_alike x f g on ∙ ap (λ z. z >>= g) e

@@ -1,4 +1,4 @@
--- A marker of a book is the only one of its key, and what a list of waivers has once one of them is put.
+-- A marker of a book is the only one with its key; and a list of waivers after one of them is put.
 use Rattle.std.proofs.Common.{◌≡◌, ◌∙◌, ℕ, zero, suc, ◌<◌, Bool, true, false, cond, nat_lt, not, List, [], ◌∷◌, length, get_or, slice_get, slice_set, Option, None, Some, inl, inr, refl, sym, ap, arith, true≢false}
 use Rattle.std.specs.List.{position_or_len}
 use Rattle.std.proofs.lemmas.Bool.{cases_lt}
@@ -39,7 +39,7 @@ key_same keys k l e =
     let found = keys (with_key k ∷ []) l 0 at in
     ap key_of (same_Some (with_key k) found.0 found.1) ∙ found.2
 
--- no two markers of a book have one key
+-- no two markers of a book have the same key
 apart : (m n : Marker) → IsFilled m → StandsBefore m n → key_of m ≡ key_of n → ⊥
 apart m n filled (inl less) same = line_before (line_of m) (line_of n) less (ap line_of_key same)
 apart m n filled (inr p) same =

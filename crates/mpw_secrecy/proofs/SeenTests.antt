@@ -1,4 +1,4 @@
--- What waive and sign are told of a view.
+-- What `waive` and `sign` get by a view.
 use Rattle.std.proofs.Common.{◌≡◌, ℕ, List, [], map, slice_set, Option, None, Some, Result, Ok, Err}
 use Rattle.std.specs.Prelude.{is_ok, option_map}
 use Rattle.std.specs.List.{position}
@@ -22,9 +22,9 @@ use Rattle.mpw_secrecy.specs.Views.{BookSeen, MarkerSeen, book_view}
 use Rattle.mpw_secrecy.proofs.Books.{names_in}
 use Rattle.mpw_secrecy.proofs.Waived.{marker_with, with_waiver}
 
--- ---- what is told of a view
+-- ---- what a view decides
 
--- a user's test of a marker that is seen, and what a user makes of its waiver
+-- a user's test of a marker that is seen, and the change of its waiver by a user
 abbrev pub Test : Type 0
 Test = MarkerSeen → Result (Unit {0}) Ending
 
@@ -57,19 +57,20 @@ abbrev book_with : Change → Key → BookSeen → BookSeen
 book_with change key book =
     record { markers = map (with_waiver key change) book.markers; rules = book.rules }
 
--- what is left of the view
+-- the view after it
 abbrev pub view_left : Change → Result Key Ending → Option BookSeen → Option BookSeen
 view_left change (Ok key) book = option_map (book_with change key) book
 view_left change (Err why) book = book
 
 -- ---- outcomes
 
--- the outcome of a waiver that is put at a place
+-- the outcome of a waiver that is put at an index
 abbrev pub put_at : (Name → Change) → List (Option Waiver) → ℕ → Name → signing.Outcome
 put_at change waivers place user =
     signing.acceptance (slice_set waivers place (change user (waiver_at waivers place)))
 
--- an outcome is what is told of the view, and leaves what is told of it
+-- an outcome has the result that the view decides, and the view after it is the one that the view
+-- decides
 pub record IsTold (policy : Policy) (connection : ℕ) (change : Change) (phase : Phase)
     (old : List (Option Waiver)) (o : signing.Outcome) (told : Result Key Ending) : Type 0 where
   pub reply : o.reply ≡ key_reply told

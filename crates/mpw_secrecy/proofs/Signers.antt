@@ -1,4 +1,4 @@
--- In every state each waiver that is signed was signed by one who neither asked for it nor submitted what its marker meets.
+-- In every state the signer of each signed waiver neither asked for it nor submitted what its marker touches.
 use Rattle.std.proofs.Common.{◌≡◌, ◌∙◌, ℕ, zero, suc, ◌⊎◌, inl, inr, List, [], ◌∷◌, length, slice_get, slice_set, Option, None, Some, Result, Ok, Err, refl, sym, ap, subst}
 use Rattle.std.proofs.lemmas.Option.{none-some, same_Some}
 use Rattle.mpw_hier.specs.declared.submission.Submission.{Submission}
@@ -26,7 +26,7 @@ use Rattle.mpw_events.specs.Step.{State}
 use Rattle.mpw_laws.proofs.WaivedLemmas.{waived-history}
 use Rattle.mpw_secrecy.specs.Apart.{EveryStateIsSignedApart, IsSignedApart}
 
--- the waivers of a run that is so far
+-- the waivers of a run in that phase
 abbrev SignedIn : Phase → List (Option Waiver) → Type 0
 SignedIn phase waivers = (place : ℕ) (waiver : Waiver) (signer : Name)
     → waiver_at waivers place ≡ Some waiver → waiver.signer ≡ Some signer
@@ -43,7 +43,7 @@ none_yet zero place waiver e = none-some waiver e
 none_yet (suc size) zero waiver e = none-some waiver e
 none_yet (suc size) (suc place) waiver e = none_yet size place waiver e
 
--- without waivers, and where the run isn't finished, whatever the run is now
+-- without waivers, and if the run isn't finished, whatever the run is now
 of_none : (phase : Phase) → SignedIn phase []
 of_none phase place waiver signer is by = absurd (no_waiver place waiver is)
 
@@ -128,7 +128,7 @@ of_signed policy run waivers connection name now s fit place waiver signer is by
       | inr before ↦ fit place waiver signer before by
     ]
 
--- ---- requests over the waivers
+-- ---- sign-off requests
 
 fit-told : (phase : Phase) (waivers : List (Option Waiver)) (row : Result (List Listed) Ending)
     → SignedIn phase waivers → SignedIn phase (signing.listing_outcome waivers row).waivers

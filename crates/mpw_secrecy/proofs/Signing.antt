@@ -1,4 +1,4 @@
--- `waive` and `sign` are told by the view, and so is what they leave of it.
+-- The view decides `waive` and `sign`, and the view after them.
 use Rattle.std.proofs.Common.{◌≡◌, ◌∙◌, ℕ, ◌+◌, ◌<◌, Bool, true, false, cond, List, [], length, map, slice_get, slice_set, Option, None, Some, Result, Ok, Err, is_some, refl, sym, ap, subst, arith}
 use Rattle.std.specs.Prelude.{is_ok, option_map}
 use Rattle.std.specs.List.{position}
@@ -51,7 +51,7 @@ use Rattle.mpw_secrecy.proofs.Places.{found_key, nowhere, only_at, put_here, put
 use Rattle.mpw_secrecy.proofs.Waived.{changed_at, marker_with, seen_at_place, seen_nowhere, with_waiver}
 use Rattle.mpw_secrecy.proofs.SeenTests.{Test, Change, test_row, of_rule, of_book, row_seen, key_reply, view_left, put_at, IsTold}
 
--- a row gives the user and the place of the marker, by `end`, and `outcome` makes of it what is put there
+-- a table gives the user and the index of the marker, by `end`, and `outcome` says what is put there
 module _ {B : Type 0} (keys : PlacesAreOfKeys) (policy : Policy) (connection : ℕ) (f : Checked)
     (waivers : List (Option Waiver)) (change : Name → Change)
     (outcome : Result B Ending → signing.Outcome) (end : Named → B)

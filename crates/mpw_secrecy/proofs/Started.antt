@@ -1,4 +1,4 @@
--- A wafer whose verdict is clean: each marker is waived by one who stands apart.
+-- A wafer whose verdict is clean: each marker has a waiver whose signer is apart from it.
 use Rattle.std.proofs.Common.{◌≡◌, ℕ, zero, suc, ◌<◌, true, List, [], ◌∷◌, length, slice_get, Option, None, Some, refl, sym, ap, ◌∙◌, arith}
 use Rattle.std.proofs.lemmas.Option.{none-some, same_Some}
 use Rattle.mpw_job.specs.Layout.{AreLayoutMarkers}

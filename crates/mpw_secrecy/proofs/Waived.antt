@@ -1,4 +1,4 @@
--- A waiver that is asked for or signed changes what is seen of one marker alone.
+-- A waiver that is asked for or signed changes only what is seen of one marker.
 use Rattle.std.proofs.Common.{◌≡◌, ◌∙◌, ℕ, zero, suc, ◌+◌, ◌≤◌, Bool, true, false, cond, List, [], ◌∷◌, ◌++◌, map, slice_get, Option, None, Some, refl, sym, ap, subst, arith}
 use Rattle.std.proofs.lemmas.List.{map-append}
 use Rattle.std.proofs.lemmas.Option.{none-some, same_Some}
@@ -12,7 +12,7 @@ use Rattle.mpw_waiver.specs.declared.waiver.Waiver.{Waiver}
 use Rattle.mpw_waiver.specs.Waivers.{waiver_at}
 use Rattle.mpw_secrecy.specs.Views.{MarkerSeen, marker_of, marker_seen, markers_seen}
 
--- no marker of the book but the one at that place has the key
+-- no marker of the book other than the one at that index has the key
 abbrev pub IsOnlyAt : List Marker → Key → ℕ → Type 0
 IsOnlyAt book key i =
     (j : ℕ) (m : Marker) → slice_get book j ≡ Some m → key_eq (key_of m) key ≡ true → j ≡ i
@@ -113,7 +113,7 @@ module _ (shelf : List Submission) (seen : List Bool) (user : Name) (key : Key) 
 
   -- ---- another waiver of it
 
-  -- one marker more, whose key and waiver stay
+  -- one more marker, whose key and waiver stay
   kept_one : (change : Option Waiver → Option Waiver) (m : Marker) (old new : Option Waiver)
       → key_eq (key_of m) key ≡ false → new ≡ old
       → marker_seen shelf seen user m new ≡ map (with_waiver key change)
@@ -142,7 +142,7 @@ module _ (shelf : List Submission) (seen : List Bool) (user : Name) (key : Key) 
         | false ↦ refl
       ]
 
-  -- the markers behind, which all stay
+  -- the markers after it, which all stay
   kept_behind : (change : Option Waiver → Option Waiver) (old new : List (Option Waiver))
       (place : ℕ) (book : List Marker) → Nowhere book
       → ((k : ℕ) → place ≤ k → waiver_at new k ≡ waiver_at old k)

@@ -1,4 +1,4 @@
--- Who signed the waivers of a desk: true of every state of it.
+-- Who signed the waivers of a desk: this holds in every state.
 use Rattle.std.specs.Prelude.{◌≡◌, ℕ, List, slice_get, Some}
 use Rattle.mpw_markers.specs.declared.marker.Marker.{Marker}
 use Rattle.mpw_roles.specs.Hierarchy.{Name}
@@ -12,7 +12,8 @@ use Rattle.mpw_events.specs.declared.event.Call.{Call}
 use Rattle.mpw_events.specs.History.{state_after}
 use Rattle.mpw_events.specs.Step.{State, new_state}
 
--- A run is finished, at that place of its book stands a marker, and the signer neither asked for its waiver nor submitted what it meets.
+-- A run is finished, its book has a marker at that index, and the signer neither asked for its waiver nor
+-- submitted what it touches.
 pub record IsSignedApart (phase : Phase) (place : ℕ) (waiver : Waiver) (signer : Name) :
     Type 0 where
   pub checked : Checked
@@ -21,7 +22,7 @@ pub record IsSignedApart (phase : Phase) (place : ℕ) (waiver : Waiver) (signer
   pub at : slice_get checked.book place ≡ Some marker
   pub apart : IsApart checked.planned.snapshot.shelf marker.met signer waiver
 
--- So is each waiver that somebody signed.
+-- This holds of each signed waiver.
 abbrev pub AreSignedApart : State → Type 0
 AreSignedApart state =
     (place : ℕ) (waiver : Waiver) (signer : Name)

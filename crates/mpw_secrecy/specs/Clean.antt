@@ -1,4 +1,4 @@
--- What is so where a verdict is `clean`: the wafer may start.
+-- What holds if a verdict is `clean`: the wafer may start.
 use Rattle.std.specs.Prelude.{◌≡◌, ℕ, Bool, List, [], ◌∷◌, slice_get, Option, Some}
 use Rattle.mpw_hier.specs.declared.submission.Submission.{Submission}
 use Rattle.mpw_job.specs.Layout.{AreLayoutMarkers}
@@ -19,7 +19,7 @@ use Rattle.mpw_events.specs.declared.event.Event.TheVariants as event
 use Rattle.mpw_events.specs.declared.event.Response.TheVariants as response
 use Rattle.mpw_events.specs.Step.{State, response_of}
 
--- There is a waiver of a marker, and one signed it who neither asked for it nor submitted what the marker meets.
+-- A marker has a waiver, and its signer neither asked for it nor submitted what the marker touches.
 pub record IsWaived (shelf : List Submission) (marker : Marker) (found : Option Waiver) :
     Type 0 where
   pub waiver : Waiver
@@ -28,8 +28,8 @@ pub record IsWaived (shelf : List Submission) (marker : Marker) (found : Option 
   pub signed : waiver.signer ≡ Some signer
   pub apart : IsApart shelf marker.met signer waiver
 
--- A run is finished whose deck and placed submissions are those of the wafer, its book has just the markers of the flat layout that
--- it looked at, and each of them is waived so.
+-- A run is finished whose deck and placed submissions are those of the wafer. Its book has exactly the
+-- markers of the flat layout that it checked, and each of them has such a waiver.
 pub record MayStart (state : State) : Type 0 where
   pub checked : Checked
   pub finished : state.run.phase ≡ Finished checked
@@ -39,7 +39,7 @@ pub record MayStart (state : State) : Type 0 where
   pub waived : (place : ℕ) (marker : Marker) → slice_get checked.book place ≡ Some marker
       → IsWaived checked.planned.snapshot.shelf marker (waiver_at state.waivers place)
 
--- Whoever asks: the verdict is `clean` only where that is so.
+-- Whoever asks: the verdict is `clean` only if this holds.
 abbrev pub CleanWafersMayStart : State → Type 0
 CleanWafersMayStart state =
     (connection : ℕ) (kept : Bool)

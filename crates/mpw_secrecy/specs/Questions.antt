@@ -26,7 +26,7 @@ lists_waivers (Sign marker) = false
 lists_waivers Waivers = true
 lists_waivers Verdict = false
 
--- `whoami`, `cells`, `shapes`, `status` and `markers`, and those over the waivers that are told.
+-- `whoami`, `cells`, `shapes`, `status` and `markers`, and those sign-off requests that pass the test.
 abbrev pub is_of : (SignOffRequest → Bool) → Request → Bool
 is_of of_waivers (ask.Policy request) = false
 is_of of_waivers ask.Whoami = true

@@ -1,4 +1,4 @@
--- The law of secrecy: what a session is told depends on its view alone.
+-- The law of secrecy: what a session learns depends on its view alone.
 use Rattle.std.specs.Prelude.{◌≡◌, ℕ, Bool, true, List, [], ◌∷◌, length}
 use Rattle.mpw_requests.specs.declared.request.Request.{Request}
 use Rattle.mpw_run.specs.Step.{IsRun, book_size}
@@ -8,17 +8,17 @@ use Rattle.mpw_events.specs.Step.{State, after, response_of}
 use Rattle.mpw_secrecy.specs.Questions.{is_listing, is_of_view}
 use Rattle.mpw_secrecy.specs.Views.{SameView}
 
--- ---- what is true of the state of each desk
+-- ---- what holds of the state of each desk
 
--- Its run is what runs are, so that no two markers of a book have one key, and a run that is finished has a place for a waiver of each
--- of its markers.
+-- Its run is sound, so no two markers of a book have the same key, and a finished run has an entry for a
+-- waiver of each of its markers.
 pub record IsOrderly (state : State) : Type 0 where
   pub run : IsRun state.run
   pub places : length state.waivers ≡ book_size state.run.phase
 
 -- ---- one request
 
--- What is listed of two desks with the same view is the same.
+-- Two desks with the same view list the same.
 abbrev pub EqualViewsGiveEqualListings : Type 0
 EqualViewsGiveEqualListings =
     (connection : ℕ) (a b : State) (request : Request) (kept : Bool)
@@ -26,7 +26,7 @@ EqualViewsGiveEqualListings =
     → response_of a (event.Ask connection request) kept ≡ response_of b
     (event.Ask connection request) kept
 
--- Behind it the views are the same again.
+-- After it the views are the same.
 abbrev pub ListingsLeaveTheViews : Type 0
 ListingsLeaveTheViews =
     (connection : ℕ) (a b : State) (request : Request) (kept : Bool)
@@ -34,7 +34,7 @@ ListingsLeaveTheViews =
     → SameView connection (after a (event.Ask connection request) kept)
     (after b (event.Ask connection request) kept)
 
--- Requests that a view decides, `waive` and `sign` too, are answered alike of two desks with the same view.
+-- Two desks with the same view answer requests that a view decides identically, including `waive` and `sign`.
 abbrev pub EqualViewsGiveEqualAnswers : Type 0
 EqualViewsGiveEqualAnswers =
     (connection : ℕ) (a b : State) (request : Request) (kept : Bool)
@@ -42,7 +42,7 @@ EqualViewsGiveEqualAnswers =
     → response_of a (event.Ask connection request) kept ≡ response_of b
     (event.Ask connection request) kept
 
--- Behind them the views are the same again, with the waiver that was asked for or signed.
+-- After them the views are the same, with the waiver that was asked for or signed.
 abbrev pub EqualViewsStayEqual : Type 0
 EqualViewsStayEqual =
     (connection : ℕ) (a b : State) (request : Request) (kept : Bool)
@@ -52,19 +52,19 @@ EqualViewsStayEqual =
 
 -- ---- lists of requests
 
--- A request, and whether what it changes is kept.
+-- A request, and whether its change is stored.
 pub record Asked : Type 0 where
   pub request : Request
   pub kept : Bool
 
--- What a connection's requests are answered, one behind the other.
+-- The answers to a connection's requests, one after another.
 abbrev pub answers_to : ℕ → State → List Asked → List Response
 answers_to connection state [] = []
 answers_to connection state (asked ∷ rest) =
     response_of state (event.Ask connection asked.request) asked.kept
     ∷ answers_to connection (after state (event.Ask connection asked.request) asked.kept) rest
 
--- The state that they leave.
+-- The state after them.
 abbrev pub state_behind : ℕ → State → List Asked → State
 state_behind connection state [] = state
 state_behind connection state (asked ∷ rest) =
@@ -95,7 +95,7 @@ EqualViewsGiveEqualAnswersToLists =
     → IsOrderly a → IsOrderly b → SameView connection a b → AreOfView requests
     → SameBehind connection a b requests
 
--- Of two states: what every list of these requests is answered.
+-- For two states: the answers to every list of these requests.
 abbrev pub EqualViewsAreAnsweredAlike : State → State → Type 0
 EqualViewsAreAnsweredAlike a b = (connection : ℕ) (requests : List Asked) → SameView connection a b
     → AreOfView requests → SameBehind connection a b requests

@@ -35,7 +35,7 @@ use Rattle.mpw_events.specs.Step.{State}
 
 -- ---- the session
 
--- Its user, with the active and the authorized roles, by name.
+-- Its user, with the active and the authorized roles, in alphabetical order.
 abbrev pub identity_view : Policy → ℕ → Option Identity
 identity_view policy connection = option_map (identity_of policy) (session_of policy connection)
 
@@ -48,7 +48,7 @@ pub record ShapeSeen : Type 0 where
   pub placing : Placing
   pub element : Element
 
--- The present submission of a cell, with the shapes that it shows, as far as the session may read the cells that they come from.
+-- The present submission of a cell, with those of its shapes that come from cells that the session may read.
 pub record CellSeen : Type 0 where
   pub version : ℕ
   pub submitter : Name
@@ -84,13 +84,13 @@ cell_at policy connection shelf None = None
 cell_at policy connection shelf (Some number) =
     seen_at policy connection shelf number (slice_get shelf number)
 
--- Of a cell: nothing where it has no submission.
+-- Of a cell: nothing if it has no submission.
 unfoldable pub cell_view : Policy → ℕ → List Submission → Name → Option CellSeen
 cell_view policy connection shelf cell = cell_at policy connection shelf (present shelf cell)
 
 -- ---- the run
 
--- How far a run is; one whose tiles are checked, with how many of how many are.
+-- How far a run is. In `checking`, how many of how many tiles are checked.
 pub data Stage : Type 0 where
   resting : Stage
   cutting : Stage
@@ -110,22 +110,22 @@ stage_of (Finished f) = Stage.finished
 abbrev pub run_view : Run → RunSeen
 run_view run = record { number = run.number; stage = stage_of run.phase }
 
--- ---- the book of a run that is finished
+-- ---- the book of a finished run
 
--- A marker that is shown in full: its key, the cells that it meets, those of which the session's user submitted what it meets, and
--- its waiver.
+-- A full marker: its key, the cells that it touches, those of which the session's user submitted what it
+-- touches, and its waiver.
 pub record MarkerSeen : Type 0 where
   pub key : Key
   pub cells : List Name
   pub own : List Name
   pub waiver : Option Waiver
 
--- A rule's name, and how many of its markers are masked.
+-- A rule's name, and the count of its masked markers.
 pub record RuleSeen : Type 0 where
   pub name : Name
   pub masked : ℕ
 
--- The markers that are shown in full, and the rules of the run's deck, each in order.
+-- The full markers, and the rules of the run's deck, each in order.
 pub record BookSeen : Type 0 where
   pub markers : List MarkerSeen
   pub rules : List RuleSeen
@@ -143,7 +143,7 @@ abbrev pub marker_seen : List Submission → List Bool → Name → Marker → O
 marker_seen shelf seen user m waiver =
     if is_full seen m then marker_of shelf user m waiver ∷ [] else []
 
--- Those from a place of the book on.
+-- Those from an index of the book on.
 unfoldable pub markers_seen : List Submission → List Bool → Name → List (Option Waiver) → ℕ
     → List Marker → List MarkerSeen
 markers_seen shelf seen user waivers place [] = []
@@ -154,7 +154,7 @@ markers_seen shelf seen user waivers place (m ∷ book) =
 abbrev pub masked_of : List Bool → List Marker → ℕ → ℕ
 masked_of seen book rule = length (filter (λ m. (m.rule == rule) && is_masked seen m) book)
 
--- Those from a place of the deck on.
+-- Those from an index of the deck on.
 unfoldable pub rules_seen : List Bool → List Marker → ℕ → List Rule → List RuleSeen
 rules_seen seen book place [] = []
 rules_seen seen book place (rule ∷ rules) =
@@ -177,7 +177,7 @@ checked_view policy connection waivers f =
     book_seen shelf (seen_by policy connection shelf) (user_of policy connection) waivers
     f.planned.snapshot.deck.rules f.book
 
--- Nothing where no run is finished.
+-- Nothing if no run is finished.
 abbrev pub book_view : Policy → ℕ → List (Option Waiver) → Phase → Option BookSeen
 book_view policy connection waivers Idle = None
 book_view policy connection waivers (Cutting planned) = None
@@ -186,8 +186,8 @@ book_view policy connection waivers (Finished f) = Some (checked_view policy con
 
 -- ---- the view
 
--- Whatever an operation and an object are, they are granted to the acting roles of both sessions or of neither; of each cell that
--- may be read, of the run and of its book both see the same.
+-- Any operation on any object is granted to the acting roles of both sessions or of neither; of each cell
+-- that may be read, of the run and of its book both see the same.
 pub record SameSight (connection : ℕ) (a b : State) : Type 0 where
   pub grants : (operation : Operation) (object : Object)
       → permits a.policy connection operation object ≡ permits b.policy connection operation object
@@ -198,8 +198,8 @@ pub record SameSight (connection : ℕ) (a b : State) : Type 0 where
       b.waivers
       b.run.phase
 
--- Two desks of which the sessions of a connection have the same view: both or neither have a session, of the same user with the same
--- roles, and where there is one, it sees the same.
+-- Two desks on which the sessions of a connection have the same view: both or neither have a session, of the
+-- same user with the same roles, and if there is one, it sees the same.
 pub record SameView (connection : ℕ) (a b : State) : Type 0 where
   pub identity : identity_view a.policy connection ≡ identity_view b.policy connection
   pub sight : is_some (session_of a.policy connection) ≡ true → SameSight connection a b

@@ -1,4 +1,4 @@
-//! Laws of the definitions alone. Each function calls at most the laws that its own rests on: its contract is the law.
+//! Laws of the definitions alone. Each function calls at most the laws that its proof needs. Its contract is the law.
 ghost use Rattle.mpw_events.specs.History.{state_of};
 ghost use Rattle.mpw_secrecy.specs.Apart.{EveryStateIsSignedApart};
 ghost use Rattle.mpw_secrecy.specs.Clean.{CleanWafersMayStart};
@@ -13,8 +13,8 @@ use mpw_laws::{
 };
 use mpw_markers::places_are_of_their_keys;
 
-/// Two desks of which a connection's sessions have the same view list the same to it, and the views are the same again
-/// after that: for each of `whoami`, `cells`, `shapes`, `status`, `markers` and `waivers`, and so for every list of them.
+/// If a connection's sessions on two desks have the same view, both desks list the same for it, and the views are the same after it. This
+/// holds for each of `whoami`, `cells`, `shapes`, `status`, `markers` and `waivers`, and so for every list of them.
 pub fn equal_views_give_equal_listings()
     ensures told { EqualViewsGiveEqualListings }
     ensures left { ListingsLeaveTheViews }
@@ -23,9 +23,9 @@ pub fn equal_views_give_equal_listings()
     shelves_have_their_numbers();
 }
 
-/// The same of `waive` and `sign` too: two desks of which a connection's sessions have the same view answer them alike, and the
-/// views are the same again after them, with the waiver that was asked for or signed; and so for every list of these requests.
-/// That the states are orderly is true of every desk.
+/// The same holds of `waive` and `sign`: if a connection's sessions on two desks have the same view, both desks answer them identically.
+/// The views are the same after them, with the waiver that was asked for or signed; and so for every list of these requests. The condition
+/// that the states are orderly holds of every desk.
 pub fn equal_views_give_equal_answers()
     ensures told { EqualViewsGiveEqualAnswers }
     ensures left { EqualViewsStayEqual }
@@ -36,8 +36,8 @@ pub fn equal_views_give_equal_answers()
     places_are_left();
 }
 
-/// So it is of any two desks: over every list of these requests they give the same answers to a connection's sessions that have
-/// the same view, and the views are the same again after it.
+/// This holds of any two desks: over every list of these requests, they give the same answers to a connection's sessions with the same
+/// view, and the views are the same after it.
 pub fn desks_of_equal_views_answer_alike(first: &Core, second: &Core)
     ensures { EqualViewsAreAnsweredAlike (state_of first.now) (state_of second.now) }
 {
@@ -47,8 +47,8 @@ pub fn desks_of_equal_views_answer_alike(first: &Core, second: &Core)
     equal_views_give_equal_answers();
 }
 
-/// In every state that calls lead to, each waiver that is signed is of a marker of a finished run, and was signed by one who
-/// neither asked for it nor submitted a submission that the marker meets.
+/// In every state that calls lead to, each signed waiver is of a marker of a finished run. Its signer neither asked for it nor submitted a
+/// submission that the marker touches.
 pub fn every_state_is_signed_apart()
     ensures { EveryStateIsSignedApart }
 {
@@ -57,9 +57,9 @@ pub fn every_state_is_signed_apart()
     waivers_are_of_shown_markers();
 }
 
-/// A wafer may start where the verdict of its desk is `clean`, whoever asks: the run is finished, deck and placed submissions are
-/// those that it looked at, its book has just the markers of the flat layout that it looked at, and each of them has a waiver that
-/// was signed by one who neither asked for it nor submitted what the marker meets.
+/// If the verdict of a wafer's desk is `clean`, whoever asks, the wafer may start. The run is finished. The deck and the placed submissions
+/// are those that it checked. Its book has exactly the markers of the flat layout that it checked. Each marker has a waiver, whose signer
+/// neither asked for it nor submitted what the marker touches.
 pub fn clean_wafers_may_start(core: &Core)
     ensures { CleanWafersMayStart (state_of core.now) }
 {

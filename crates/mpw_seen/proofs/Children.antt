@@ -39,13 +39,13 @@ one_longer front x = length-append front (x ∷ [])
 pub told_both : (a b x y : ℕ) → told a ≡ told x → told b ≡ told y → told (a + b) ≡ told (x + y)
 told_both a b x y p q = sym (told_sum a b) ∙ rw (p, q) (told_sum x y)
 
--- what the references of elements show
+-- the content of elements' references
 abbrev pub shown_below : (List ℕ → List Item) → List Element → List Item
 shown_below below es = flat_map (λ (r : Reference). placed_items r (below r.name)) (references es)
 
 module _ (s : Submission) (before : List (List Item)) (earlier : List Node) (seen : List Bool)
     (own outer : List ℕ) (all : List Element) where
-  -- the number of each target is that of what its name shows
+  -- the number of each target is that of its name's content
   abbrev pub AreOfTargets : Type 0
   AreOfTargets = (name : List ℕ) (target : Target) → IsTarget s (length before) earlier name target
       → told (target_number own outer target)

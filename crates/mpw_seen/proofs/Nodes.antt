@@ -1,4 +1,4 @@
--- The numbers of nodes are those of what their structures show.
+-- The numbers of nodes are those of their structures' contents.
 use Rattle.std.proofs.Common.{◌≡◌, ℕ, zero, suc, ◌+◌, ◌-◌, ◌<◌, ◌≤◌, Bool, cond, ◌⊎◌, inl, inr, List, [], ◌∷◌, ◌++◌, length, get_or, take, Option, Some, refl, sym, ap, subst, ◌∙◌, arith}
 use Rattle.std.specs.Prelude.{slice_get, slice_index, option_copied, IfSome}
 use Rattle.std.specs.Borrow.{Bor}
@@ -32,7 +32,7 @@ among_first (suc k) [] i x h = h
 among_first (suc k) (y ∷ xs) zero x h = h
 among_first (suc k) (y ∷ xs) (suc i) x h = among_first k xs i x h
 
--- a submission shows what its top does
+-- the content of a submission is that of its top
 flat_is : (law : NamesAreShown) (ss : List Submission) (n : ℕ) (s : Submission)
     → slice_get ss n ≡ Some s → flat ss n ≡ flat_of (flats (take n ss)) s
 unfolding flats
@@ -85,7 +85,7 @@ numbers_more library outer seen nodes i node old new number w at is made = recor
         ∙ ap (λ xs. told (node_number (elements_of (slice_get library other.structure)) xs outer
         seen other)) (sym whole))
 
--- ---- what the numbers tell
+-- ---- the meaning of the numbers
 
 module _ (law : NamesAreShown) (ss : List Submission) (n : ℕ) (s : Submission)
     (is : slice_get ss n ≡ Some s) (seen : List Bool) (nodes : List Node)
@@ -94,7 +94,7 @@ module _ (law : NamesAreShown) (ss : List Submission) (n : ℕ) (s : Submission)
   abbrev before : List (List Item)
   before = flats (take n ss)
 
-  -- the first nodes tell what their structures show, by any names
+  -- the first nodes have the numbers of their structures, by any names
   abbrev pub AreTold : ℕ → Type 0
   AreTold many = (k : ℕ) (node : Node) (name : List ℕ) → k < many → slice_get nodes k ≡ Some node
       → place_of s.library name ≡ Some node.structure
@@ -175,7 +175,7 @@ module _ (law : NamesAreShown) (ss : List Submission) (n : ℕ) (s : Submission)
         node_told made k (subst AreTold e (nodes_told made many)) node name at named
   ]
 
--- the last number is that of what the submission shows
+-- the last number is that of the submission's content
 pub top_told : (law : NamesAreShown) (ss : List Submission) (n : ℕ) (seen : List Bool)
     (nodes : List Node) (w : AreNodes ss n nodes) (outer : List ℕ) → AreOfBound ss seen n outer
     → (numbers : List ℕ)
@@ -198,7 +198,7 @@ from_is : (o : Option (Bor Submission)) (from : Bor Submission) (p : Option Subm
     (s : Submission) → o ≡ Some from → option_copied o ≡ p → p ≡ Some s → s ≡ from.now
 from_is o from p s is copied at = one p s from.now at (sym copied ∙ ap option_copied is)
 
--- the same of what a shelf gives
+-- the same for what a shelf returns
 pub count_told : (law : NamesAreShown) (ss : List Submission) (n : ℕ) (seen : List Bool)
     (o : Option (Bor (List Node))) (nodes : Bor (List Node)) → o ≡ Some nodes
     → IfSome o (λ (ns : Bor (List Node)). AreNodes ss n ns.now)

@@ -1,4 +1,4 @@
--- How many of the shapes that are placed are seen.
+-- How many of the placed shapes are seen.
 use Rattle.std.proofs.Common.{◌≡◌, ℕ, ◌+◌, ◌*◌, ◌≤◌, Bool, true, false, cond, pos, List, [], ◌∷◌, ◌++◌, length, map, refl, ap, sym, ◌∙◌, arith, length-append}
 use Rattle.std.specs.Prelude.{slice_get}
 use Rattle.std.specs.List.{flat_map, range_with_len}
@@ -35,7 +35,7 @@ pub seen_few : (seen : List Bool) (xs : List Item) → seen_items seen xs ≤ le
 unfolding seen_items
 seen_few seen xs = count_by-le-length (λ (i : Item). is_seen (slice_get seen i.origin)) xs
 
--- ---- placed shapes come from where they came
+-- ---- placing doesn't change the origin of shapes
 
 seen_placed : (seen : List Bool) (t : Placing) (xs : List Item)
     → seen_items seen (map (placed_item t) xs) ≡ seen_items seen xs

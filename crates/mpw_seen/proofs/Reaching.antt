@@ -84,7 +84,7 @@ reached_more ss number from old new s w here marked = record {
       ];
 }
 
--- what writes to all of a vector leave
+-- the result of writing to all of a vector
 pub all_written : (items new : List Bool) (len : ℕ) → length items ≡ len → length new ≡ length items
     → take len (new ++ drop (length new) items) ≡ new
 all_written items new len many same =

@@ -1,4 +1,4 @@
-//! The number of seen shapes of a submission, from those of its nodes.
+//! Counts the seen shapes of a submission, from the counts of its nodes.
 
 ghost use Rattle.std.specs.Prelude.{◌≡◌, ◌<◌, length, IfOk};
 ghost use Rattle.mpw_hier.specs.Values.{flat};
@@ -12,11 +12,11 @@ use crate::seen::is_seen;
 use mpw_hier::Shelf;
 use std::alloc::{AllocError, Global};
 
-/// The number of seen shapes of a submission, by those of the submissions to which its names are bound. One pass over its nodes and their
-/// children, and memory for a number each node.
+/// The number of seen shapes of a submission, from those of the submissions to which its names are bound. Cost: one pass over its nodes and their
+/// children, and memory for one number for each node.
 ///
 /// # Errors
-/// Want of memory.
+/// Out of memory.
 fn submission_count(
     alloc: Global,
     shelf: &Shelf,
@@ -35,14 +35,14 @@ fn submission_count(
     Ok(number_at(&numbers, nodes.len() - 1))
 }
 
-/// How many shapes of a submission's flat list come from submissions that may be seen: those whose place in `seen` holds `true`.
+/// How many flat shapes of a submission come from submissions that may be seen: those whose entry in `seen` is `true`.
 ///
-/// One pass over the nodes of the submission and of those that it reaches, and over the children of these, whatever the number of
-/// instances and of levels. Memory for a number each node of one submission at a time, and for a mark and a number each submission
+/// Cost: one pass over the nodes of the submission and of those that it reaches, and over their children, whatever the number of
+/// instances and levels. Memory: one number for each node of one submission at a time, and a mark and a number for each submission
 /// up to this one.
 ///
 /// # Errors
-/// Want of memory.
+/// Out of memory.
 pub fn seen_count(
     alloc: Global,
     shelf: &Shelf,

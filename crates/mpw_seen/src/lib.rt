@@ -1,8 +1,8 @@
-//! How many shapes of a flat list come from submissions that may be seen, without going over the list.
+//! Counts the flat shapes that come from submissions that may be seen, without making the flat list.
 //!
-//! A structure shows its own shapes, and what each of its references places as often as the reference has instances. So
-//! [`seen_count`] goes over the nodes of a submission once, each behind those that it places, and over those of the
-//! submissions that it reaches: instances and levels cost nothing.
+//! The content of a structure is its own shapes, and the content of each reference's target as often as the reference has instances. So
+//! [`seen_count`] visits the nodes of a submission once, each after those that it places, and those of the submissions that it reaches.
+//! Instances and levels cost nothing.
 #![tactic(auto)]
 
 mod count;

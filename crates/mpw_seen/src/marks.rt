@@ -1,4 +1,4 @@
-//! Which submissions a submission reaches.
+//! Finds which submissions a submission reaches.
 
 ghost use Rattle.std.specs.Prelude.{◌≡◌, ◌<◌, ◌≤◌, length, IfOk};
 ghost use Rattle.mpw_seen.specs.Internal.Marks.{AreMarked, AreReached};
@@ -6,7 +6,7 @@ ghost use Rattle.mpw_seen.specs.Internal.Marks.{AreMarked, AreReached};
 use mpw_hier::{Binding, Shelf};
 use std::alloc::{AllocError, Global};
 
-/// Marks the submissions of bindings that stand before that of a number.
+/// Marks the submissions of bindings whose number is less than `below`.
 fn mark_bound(bindings: &[Binding], below: usize, marks: &mut [bool])
     requires { below ≤ length marks.old }
     ensures { AreMarked bindings.now (length bindings.now) below marks.old marks.new }
@@ -19,11 +19,11 @@ fn mark_bound(bindings: &[Binding], below: usize, marks: &mut [bool])
     }
 }
 
-/// Marks the submission of a number, and all that it reaches: those to which its names are bound, and so on down. One pass over
-/// the bindings of these, and a mark for each submission up to the number.
+/// Marks the submission with a number, and all that it reaches: those to which its names are bound, and so on. Cost: one pass over
+/// their bindings, and a mark for each submission up to the number.
 ///
 /// # Errors
-/// Want of memory.
+/// Out of memory.
 pub fn marks_from(alloc: Global, shelf: &Shelf, number: u32) -> Result<Vec<bool>, AllocError>
     requires { number < length shelf.now }
     ensures { IfOk result (λ marks. AreReached shelf.now number 0 marks.items) }

@@ -1,4 +1,4 @@
-//! The number of seen shapes of a node, from those of its targets. It stops at the greatest number of 64 bits.
+//! Counts the seen shapes of a node, from the counts of its targets. A count stops at the greatest number of 64 bits.
 
 ghost use Rattle.std.specs.Prelude.{◌≡◌, ◌+◌, length, slice_get, slice_index, IfOk};
 ghost use Rattle.std.specs.List.{sum_by};
@@ -8,7 +8,7 @@ use mpw_hier::{Child, Node, Target};
 use mpw_structures::{Element, Structure};
 use std::alloc::{AllocError, Global};
 
-/// The number at a place, or 0 where there is none.
+/// The number at an index, or 0 if there is none.
 pub fn number_at(numbers: &[u64], place: usize) -> u64
     ensures { result ≡ slice_index numbers.now place }
 {
@@ -28,7 +28,7 @@ fn target_number(own: &[u64], outer: &[u64], target: Target) -> u64
     }
 }
 
-/// The number of a child: that of its target, once for each instance.
+/// The number of a child: that of its target, times its instances.
 fn child_number(elements: &[Element], own: &[u64], outer: &[u64], child: Child) -> u64
     ensures { result ≡ told (child_number elements.now own.now outer.now child) }
 {
@@ -43,7 +43,7 @@ fn child_number(elements: &[Element], own: &[u64], outer: &[u64], child: Child) 
     }
 }
 
-/// The numbers of children together, and another.
+/// The sum of another number and those of children.
 fn children_number(
     elements: &[Element],
     own: &[u64],
@@ -60,8 +60,8 @@ fn children_number(
     number
 }
 
-/// The number of a node with these elements: its own shapes, if its submission is seen, and those of its children, by the numbers of
-/// the nodes before it and of the submissions before its own. One pass over its children.
+/// The number of a node with these elements: its own shapes if its submission is seen, plus those of its children. The numbers of
+/// the nodes before it and of the submissions before its own are given. One pass over its children.
 fn node_number(elements: &[Element], own: &[u64], outer: &[u64], is_seen: bool, node: &Node) -> u64
     ensures { result ≡ told (node_number elements.now own.now outer.now is_seen node.now) }
 {
@@ -72,7 +72,7 @@ fn node_number(elements: &[Element], own: &[u64], outer: &[u64], is_seen: bool, 
     children_number(elements, own, outer, &node.children, first)
 }
 
-/// The elements of the structure at a place; none where there is none.
+/// The elements of the structure at an index; empty if there is none.
 fn elements_at(structures: &[Structure], place: usize) -> &[Element]
     ensures { result.now ≡ elements_of (slice_get structures.now place) }
 {
@@ -82,11 +82,11 @@ fn elements_at(structures: &[Structure], place: usize) -> &[Element]
     }
 }
 
-/// The numbers of a submission's nodes, from those of the submissions before it, and by whether it is seen itself. One pass over the
-/// nodes and their children, and memory for a number each node.
+/// The numbers of a submission's nodes, from those of the submissions before it, and from whether it is seen itself. Cost: one pass over the
+/// nodes and their children, and memory for one number for each node.
 ///
 /// # Errors
-/// Want of memory.
+/// Out of memory.
 pub fn node_numbers(
     alloc: Global,
     structures: &[Structure],

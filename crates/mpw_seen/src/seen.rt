@@ -3,7 +3,7 @@
 ghost use Rattle.std.specs.Prelude.{◌≡◌, slice_get};
 ghost use Rattle.mpw_seen.specs.Seen.{is_seen};
 
-/// Whether the submission of a number may be seen. One behind the end may not.
+/// Whether the submission with a number may be seen. One after the end may not.
 pub fn is_seen(seen: &[bool], number: u32) -> bool
     ensures { result ≡ is_seen (slice_get seen.now number) }
 {

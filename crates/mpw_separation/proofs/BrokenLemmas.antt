@@ -1,4 +1,4 @@
--- The least broken set, holder by holder.
+-- The first broken set in alphabetical order, holder by holder.
 use Rattle.std.proofs.Common.{◌≡◌, ℕ, ◌+◌, ◌<◌, length, take, get_or, Bool, true, false, cond, ◌||◌, ◌&&◌, List, [], ◌∷◌, ◌++◌, filter, Option, Some, refl, sym, ap, ◌∙◌}
 use Rattle.std.specs.List.{list_any}
 use Rattle.std.proofs.lemmas.List.{take_more}
@@ -53,7 +53,7 @@ least-turn p sets i set o inside is least =
 pub least-end : (ns : List Name) (o : Option Name) → IsLeast ns o → o ≡ least_name ns
 least-end ns o least = least-only ns o (least_name ns) least (least-is ns)
 
--- a name is told where a set of that name is
+-- a name is among them if a set has that name and passes
 pub contains-names : (p : SeparationSet → Bool) (sets : List SeparationSet) (m : Name)
     → contains_name (set_names (filter p sets)) m ≡ list_any (λ (set : SeparationSet). p set
     && name_eq m set.name) sets

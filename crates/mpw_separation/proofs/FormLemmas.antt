@@ -1,4 +1,4 @@
--- Names of which none stands twice are as many by name.
+-- Sorting distinct names leaves their number unchanged.
 use Rattle.std.proofs.Common.{◌≡◌, ℕ, suc, ◌+◌, ◌≤◌, Bool, true, false, ◌&&◌, ◌||◌, List, [], ◌∷◌, length, map, Option, Some, inl, inr, refl, sym, ap, ◌∙◌, not, cond, eq-eqb, arith}
 use Rattle.std.specs.Prelude.{T, ◌==◌, is_some}
 use Rattle.std.specs.Cmp.Lexicographic.{nat_list_cmp_total, texts_ties}
@@ -22,7 +22,7 @@ some-or : (b c : Bool) (o : Option (Unit {0})) → is_some o ≡ c
 some-or true c o e = refl
 some-or false c o e = e
 
--- a name is found where it is one of the names
+-- a name is found if it is one of the names
 found-any : (q : Name) (es : List Entry)
     → is_some (find name_cmp q es) ≡ contains_name (map (λ (e : Entry). e.0) es) q
 found-any q [] = refl

@@ -19,7 +19,7 @@ pub with_names-values : (es : List (Name × SeparationSet)) (sets : List Separat
     → es ≡ with_names sets → es ≡ with_names (values_of es)
 with_names-values es sets is = is ∙ ap with_names (sym (ap values_of is ∙ values-with_names sets))
 
--- a key is found where a set has that name
+-- a key is found if a set has that name
 pub lookup-with_names : (test : Name → Bool) (sets : List SeparationSet)
     → is_some (lookup test (with_names sets))
     ≡ list_any (λ (set : SeparationSet). test set.name) sets
@@ -31,7 +31,7 @@ lookup-with_names test (set ∷ sets) =
       | false ↦ lookup-with_names test sets
     ]
 
--- a set of a new name goes last
+-- a set of a new name is added at the end
 pub insert-with_names : (sets : List SeparationSet) (set : SeparationSet)
     → has_set sets set.name ≡ false
     → insert_entry name_eq (with_names sets) set.name set ≡ with_names (sets ++ set ∷ [])
@@ -51,7 +51,7 @@ module _ (test : Name → Bool) where
   abbrev left : List SeparationSet → List SeparationSet
   left sets = filter (λ (set : SeparationSet). not (test set.name)) sets
 
-  -- where no name passes, all stay
+  -- if no name passes, all stay
   left-all : (sets : List SeparationSet) → lookup test (with_names sets) ≡ None → sets ≡ left sets
   left-all [] none = refl
   left-all (set ∷ sets) none =
@@ -61,7 +61,7 @@ module _ (test : Name → Bool) where
         | false ↦ λ is. ap (λ (l : List SeparationSet). set ∷ l) (left-all sets is)
       ] none
 
-  -- the first set whose name passes goes, where no other passes
+  -- the first set whose name passes is removed, if no other passes
   remove-with_names : (sets : List SeparationSet)
       → lookup test (remove_entry test (with_names sets)) ≡ None
       → remove_entry test (with_names sets) ≡ with_names (left sets)

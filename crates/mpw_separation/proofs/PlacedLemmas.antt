@@ -1,4 +1,4 @@
--- Sets with the places of their roles.
+-- Sets with the indexes of their roles.
 use Rattle.std.proofs.Common.{◌≡◌, ℕ, zero, suc, ◌<◌, ◌≤◌, Bool, true, false, ◌&&◌, List, [], ◌∷◌, length, filter, get_or, map, refl, sym, ap, subst, ◌∙◌, true≢false, not, cond, Ok, arith}
 use Rattle.std.specs.Prelude.{nat_le}
 use Rattle.std.specs.List.{IsDistinct}
@@ -23,7 +23,7 @@ form-distinct set form = names-apart set.roles
     (last_part (nat_le 2 set.cardinality) (nat_le set.cardinality (length set.roles))
     (are_distinct set.roles) form)
 
--- a set of this form is broken where as many places as its cardinality are in both masks
+-- a set of this form is broken if as many indexes as its cardinality are in both masks
 pub broken-places : (h : Hierarchy) (seniors : List Name) (set : SeparationSet) (own below : Mask)
     → IsHierarchy h → has_form set ≡ true → IsPlaced (role_names h) set.roles own
     → IsBelow h seniors below
@@ -40,7 +40,7 @@ fewer-left p (x ∷ xs) =
     elim (p x) as (λ b. length (cond b (x ∷ filter p xs) (filter p xs)) ≤ length (x ∷ xs))
     [ true ↦ omega arith | false ↦ omega arith ]
 
--- what is left where a set goes
+-- what is left if a set is removed
 pub fewer_sets : (sets left : List SeparationSet) (name : Name) → rows.remove sets name ≡ Ok left
     → length left ≤ length sets
 fewer_sets sets left name is =
@@ -53,7 +53,7 @@ fewer_sets sets left name is =
       | false ↦ λ none. absurd (let never = rw none at is in cc)
     ] refl
 
--- the roles of the set at a place
+-- the roles of the set at an index
 pub roles-at : (sets : List SeparationSet) (i : ℕ) (set : SeparationSet) → i < length sets
     → set ≡ get_or sets i set → get_or (role_lists sets) i [] ≡ set.roles
 roles-at [] i set inside is = absurd (omega arith)

@@ -1,4 +1,4 @@
--- What private functions and proofs alone need: no public contract speaks of it.
+-- Definitions for private functions and proofs alone. No public contract uses them.
 use Rattle.std.specs.Prelude.{List, map}
 use Rattle.mpw_roles.specs.Hierarchy.{Name}
 use Rattle.mpw_separation.specs.Set.{SeparationSet}

@@ -1,4 +1,4 @@
--- The masks that stand beside separation sets: the places of each set's roles.
+-- The masks of separation sets: the indexes of each set's roles.
 use Rattle.std.specs.Prelude.{◌≡◌, ℕ, ◌≤◌, ◌<◌, List, [], length, map, slice_index_or}
 use Rattle.mpw_roles.specs.Hierarchy.{Name, Hierarchy}
 use Rattle.mpw_roles.specs.Mask.{has}
@@ -23,16 +23,16 @@ masks_of Dynamic kept = kept.dsd
 abbrev pub role_lists : List SeparationSet → List (List Name)
 role_lists sets = map (λ (set : SeparationSet). set.roles) sets
 
--- the mask has the places of the names among the roles, and no other
+-- the mask has the indexes of the names among the roles, and no other
 abbrev pub IsPlaced : List Name → List Name → Mask → Type 0
 IsPlaced roles names mask = (place : ℕ) → has mask place ≡ is_place_of roles names place
 
--- the mask has the places of the roles at or below the seniors, and no other
+-- the mask has the indexes of the roles at or below the seniors, and no other
 abbrev pub IsBelow : Hierarchy → List Name → Mask → Type 0
 IsBelow hierarchy seniors mask =
     (place : ℕ) → has mask place ≡ is_place_below hierarchy seniors place
 
--- the mask at the place of each set has the places of its roles
+-- the mask at the index of each set has the indexes of its roles
 abbrev pub ArePlaced : List Name → List SeparationSet → List Mask → Type 0
 ArePlaced roles sets masks = (k : ℕ) → k < length sets
     → IsPlaced roles (slice_index_or (role_lists sets) k []) (mask_at masks k)

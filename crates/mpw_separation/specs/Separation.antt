@@ -42,7 +42,7 @@ set_names sets = map (λ set. set.name) sets
 abbrev pub broken_names : Hierarchy → List SeparationSet → List (List Name) → List Name
 broken_names hierarchy sets holders = set_names (filter (is_broken hierarchy holders) sets)
 
--- the least of them
+-- the first of them in alphabetical order
 abbrev pub least_broken : Hierarchy → List SeparationSet → List (List Name) → Option Name
 least_broken hierarchy sets holders = least_name (broken_names hierarchy sets holders)
 
@@ -53,7 +53,7 @@ has_set sets name = list_any (λ set. name_eq name set.name) sets
 abbrev pub without_set : List SeparationSet → Name → List SeparationSet
 without_set sets name = filter (λ set. not (name_eq name set.name)) sets
 
--- whether the role is one of the set
+-- whether the role is in the set
 abbrev pub has_role : Name → SeparationSet → Bool
 has_role role set = contains_name set.roles role
 

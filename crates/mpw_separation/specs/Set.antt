@@ -8,7 +8,7 @@ pub record SeparationSet : Type 0 where
   pub cardinality : ℕ
   pub roles : List Name
 
--- the form of every set: the cardinality is from 2 to the number of the roles, and no role stands twice
+-- the form of every set: the cardinality is from 2 to the number of the roles, and each role occurs once
 abbrev pub has_form : SeparationSet → Bool
 has_form set = nat_le 2 set.cardinality
     && (nat_le set.cardinality (length set.roles) && are_distinct set.roles)

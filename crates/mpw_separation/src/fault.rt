@@ -15,12 +15,12 @@ pub enum SetsFault {
     Unknown,
     /// There are 64 sets of the kind (CreateSsdSet, CreateDsdSet).
     Full,
-    /// There was no room; the sets are as they were.
+    /// Memory ran out. The sets are unchanged.
     Memory,
 }
 
 impl SetsFault {
-    /// What is said of it.
+    /// The text of the fault.
     fn words(self) -> &'static str {
         match self {
             SetsFault::Known => "a set of this kind has the name",

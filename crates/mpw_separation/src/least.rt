@@ -1,4 +1,4 @@
-//! The least of some names.
+//! The first of some names in alphabetical order.
 ghost use Rattle.std.specs.Prelude.{◌≡◌, ◌≤◌, ℕ, List, length, filter, map};
 ghost use Rattle.std.specs.Option.{option_copied};
 ghost use Rattle.mpw_geom.specs.Least.{lesser, least_name};
@@ -12,7 +12,7 @@ use mpw_geom::Name;
 use mpw_roles::{Below, Mask};
 use std::cmp::Ordering;
 
-/// The lesser of two names, of those that are there.
+/// The first of two names in alphabetical order, of those that there are.
 pub fn lesser<'a>(first: Option<&'a Name>, second: Option<&'a Name>) -> Option<&'a Name>
     ensures { option_copied result ≡ lesser (option_copied first.entry) (option_copied second.entry) }
 {
@@ -26,7 +26,7 @@ pub fn lesser<'a>(first: Option<&'a Name>, second: Option<&'a Name>) -> Option<&
     }
 }
 
-/// The least name of the sets that these roles reach.
+/// The first name, in alphabetical order, of the sets that these roles reach.
 pub(crate) fn least_reached<'a>(sets: &'a [SeparationSet], below: &Below) -> Option<&'a Name>
     ensures { option_copied result ≡ least_name (set_names (filter (is_reached below.now) sets.now)) }
 {
@@ -39,8 +39,8 @@ pub(crate) fn least_reached<'a>(sets: &'a [SeparationSet], below: &Below) -> Opt
     least
 }
 
-/// The least name of the sets that some seniors break, from the places of each set's roles and those of the roles at or below
-/// the seniors.
+/// The first name, in alphabetical order, of the sets that some seniors break, by the indexes of each set's roles and of the roles at or
+/// below the seniors.
 pub(crate) fn least_placed<'a>(
     sets: &'a [SeparationSet],
     masks: &[Mask],

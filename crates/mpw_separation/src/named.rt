@@ -1,8 +1,8 @@
 //! The sets of one kind, by name.
 //!
-//! They stand in an index map: a look-up by name is a hash, and the sets lie one behind another in the order in which they were
-//! made. A copy is a map of its own, so a set can be taken out of it without memory. It hashes each name again, which for the
-//! most sets that there can be is a few microseconds; so copies share the sets' names and roles, and not the map.
+//! They are in an index map. A look-up by name costs a hash, and the sets are in the order in which they were made. A copy has its own map,
+//! so that a set can be removed from it without memory. It hashes each name again, which takes a few microseconds for the greatest number
+//! of sets. Copies share the sets' names and roles, but not the map.
 ghost use Rattle.std.specs.Prelude.{◌≡◌, ◌⊎◌, [], length, Ok, Err, IfOk, IfErr, OnOk, OnErr};
 ghost use Rattle.mpw_separation.specs.Rows as rows;
 ghost use Rattle.mpw_separation.specs.Separation.{has_set, uses_role};
@@ -13,8 +13,8 @@ use mpw_geom::Name;
 use std::alloc::{AllocError, Global};
 use std::marker::Model;
 
-/// Sets by their names, in the order in which they were made. A look-up is a hash and a comparison; a copy is that for each
-/// set, and two counts for its name and one for its roles.
+/// Sets by their names, in the order in which they were made. A look-up costs a hash and a comparison. A copy costs that for each set, two
+/// counts for its name and one for its roles.
 pub(crate) struct NamedSets {
     sets: IndexMap<Name, SeparationSet>,
 }
@@ -75,7 +75,7 @@ impl NamedSets {
         self.sets.values().as_slice()
     }
 
-    /// Whether one of the sets has the name: a hash, and a comparison where one has it.
+    /// Whether one of the sets has the name. Cost: a hash, and a comparison if one has it.
     pub(crate) fn contains(&self, name: &Name) -> bool
         ensures { result ≡ has_set self.now name.now }
     {
@@ -106,7 +106,7 @@ impl NamedSets {
         Ok(())
     }
 
-    /// Takes the set with the name out, and moves those behind it. It takes no memory.
+    /// Removes the set with the name, and moves those after it. It takes no memory.
     pub(crate) fn remove(&mut self, name: &Name) -> Result<(), SetsFault>
         ensures ok { OnOk result (rows.remove self.old name.now ≡ Ok self.new) }
         ensures refused { IfErr result (λ fault. rows.remove self.old name.now ≡ Err fault) }
@@ -118,7 +118,7 @@ impl NamedSets {
         }
     }
 
-    /// The same sets: a hash and a comparison for each, and three counts.
+    /// The same sets. Cost: a hash, a comparison and three counts for each.
     pub(crate) fn copy(&self) -> Result<NamedSets, AllocError>
         ensures { IfOk result (λ sets. sets ≡ self.now) }
     {

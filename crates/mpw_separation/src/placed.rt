@@ -1,7 +1,7 @@
-//! The sets with the places of their roles, so that whether one is broken is a count of bits.
+//! The sets with the indexes of their roles, so that whether one is broken is a count of bits.
 //!
-//! The masks are made for some roles, and whoever keeps the sets says so in an invariant. A change of the sets of a kind writes
-//! their masks anew; so must one of the roles that moves places or takes a set's role away.
+//! The masks are those of some roles. The owner of the sets says so in an invariant. A change of the sets of a kind makes their masks
+//! again. So must a change of the roles that moves indexes or removes a role of a set.
 ghost use Rattle.std.specs.Prelude.{◌≡◌, ◌⊎◌, ◌≤◌, ℕ, List, [], ◌∷◌, Ok, Err, IfOk, IfErr, OnOk, OnErr, length};
 ghost use Rattle.std.specs.Option.{option_copied};
 ghost use Rattle.mpw_roles.specs.Hierarchy.{Hierarchy, role_names};
@@ -18,7 +18,7 @@ use mpw_roles::{Mask, Roles, reserve_mask};
 use std::alloc::{AllocError, Global};
 use std::marker::Model;
 
-/// The sets of both kinds, and for each the places of its roles. There may be more masks than sets.
+/// The sets of both kinds, and for each the indexes of its roles. There may be more masks than sets.
 pub struct PlacedSets {
     sets: Sets,
     ssd: Vec<Mask>,
@@ -44,7 +44,7 @@ impl Model for PlacedSets {
     ghost invariant = { λ kept. AreLong kept.sets kept.ssd.items kept.dsd.items };
 }
 
-/// Writes the masks of some sets: a look-up for each of their roles.
+/// Makes the masks of some sets. Cost: a look-up for each of their roles.
 fn write_masks(roles: &Roles, sets: &[SeparationSet], masks: &mut [Mask])
     requires { length sets.now ≤ length masks.old }
     ensures placed { ArePlaced (role_names roles.now) sets.now masks.new }
@@ -55,7 +55,7 @@ fn write_masks(roles: &Roles, sets: &[SeparationSet], masks: &mut [Mask])
     }
 }
 
-/// Writes the masks of the sets that there are.
+/// Makes the masks of the present sets.
 fn rewrite(roles: &Roles, sets: &[SeparationSet], masks: &mut Vec<Mask>)
     requires { length sets.now ≤ length masks.old.items }
     ensures placed { ArePlaced (role_names roles.now) sets.now masks.new.items }
@@ -64,7 +64,7 @@ fn rewrite(roles: &Roles, sets: &[SeparationSet], masks: &mut Vec<Mask>)
     write_masks(roles, sets, masks);
 }
 
-/// Makes a set of the kind of these roles, for which the sets are placed.
+/// Makes a set of the kind. The sets' masks are those of these roles.
 fn make(
     roles: &Roles,
     sets: &mut Sets,
@@ -86,7 +86,7 @@ fn make(
     Ok(())
 }
 
-/// Takes a set of the kind away; the sets are placed for these roles. It takes no memory.
+/// Removes a set of the kind. The sets' masks are those of these roles. It takes no memory.
 #[tactic(auto, using(crate::proofs::PlacedLemmas::fewer_sets))]
 fn remove(
     roles: &Roles,
@@ -138,7 +138,7 @@ impl PlacedSets {
         }
     }
 
-    /// Writes each mask anew, for these roles. It takes no memory, and costs a look-up for each role of each set.
+    /// Makes each mask again, for these roles. It takes no memory. Cost: a look-up for each role of each set.
     pub fn place(&mut self, roles: &Roles)
         ensures sets { self.new.sets ≡ self.old.sets }
         ensures placed { AreSetsPlaced (role_names roles.now) self.new }
@@ -147,10 +147,10 @@ impl PlacedSets {
         rewrite(roles, self.sets.of_kind(Kind::Dynamic), &mut self.dsd);
     }
 
-    /// Makes a static set of these roles, for which the sets are placed.
+    /// Makes a static set. The sets' masks are those of these roles.
     ///
     /// # Errors
-    /// `Known`, then `Full`; or `Memory`. The sets are then as they were.
+    /// `Known`, then `Full`; or `Memory`. Then the sets are unchanged.
     pub fn make_ssd(&mut self, roles: &Roles, set: SeparationSet) -> Result<(), SetsFault>
         ensures ok { OnOk result (rows.make self.old.sets.ssd set ≡ Ok self.new.sets.ssd) }
         ensures refused { IfErr result (λ fault. (fault ≡ SetsFault.Memory) ⊎ (rows.make self.old.sets.ssd set ≡ Err fault)) }
@@ -161,10 +161,10 @@ impl PlacedSets {
         make(roles, &mut self.sets, Kind::Static, &mut self.ssd, set)
     }
 
-    /// Makes a dynamic set of these roles, for which the sets are placed.
+    /// Makes a dynamic set. The sets' masks are those of these roles.
     ///
     /// # Errors
-    /// `Known`, then `Full`; or `Memory`. The sets are then as they were.
+    /// `Known`, then `Full`; or `Memory`. Then the sets are unchanged.
     pub fn make_dsd(&mut self, roles: &Roles, set: SeparationSet) -> Result<(), SetsFault>
         ensures ok { OnOk result (rows.make self.old.sets.dsd set ≡ Ok self.new.sets.dsd) }
         ensures refused { IfErr result (λ fault. (fault ≡ SetsFault.Memory) ⊎ (rows.make self.old.sets.dsd set ≡ Err fault)) }
@@ -175,10 +175,10 @@ impl PlacedSets {
         make(roles, &mut self.sets, Kind::Dynamic, &mut self.dsd, set)
     }
 
-    /// Takes a static set away; the sets are placed for these roles. It takes no memory.
+    /// Removes a static set. The sets' masks are those of these roles. It takes no memory.
     ///
     /// # Errors
-    /// `Unknown`. The sets are then as they were.
+    /// `Unknown`. Then the sets are unchanged.
     pub fn remove_ssd(&mut self, roles: &Roles, name: &Name) -> Result<(), SetsFault>
         ensures ok { OnOk result (rows.remove self.old.sets.ssd name.now ≡ Ok self.new.sets.ssd) }
         ensures refused { IfErr result (λ fault. rows.remove self.old.sets.ssd name.now ≡ Err fault) }
@@ -189,10 +189,10 @@ impl PlacedSets {
         remove(roles, &mut self.sets, Kind::Static, &mut self.ssd, name)
     }
 
-    /// Takes a dynamic set away; the sets are placed for these roles. It takes no memory.
+    /// Removes a dynamic set. The sets' masks are those of these roles. It takes no memory.
     ///
     /// # Errors
-    /// `Unknown`. The sets are then as they were.
+    /// `Unknown`. Then the sets are unchanged.
     pub fn remove_dsd(&mut self, roles: &Roles, name: &Name) -> Result<(), SetsFault>
         ensures ok { OnOk result (rows.remove self.old.sets.dsd name.now ≡ Ok self.new.sets.dsd) }
         ensures refused { IfErr result (λ fault. rows.remove self.old.sets.dsd name.now ≡ Err fault) }
@@ -203,8 +203,8 @@ impl PlacedSets {
         remove(roles, &mut self.sets, Kind::Dynamic, &mut self.dsd, name)
     }
 
-    /// The least name of the sets of the kind that some seniors break, from the places of the roles at or below them, where the
-    /// sets are placed for the roles. It takes no memory, and costs an `and` of eight words for each set.
+    /// The first name, in alphabetical order, of the sets of the kind that some seniors break, by the indexes of the roles at or below
+    /// them. The sets' masks must be those of the roles. It takes no memory. Cost: an `and` of eight words for each set.
     pub fn first_broken(&self, kind: Kind, below: &Mask) -> Option<&Name>
         ensures { (h : Hierarchy) (seniors : List (List ℕ)) → IsHierarchy h → AreSetsPlaced (role_names h) self.now → IsBelow h seniors below.now → option_copied result ≡ least_broken h (sets_of kind self.now.sets) (seniors ∷ []) }
     {
@@ -214,7 +214,7 @@ impl PlacedSets {
     /// The same sets with the same masks.
     ///
     /// # Errors
-    /// Where there is no room.
+    /// Out of memory.
     pub fn copy(&self) -> Result<PlacedSets, AllocError>
         ensures { IfOk result (λ sets. sets ≡ self.now) }
     {

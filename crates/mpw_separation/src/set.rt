@@ -22,8 +22,7 @@ pub enum Kind {
     Dynamic,
 }
 
-/// Roles of which nobody may have `cardinality` or more. The cardinality is from 2 to the number of the roles, and no role
-/// stands twice.
+/// Roles of which nobody may have `cardinality` or more. The cardinality is from 2 to the number of the roles, and each role occurs once.
 pub struct SeparationSet {
     name: Name,
     cardinality: usize,
@@ -53,7 +52,7 @@ impl Model for SeparationSet {
     ghost invariant = { λ set. has_form (record { name = set.name; cardinality = set.cardinality; roles = set.roles }) ≡ true };
 }
 
-/// Whether no name stands twice: n log n comparisons.
+/// Whether each name occurs once. Cost: n log n comparisons.
 fn are_distinct(names: &Names) -> Result<bool, AllocError>
     ensures { IfOk result (λ distinct. distinct ≡ are_distinct names.now) }
 {
@@ -72,11 +71,11 @@ fn shared_names(names: Names) -> Result<Shared<Names>, AllocError>
 }
 
 impl SeparationSet {
-    /// The set of that name, cardinality and roles, and `None` where the cardinality isn't from 2 to the number of the
-    /// roles, or a role stands twice. It costs n log n comparisons.
+    /// The set of that name, cardinality and roles. It is `None` if the cardinality isn't from 2 to the number of the roles, or a role
+    /// occurs twice. Cost: n log n comparisons.
     ///
     /// # Errors
-    /// Where there is no room for the roles, or to sort them.
+    /// Out of memory for the roles, or to sort them.
     pub fn new(
         name: Name,
         cardinality: usize,
@@ -115,7 +114,7 @@ impl SeparationSet {
         name
     }
 
-    /// How many of the roles nobody may have: from 2 to the number of the roles.
+    /// The number of roles that nobody may have: from 2 to the number of the set's roles.
     pub fn cardinality(&self) -> usize
         ensures { result ≡ self.now.cardinality }
     {
@@ -130,10 +129,10 @@ impl SeparationSet {
         self.roles.get().as_slice()
     }
 
-    /// The same set: a count for its name, and one for its roles.
+    /// The same set. Cost: a count for its name, and one for its roles.
     ///
     /// # Errors
-    /// Where there is no room.
+    /// Out of memory.
     pub fn copy(&self) -> Result<SeparationSet, AllocError>
         ensures { IfOk result (λ set. set ≡ self.now) }
     {
@@ -146,7 +145,7 @@ impl SeparationSet {
         })
     }
 
-    /// Whether as many of the set's roles as its cardinality are among these. One look-up for each role of the set.
+    /// Whether as many of the set's roles as its cardinality are among these. Cost: a look-up for each role of the set.
     pub(crate) fn is_reached(&self, below: &Below) -> bool
         ensures { result ≡ is_reached below.now self.now }
     {
@@ -164,15 +163,15 @@ impl SeparationSet {
         self.cardinality <= count
     }
 
-    /// Whether some seniors break the set, from the places of the set's roles and those of the roles at or below the seniors:
-    /// whether as many places as its cardinality are in both. It takes no memory, and costs an `and` of eight words.
+    /// Whether some seniors break the set, by the indexes of the set's roles and of the roles at or below the seniors: whether as many
+    /// indexes as its cardinality are in both. It takes no memory. Cost: an `and` of eight words.
     pub fn is_broken_at(&self, own: &Mask, below: &Mask) -> bool
         ensures { (h : Hierarchy) (seniors : List (List ℕ)) → IsHierarchy h → IsPlaced (role_names h) self.now.roles own.now → IsBelow h seniors below.now → result ≡ breaks h seniors self.now }
     {
         self.cardinality <= own.common(below)
     }
 
-    /// Whether the role is one of the set.
+    /// Whether the role is in the set.
     pub(crate) fn has_role(&self, role: &Name) -> bool
         ensures { result ≡ has_role role.now self.now }
     {

@@ -18,8 +18,8 @@ use std::marker::Model;
 /// The greatest number of sets of a kind.
 pub const MAX_SETS: usize = 64;
 
-/// The static and the dynamic sets, each by name and in the order in which they were made. A name may stand in both. A copy hashes
-/// each name again: some 0.07 microseconds a set, and 5 to 10 for 64 of each kind.
+/// The static and the dynamic sets, each by name and in the order in which they were made. Both kinds may have a set of the same name. A
+/// copy hashes each name again. That takes about 0.07 microseconds for a set, and 5 to 10 microseconds for 64 sets of each kind.
 pub struct Sets {
     ssd: NamedSets,
     dsd: NamedSets,
@@ -65,7 +65,7 @@ impl Sets {
         }
     }
 
-    /// Takes a set of the kind away. It takes no memory.
+    /// Removes a set of the kind. It takes no memory.
     pub(crate) fn remove(&mut self, kind: Kind, name: &Name) -> Result<(), SetsFault>
         ensures ok { OnOk result (rows.remove (sets_of kind self.old) name.now ≡ Ok (sets_of kind self.new)) }
         ensures refused { IfErr result (λ fault. rows.remove (sets_of kind self.old) name.now ≡ Err fault) }
@@ -81,7 +81,7 @@ impl Sets {
     /// Makes a static set (CreateSsdSet).
     ///
     /// # Errors
-    /// `Known`, then `Full`; or `Memory`. The sets are then as they were.
+    /// `Known`, then `Full`; or `Memory`. Then the sets are unchanged.
     pub fn make_ssd(&mut self, set: SeparationSet) -> Result<(), SetsFault>
         ensures ok { OnOk result (rows.make self.old.ssd set ≡ Ok self.new.ssd) }
         ensures refused { IfErr result (λ fault. (fault ≡ SetsFault.Memory) ⊎ (rows.make self.old.ssd set ≡ Err fault)) }
@@ -94,7 +94,7 @@ impl Sets {
     /// Makes a dynamic set (CreateDsdSet).
     ///
     /// # Errors
-    /// `Known`, then `Full`; or `Memory`. The sets are then as they were.
+    /// `Known`, then `Full`; or `Memory`. Then the sets are unchanged.
     pub fn make_dsd(&mut self, set: SeparationSet) -> Result<(), SetsFault>
         ensures ok { OnOk result (rows.make self.old.dsd set ≡ Ok self.new.dsd) }
         ensures refused { IfErr result (λ fault. (fault ≡ SetsFault.Memory) ⊎ (rows.make self.old.dsd set ≡ Err fault)) }
@@ -104,10 +104,10 @@ impl Sets {
         self.make(Kind::Dynamic, set)
     }
 
-    /// Takes a static set away (DeleteSsdSet). It takes no memory.
+    /// Removes a static set (DeleteSsdSet). It takes no memory.
     ///
     /// # Errors
-    /// `Unknown`. The sets are then as they were.
+    /// `Unknown`. Then the sets are unchanged.
     pub fn remove_ssd(&mut self, name: &Name) -> Result<(), SetsFault>
         ensures ok { OnOk result (rows.remove self.old.ssd name.now ≡ Ok self.new.ssd) }
         ensures refused { IfErr result (λ fault. rows.remove self.old.ssd name.now ≡ Err fault) }
@@ -117,10 +117,10 @@ impl Sets {
         self.remove(Kind::Static, name)
     }
 
-    /// Takes a dynamic set away (DeleteDsdSet). It takes no memory.
+    /// Removes a dynamic set (DeleteDsdSet). It takes no memory.
     ///
     /// # Errors
-    /// `Unknown`. The sets are then as they were.
+    /// `Unknown`. Then the sets are unchanged.
     pub fn remove_dsd(&mut self, name: &Name) -> Result<(), SetsFault>
         ensures ok { OnOk result (rows.remove self.old.dsd name.now ≡ Ok self.new.dsd) }
         ensures refused { IfErr result (λ fault. rows.remove self.old.dsd name.now ≡ Err fault) }
@@ -154,7 +154,7 @@ impl Sets {
         self.named(kind).contains(name)
     }
 
-    /// Whether one more set of the kind fits.
+    /// Whether there is room for one more set of the kind.
     pub fn has_room(&self, kind: Kind) -> bool
         ensures { result ≡ nat_lt (length (sets_of kind self.now)) max_sets }
     {
@@ -168,18 +168,18 @@ impl Sets {
         self.ssd.uses(role) || self.dsd.uses(role)
     }
 
-    /// The least name of the sets of the kind that the seniors break. It takes no memory, and costs what
-    /// `Roles::below` does and a look-up for each role of the sets.
+    /// The first name, in alphabetical order, of the sets of the kind that the seniors break. It takes no memory. Cost: that of
+    /// `Roles::below`, and a look-up for each role of the sets.
     pub fn first_broken(&self, kind: Kind, roles: &Roles, seniors: &[Name]) -> Option<&Name>
         ensures { option_copied result ≡ least_broken roles.now (sets_of kind self.now) (seniors.now ∷ []) }
     {
         least_reached(self.of_kind(kind), &roles.below(seniors))
     }
 
-    /// The same sets: a hash and a comparison for each, and three counts.
+    /// The same sets. Cost: a hash, a comparison and three counts for each.
     ///
     /// # Errors
-    /// Where there is no room.
+    /// Out of memory.
     pub fn copy(&self) -> Result<Sets, AllocError>
         ensures { IfOk result (λ sets. sets ≡ self.now) }
     {

@@ -59,7 +59,7 @@ height_at corners k h =
     omega (arith, length-map corners (λ (p : Point). p.y)) in
     (k, m, get_or-map (λ (p : Point). p.y) corners k no_point (get_or corners k no_point).y h)
 
--- k corners were taken behind the last one
+-- k corners were taken after the last one
 pub record Taken (corners : List Point) (k : ℕ) (from : Point) (edges : List Edge) : Type 0 where
   pub from_is : from ≡ last_of (last_corner corners) (take k corners)
   pub up : (s : Square) → count_by (rises_left s) edges ≡ count_steps (λ p q. rises_across s p q)

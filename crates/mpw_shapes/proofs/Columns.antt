@@ -1,5 +1,5 @@
--- One column of a row, as an edge at x is passed: U and D of the edges left of the column go up and down, of `ups`
--- and `downs` edges so far. A prime marks what is so after the edge.
+-- One column of a row, as an edge at x is processed: U and D of the edges left of the column go up and down, of `ups`
+-- and `downs` edges so far. A prime marks the values after the edge.
 use Rattle.std.proofs.Common.{◌≡◌, ◌≢◌, inl, inr, refl, ℕ, ◌≤ℤ◌, ◌<ℤ◌, ℤ, Bool, true, false, not, ◌&&◌, ◌||◌, arith}
 use Rattle.std.specs.Prelude.{int_lt, int_le, ◌==◌}
 use Rattle.std.proofs.lemmas.Int.{ints}
@@ -17,7 +17,7 @@ not_le_test a b h = grind (arith, ints)
 abbrev pub filled : ℕ → ℕ → ℕ → ℕ → ℤ → ℤ → Bool
 filled U D ups downs c start = not (U == D) && ((ups == downs) || int_lt c start)
 
--- what is known at a column of the edge at x
+-- what is known at a column about the edge at x
 pub record Passes (U D U' D' ups downs ups' downs' : ℕ) (x c : ℤ) : Type 0 where
   pub left_up : c <ℤ x → U' ≡ U
   pub left_down : c <ℤ x → D' ≡ D

@@ -6,7 +6,7 @@ use Rattle.std.proofs.lemmas.List.Sums.{sum_by-cons, sum_by_more}
 use Rattle.std.proofs.lemmas.List.Elements.{All-head, All-tail}
 use Rattle.mpw_geom.proofs.Tests.{lt_from_test}
 
--- two tests that agree on each element of a list count alike
+-- two tests that agree on each element of a list give the same count
 pub count_by_agree : {X : Type 0} (p q : X → Bool) (xs : List X) → All (λ x. p x ≡ q x) xs
     → count_by p xs ≡ count_by q xs
 count_by_agree p q [] h = refl

@@ -1,4 +1,4 @@
--- What holds as the boxes of a path are laid.
+-- The invariant while the boxes of a path are added.
 use Rattle.std.proofs.Common.{◌≡◌, refl, sym, ◌∙◌, ◌<◌, ℤ, pos, Bool, true, false, ◌||◌, List, [], ◌∷◌, length, get_or, drop, arith, All}
 use Rattle.std.specs.Prelude.{int_div}
 use Rattle.std.proofs.lemmas.Int.{ints}
@@ -32,7 +32,7 @@ half_reach path h =
       );
     })
 
--- the boxes of the path are in the list, but for those of the rest of the centre line
+-- the boxes of the path are in the list, except those of the rest of the centre line
 pub record Laid (path : Path) (wire : Wire) (rest : List Point) (boxes : List Box2) : Type 0 where
   pub half : wire.half ≡ half_of path
   pub behind : wire.behind ≡ half_of path

@@ -104,7 +104,7 @@ or_group : (a b c : Bool) → (a || (b || c)) ≡ ((a || b) || c)
 or_group true b c = refl
 or_group false b c = refl
 
--- one box of a list is exchanged for one with more squares
+-- one box of a list is replaced by one with more squares
 list_any-set : (p : Box2 → Bool) (xs : List Box2) (k : ℕ) (y d : Box2) (b : Bool) → k < length xs
     → p y ≡ (p (get_or xs k d) || b) → list_any p (set xs k y) ≡ (list_any p xs || b)
 list_any-set p [] k y d b h e = absurd (omega (arith, h))
@@ -122,7 +122,7 @@ area_at : (boxes : List Box2) (k : ℕ) (b : Box2) → All HasArea boxes → k <
     → b ≡ get_or boxes k b → HasArea b
 area_at boxes k b all h e = subst HasArea (sym e) (all k b h)
 
--- the least box that holds both, where one lies on the other and is as wide
+-- the least box that contains both, if one lies on the other and has the same width
 stacked_is : (lower upper both : Box2) → HasArea lower → HasArea upper → lower.x0 ≡ upper.x0
     → lower.x1 ≡ upper.x1 → lower.y1 ≡ upper.y0 → both ≡ joined lower upper
     → both ≡ record { x0 = upper.x0; y0 = lower.y0; x1 = upper.x1; y1 = upper.y1 }
@@ -130,7 +130,7 @@ stacked_is lower upper both a b e f g is =
     is ∙ same_box _ _ (omega (arith, ints, clamps, e)) (omega (arith, ints, clamps, a.height, g))
     (omega (arith, ints, clamps, f)) (omega (arith, ints, clamps, b.height, g))
 
--- in the place of a box stands one with the squares of another too
+-- a box is replaced by one that also has the squares of another
 pub record Stacks (boxes : List Box2) (k : ℕ) (upper both : Box2) : Type 0 where
   pub squares : (s : Square)
       → any_has_square (set boxes k both) s ≡ (any_has_square boxes s || has_square upper s)

@@ -1,4 +1,4 @@
--- What the sorts give.
+-- The results of the sorts.
 use Rattle.std.proofs.Common.{◌≡◌, refl, inl, inr, zero, suc, ◌≤ℤ◌, ◌<ℤ◌, ℤ, Bool, true, false, cond, List, [], ◌∷◌, get_or, arith, Contains}
 use Rattle.std.specs.Prelude.{int_lt}
 use Rattle.std.specs.Ordering.{int_cmp, int_eq, eq_by_cmp, is_lt, ordering_then}
@@ -72,7 +72,7 @@ apart_from_strict (x ∷ xs) strict (suc i) (suc j) d l h =
 ties : (a b : ℤ) → int_eq a b ≡ eq_by_cmp int_cmp a b
 ties a b = refl
 
--- what a sort and the removal of repeats leave
+-- the result of a sort and the removal of repeats
 pub apart_from_sorted : (sorted rows : List ℤ) → IsSorted int_cmp sorted
     → IsFiltered (DiffersFromLast int_eq) [] sorted rows → AreApart rows
 apart_from_sorted sorted rows up kept = rw (dedup_is int_eq sorted rows kept)

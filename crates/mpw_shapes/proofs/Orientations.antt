@@ -1,4 +1,4 @@
--- What holds of the mirror and of the turn, and of one behind another, holds of each orientation.
+-- What holds for the mirror and for the turn, and is preserved by composition, holds for each orientation.
 use Rattle.mpw_geom.specs.declared.plane.Point.{Point}
 use Rattle.mpw_geom.specs.declared.plane.Orient.{Orient}
 use Rattle.mpw_geom.specs.declared.plane.Orient.TheVariants.{R0, R90, R180, R270, M0, M90, M180, M270}

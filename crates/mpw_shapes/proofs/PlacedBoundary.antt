@@ -1,4 +1,4 @@
--- A boundary that is mirrored, turned or moved.
+-- A boundary that is mirrored, turned or displaced.
 use Rattle.std.proofs.Common.{◌≡◌, inl, inr, refl, sym, ◌∙◌, ap, ℕ, ◌+◌, ℤ, ◌+ℤ◌, Bool, true, not, ◌&&◌, cond, arith, List, [], ◌∷◌, ◌++◌, map, neg_ℤ}
 use Rattle.std.specs.Prelude.{◌==◌}
 use Rattle.std.specs.Ordering.{int_eq}
@@ -59,7 +59,7 @@ count_alike a b f [] = refl
 count_alike a b f (p ∷ []) = refl
 count_alike a b f (p ∷ q ∷ ps) = rw (f p q, count_alike a b f (q ∷ ps))
 
--- two tests that agree on each step that passes a third count alike
+-- two tests that agree on each step that passes a third give the same count
 count_steps_agree : (test a b : Point → Point → Bool)
     → ((p q : Point) → test p q ≡ true → a p q ≡ b p q) → (ps : List Point)
     → each_step test ps ≡ true → count_steps a ps ≡ count_steps b ps
@@ -107,7 +107,7 @@ same_has a b s t f g =
     (λ h. eq-eqb (upward a s) (downward a s) (g (eqb-true (upward b t) (downward b t) h))))
     ∙ sym (has_is b t)
 
--- ---- a map of points and one of squares that go together
+-- ---- a map of points and a map of squares that belong together
 
 record Carries (f : Point → Point) (g : Square → Square) : Type 0 where
   squares : (corners : List Point) (s : Square)

@@ -1,4 +1,4 @@
--- A path that is mirrored, turned or moved.
+-- A path that is mirrored, turned or displaced.
 use Rattle.std.proofs.Common.{◌≡◌, ◌⊎◌, inl, inr, refl, sym, ◌∙◌, ap, ◌<ℤ◌, ℤ, pos, neg_ℤ, ◌+ℤ◌, Bool, true, false, not, ◌&&◌, ◌||◌, arith, List, [], ◌∷◌, map}
 use Rattle.std.specs.Prelude.{int_div}
 use Rattle.std.specs.Ordering.{int_eq}
@@ -185,7 +185,7 @@ moved_wire d half a b p q (down e h) =
     ) (same_box _ _ (omega (arith, ints)) (omega (arith, ints))
     (omega (arith, ints)) (omega (arith, ints)))
 
--- ---- a map of points and one of squares that go together on wires
+-- ---- a map of points and a map of squares that belong together on wires
 
 record Carries (f : Point → Point) (g : Square → Square) : Type 0 where
   wires : (half a b : ℤ) (p q : Point) (s : Square) → is_segment p q ≡ true

@@ -1,4 +1,4 @@
--- A step of a boundary that is mirrored, turned or moved, by tests of order.
+-- A step of a boundary that is mirrored, turned or displaced, by tests of order.
 use Rattle.std.proofs.Common.{◌≡◌, ◌⊎◌, inl, inr, refl, sym, ap, ◌+◌, ◌≤ℤ◌, ◌<ℤ◌, ℤ, pos, ◌+ℤ◌, ◌-ℤ◌, Bool, true, false, not, ◌&&◌, cond, arith, neg_ℤ, true≢false}
 use Rattle.std.specs.Prelude.{int_lt, int_le}
 use Rattle.std.specs.Ordering.{int_eq}

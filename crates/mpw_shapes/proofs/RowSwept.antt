@@ -1,4 +1,4 @@
--- A row of the tree, as the edges are passed from left to right.
+-- A row of the tree, as the edges are processed from left to right.
 use Rattle.std.proofs.Common.{◌≡◌, ◌≢◌, inl, inr, refl, sym, ◌∙◌, ℕ, ◌+◌, ◌-◌, ◌<◌, ◌+ℤ◌, ◌≤ℤ◌, ◌<ℤ◌, ℤ, pos, negsuc, Bool, true, false, not, ◌&&◌, ◌||◌, cond, arith, List, [], length, get_or, All}
 use Rattle.std.specs.Prelude.{int_lt, int_le, ◌==◌}
 use Rattle.std.proofs.lemmas.Int.{ints}
@@ -47,7 +47,7 @@ or_none : (b : Bool) → (b || false) ≡ b
 or_none true = refl
 or_none false = refl
 
--- the winding number goes with the counts
+-- the winding number agrees with the counts
 turned_counts : (e : Edge) (w : ℤ) (ups downs : ℕ) → w +ℤ pos downs ≡ pos ups
     → (w +ℤ (turn_of e).winding) +ℤ pos (downs + cond e.is_up 0 1) ≡ pos (ups + cond e.is_up 1 0)
 turned_counts e w ups downs h =
@@ -201,7 +201,7 @@ between_none : (y row : ℤ) → is_between y y row ≡ false
 between_none y row = false_from_ne_true (is_between y y row)
     (λ t. let p = between_parts y y row t in omega (arith, ints, p.0, p.1))
 
--- with one row at most there are no squares
+-- with at most one row there are no squares
 pub no_squares_between : (rows : List ℤ) (edges : List Edge) → length rows < 2 → AreFromBelow rows
     → All (HasEndsAmong rows) edges → (s : Square) → edges_have edges s ≡ false
 no_squares_between rows edges few sorted ends s =

@@ -1,4 +1,4 @@
--- What holds of one row as the edges are passed from left to right.
+-- The invariant of one row as the edges are processed from left to right.
 use Rattle.std.proofs.Common.{◌≡◌, ◌≢◌, inl, inr, refl, sym, ◌∙◌, ap, ℕ, ◌+◌, ◌<◌, ◌≤◌, ◌≤ℤ◌, ◌<ℤ◌, ℤ, pos, Bool, true, false, not, ◌&&◌, ◌||◌, cond, arith, List, length, get_or, take, count_by}
 use Rattle.std.specs.Prelude.{int_lt, int_le, ◌==◌}
 use Rattle.std.proofs.lemmas.Int.{ints}
@@ -22,8 +22,8 @@ ups_at edges row k c = count_by (rises_left (at c row)) (take k edges)
 abbrev pub downs_at : List Edge → ℤ → ℕ → ℤ → ℕ
 downs_at edges row k c = count_by (falls_left (at c row)) (take k edges)
 
--- k edges were passed, `ups` up and `downs` down across the row; `has` are the columns of its squares in boxes: all so far,
--- but for those from `start` on where the counts differ
+-- k edges were processed, `ups` up and `downs` down across the row; `has` are the columns of its squares in boxes: all so far,
+-- except those from `start` on where the counts differ
 pub record Swept (edges : List Edge) (row : ℤ) (k : ℕ) (ups downs : ℕ) (start : ℤ) (has : ℤ
     → Bool) : Type 0 where
   pub up : ups ≡ count_by (rises_in row) (take k edges)
@@ -65,7 +65,7 @@ falls_right_of : (s : Square) (e : Edge) → s.column <ℤ e.x → falls_left s 
 unfolding falls_left
 falls_right_of s e h = rw (not_le_test e.x s.column h)
 
--- what the step lemmas of a column ask
+-- the hypotheses of the step lemmas of a column
 passes : (edges : List Edge) (row : ℤ) (k : ℕ) (d : Edge) (c : ℤ) (ups downs ups' downs' : ℕ)
     → AreFromLeft edges → k < length edges → ups ≡ count_by (rises_in row) (take k edges)
     → downs ≡ count_by (falls_in row) (take k edges)
@@ -157,7 +157,7 @@ module _ (edges : List Edge) (row : ℤ) (k : ℕ) (d : Edge) (ups downs : ℕ) 
   next_passes c = passes edges row k d c ups downs ups' downs' sorted h w.up w.down next_up
       next_down
 
-  -- where the edge begins squares
+  -- if the edge begins squares
   next_opening : ups' ≢ downs' → ups ≡ downs → start' ≡ (get_or edges k d).x
   next_opening n e = z.begins n ∙ rw (eq-eqb ups downs e)
 
@@ -227,7 +227,7 @@ and_all : (b : Bool) → (b && true) ≡ b
 and_all true = refl
 and_all false = refl
 
--- all edges were passed
+-- all edges were processed
 pub swept_all : (edges : List Edge) (row : ℤ) (ups downs : ℕ) (start : ℤ) (has : ℤ → Bool)
     → Swept edges row (length edges) ups downs start has → IsBalanced edges row → (c : ℤ)
     → has c ≡ edges_have edges (at c row)
@@ -244,6 +244,6 @@ swept_all edges row ups downs start has w balanced c =
           edges)),
     )
 
--- what an array of edges gives past its end
+-- the default of an array of edges past its end
 abbrev pub no_edge : Edge
 no_edge = record { x = pos 0; low = pos 0; high = pos 0; is_up = false }

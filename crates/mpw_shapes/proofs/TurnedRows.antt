@@ -24,7 +24,7 @@ between_parts y0 y1 row t =
     let p = and_parts (int_le y0 row) (int_lt row y1) t in
     (le_from_test y0 row p.0, lt_from_test row y1 p.1)
 
--- what is so in each row between two, is so under the test
+-- what holds in each row between two holds under the test
 pub where_between : (y0 y1 row : ℤ) (a b : Bool) → (y0 ≤ℤ row → row <ℤ y1 → a ≡ b)
     → (is_between y0 y1 row && a) ≡ (is_between y0 y1 row && b)
 where_between y0 y1 row a b h =
@@ -73,7 +73,7 @@ pub closes_all : (e : Edge) (s : State) (c : ℤ) → s.winding +ℤ (turn_of e)
 unfolding closes
 closes_all e s c h = rw (eq_test (s.winding +ℤ (turn_of e).winding) (pos 0) h)
 
--- the box that an edge closes in rows that are alike
+-- the box that an edge closes in rows in the same state
 pub closed_box : (e : Edge) (state after : State) (y0 y1 : ℤ) (b : Box2) (any any' : Bool)
     (s : Square) → after ≡ past e state → after.winding ≡ pos 0
     → b ≡ record { x0 = state.since; y0 = y0; x1 = e.x; y1 = y1 } → any' ≡ (any || has_square b s)
@@ -152,7 +152,7 @@ turned_missed rows from to e node boxes h built area =
       area = area;
     }
 
--- an edge that crosses all the rows, where none opens or closes
+-- an edge that crosses all the rows, if none opens or closes
 pub turned_hidden : (rows : List ℤ) (from to : ℕ) (e : Edge) (node node' : Rows) (boxes : List Box2)
     → e.low ≤ℤ get_or rows from (pos 0) → get_or rows to (pos 0) ≤ℤ e.high
     → ((row : ℤ)
@@ -185,7 +185,7 @@ turned_hidden rows from to e node node' boxes a b states before after built near
       area = area;
     }
 
--- an edge that crosses all the rows, which are alike
+-- an edge that crosses all the rows, which are in the same state
 pub turned_alike : (rows : List ℤ) (from to : ℕ) (e : Edge) (node : Rows) (s after : State)
     (boxes boxes' : List Box2) → e.low ≤ℤ get_or rows from (pos 0)
     → get_or rows to (pos 0) ≤ℤ e.high → node ≡ Alike s → after ≡ past e s
@@ -257,7 +257,7 @@ module _ (rows : List ℤ) (from to : ℕ) (e : Edge) (node node' below above be
       → state_at above rows (middle from to) to row ≡ state_at node rows from to row
   state_above row le = sym (half_above below above row le) ∙ whole row
 
-  -- an edge is passed half by half
+  -- an edge is processed half by half
   pub turned_halves : IsBuilt node' rows from to → reach below ≤ℤ reach node
       → reach above ≤ℤ reach node → reach node' ≤ℤ int_max (reach below') (reach above')
       → Turned rows from to e node node' b0 b2

@@ -20,7 +20,7 @@ use Rattle.mpw_shapes.proofs.Columns.{not_lt_test, not_le_test}
 use Rattle.mpw_shapes.proofs.Counts.{cases_lt_z, count_by_agree}
 use Rattle.mpw_shapes.proofs.Swept.{at, rises_left_at, falls_left_at}
 
--- some number is no less than each of a list
+-- some number is at least as large as each of a list
 pub a_bound : {X : Type 0} (f : X → ℤ) (xs : List X) → (c : ℤ) × All (λ x. f x ≤ℤ c) xs
 a_bound f [] = (pos 0, All-nil (λ x. f x ≤ℤ pos 0))
 a_bound f (x ∷ xs) =
@@ -32,7 +32,7 @@ a_bound f (x ∷ xs) =
           rest.1),
     )
 
--- one where a point lies above the row
+-- one if a point lies above the row
 abbrev above : ℤ → Point → ℕ
 above row p = cond (int_lt row p.y) 1 0
 
@@ -87,7 +87,7 @@ balanced corners edges row up down =
     ∙ count_by_agree (falls_left s) (falls_in row) edges
     (λ i d l. falls_left_at s (get_or edges i d) (left i d l))
 
--- each height that is a row's lies in no gap between rows, and not outside of all
+-- each row's height lies in no gap between rows, and not outside of all
 row_read : (rows : List ℤ) (z : ℤ) (has : Contains rows z) → get_or rows has.0 (pos 0) ≡ z
 row_read rows z has = get_or_default rows has.0 (pos 0) z has.1 ∙ has.2
 
@@ -131,7 +131,7 @@ count_none : {X : Type 0} (xs : List X) → count_by (λ _. false) xs ≡ 0
 count_none [] = refl
 count_none (x ∷ xs) = sum_by-cons (λ _. cond false 1 0) x xs ∙ omega (arith, count_none xs)
 
--- an edge whose rows don't hold the square's row is not counted
+-- an edge whose rows don't include the square's row is not counted
 uncounted_up : (s : Square) (e : Edge) → (s.row <ℤ e.low) ⊎ (e.high ≤ℤ s.row)
     → rises_left s e ≡ false
 unfolding rises_left rises_in
@@ -206,7 +206,7 @@ pub no_rows_no_edges : (rows : List ℤ) (edges : List Edge) (s : Square) → le
 no_rows_no_edges rows edges s h ends =
     no_squares edges s (λ i d l. let t = (ends i d l).0.1 in absurd (omega (arith, h)))
 
--- the winding number is 0 where as many edges go up as down
+-- the winding number is 0 exactly if as many edges go up as down
 pub winding_is : (u d : ℕ) → int_eq (pos u -ℤ pos d) (pos 0) ≡ (u == d)
 winding_is u d =
     same_tests (int_eq (pos u -ℤ pos d) (pos 0)) (u == d)

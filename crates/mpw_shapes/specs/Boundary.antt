@@ -22,7 +22,7 @@ upward corners s = count_steps (λ p q. rises_across s p q) (closed corners)
 unfoldable pub downward : List Point → Square → ℕ
 downward corners s = count_steps (λ p q. rises_across s q p) (closed corners)
 
--- how often the boundary runs clockwise round the square
+-- how often the boundary runs clockwise around the square
 unfoldable pub winding : List Point → Square → ℤ
 winding corners s = pos (upward corners s) -ℤ pos (downward corners s)
 

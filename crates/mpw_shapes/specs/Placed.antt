@@ -1,4 +1,4 @@
--- Where an element is placed, its unit squares are.
+-- The unit squares of a placed element are the placed unit squares of the element.
 use Rattle.std.specs.Prelude.{◌≡◌, IsTrue, List, map}
 use Rattle.mpw_geom.specs.declared.plane.Point.{Point}
 use Rattle.mpw_geom.specs.declared.placing.Placing.{Placing}

@@ -1,4 +1,4 @@
-//! The rectangles of a boundary.
+//! Computes the rectangles of a boundary.
 
 ghost use Rattle.std.specs.Prelude.{◌≡◌, ℤ, All, Contains, IfOk, map};
 ghost use Rattle.mpw_geom.specs.Plane.{Square, HasArea, any_has_square};
@@ -10,7 +10,7 @@ use crate::sweep::sweep;
 use mpw_geom::{Box2, Point};
 use std::alloc::{AllocError, Global};
 
-/// The heights of the corners, from below, each once. Takes O(n log n) for n corners.
+/// The heights of the corners in ascending order, each once. Cost: O(n log n) for n corners.
 fn rows_of(alloc: Global, corners: &[Point]) -> Result<Vec<i64>, AllocError>
     ensures heights { IfOk result (λ rows. (y : ℤ) → Contains (map (λ p. p.y) corners.now) y → Contains rows.items y) }
     ensures apart { IfOk result (λ rows. AreApart rows.items) }
@@ -27,13 +27,13 @@ fn heights_of(alloc: Global, corners: &[Point]) -> Result<Vec<i64>, AllocError>
     corners.iter().map(|corner| corner.y).collect(alloc)
 }
 
-/// Rectangles whose union is the set of unit squares round which the closed boundary winds (GDSII
+/// Rectangles whose union is the set of unit squares around which the closed boundary winds (GDSII
 /// Stream release 6, BOUNDARY and BOX). The edge from the last corner to the first is implied.
 ///
-/// An error is want of memory. For n corners and m rectangles it takes O((n + m) log n). A rectangle
-/// that lies on the one before it and is as wide is joined with that, so that a simple polygon gives
-/// O(n). A boundary that crosses itself may have some n * n / 16 rectangles, since that is what it covers; the limits on
-/// shapes don't bound it, for they count it as one.
+/// The only error is out of memory. Cost: O((n + m) log n) for n corners and m rectangles. A rectangle that lies on the
+/// one before it and has the same width is joined with it. So a simple polygon gives O(n) rectangles. A boundary that
+/// crosses itself may give about n * n / 16, since it can cover that many; the limits on shapes don't limit this, since
+/// they count it as one shape.
 pub(crate) fn boundary_rectangles(alloc: Global, corners: &[Point]) -> Result<Vec<Box2>, AllocError>
     ensures squares { IfOk result (λ boxes. (s : Square) → any_has_square boxes.items s ≡ boundary_has corners.now s) }
     ensures area { IfOk result (λ boxes. All HasArea boxes.items) }

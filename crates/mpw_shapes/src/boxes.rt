@@ -1,4 +1,4 @@
-//! Lists of boxes by the unit squares that they have.
+//! Lists of boxes, by their unit squares.
 
 ghost use Rattle.std.specs.Prelude.{◌≡◌, ◌↔◌, ◌||◌, All, IsTrue, OnOk};
 ghost use Rattle.mpw_geom.specs.Plane.{Square, HasArea, any_has_square, has_square};
@@ -17,7 +17,7 @@ pub(crate) fn push_box(boxes: &mut Vec<Box2>, b: Box2) -> Result<(), AllocError>
     Ok(())
 }
 
-/// The same. Where the box lies on the last of the list and is as wide, the two become one.
+/// Adds the box to the list, unless it has no area. If it lies on the last one and has the same width, the two are joined.
 pub(crate) fn stack_box(boxes: &mut Vec<Box2>, b: Box2) -> Result<(), AllocError>
     requires area { All HasArea boxes.old.items }
     ensures squares { OnOk result ((s : Square) → any_has_square boxes.new.items s ≡ (any_has_square boxes.old.items s || has_square b s)) }
@@ -35,7 +35,7 @@ pub(crate) fn stack_box(boxes: &mut Vec<Box2>, b: Box2) -> Result<(), AllocError
     push_box(boxes, b)
 }
 
-/// Whether the second box lies on the first and is as wide.
+/// Whether the second box lies on the first and has the same width.
 fn is_continued_by(lower: Box2, upper: Box2) -> bool
     ensures { IsTrue result ↔ ((lower.x0 ≡ upper.x0) × (lower.x1 ≡ upper.x1) × (lower.y1 ≡ upper.y0)) }
 {

@@ -10,7 +10,7 @@ use crate::rows::Added;
 use mpw_geom::Point;
 use std::alloc::{AllocError, Global};
 
-/// A vertical edge of a boundary, from `low` to above it at `high`, in nm.
+/// A vertical edge of a boundary, from `low` up to `high`, in nm.
 #[derive(Clone, Copy)]
 pub(crate) struct Edge {
     /// Its x coordinate.
@@ -45,7 +45,7 @@ impl Edge {
     }
 }
 
-/// Adds the edge between two corners, if it goes up or down.
+/// Adds the edge between two corners if it goes up or down.
 fn push_edge(edges: &mut Vec<Edge>, from: Point, to: Point) -> Result<(), AllocError>
     ensures up { OnOk result ((s : Square) → count_by (rises_left s) edges.new.items ≡ count_by (rises_left s) edges.old.items + (if rises_across s from to then 1 else 0)) }
     ensures down { OnOk result ((s : Square) → count_by (falls_left s) edges.new.items ≡ count_by (falls_left s) edges.old.items + (if rises_across s to from then 1 else 0)) }
@@ -59,8 +59,8 @@ fn push_edge(edges: &mut Vec<Edge>, from: Point, to: Point) -> Result<(), AllocE
     Ok(())
 }
 
-/// The vertical edges of the closed boundary, from left to right, and at the same place from below.
-/// Takes O(n log n) for n corners.
+/// The vertical edges of the closed boundary, from left to right, and from below at the same x.
+/// Cost: O(n log n) for n corners.
 pub(crate) fn edges_of(alloc: Global, corners: &[Point]) -> Result<Vec<Edge>, AllocError>
     ensures up { IfOk result (λ edges. (s : Square) → count_by (rises_left s) edges.items ≡ upward corners.now s) }
     ensures down { IfOk result (λ edges. (s : Square) → count_by (falls_left s) edges.items ≡ downward corners.now s) }
@@ -72,7 +72,7 @@ pub(crate) fn edges_of(alloc: Global, corners: &[Point]) -> Result<Vec<Edge>, Al
     Ok(edges)
 }
 
-/// The same in the order of the corners, the closing edge first.
+/// The vertical edges in the order of the corners, the closing edge first.
 fn edges_in_turn(alloc: Global, corners: &[Point]) -> Result<Vec<Edge>, AllocError>
     ensures up { IfOk result (λ edges. (s : Square) → count_by (rises_left s) edges.items ≡ upward corners.now s) }
     ensures down { IfOk result (λ edges. (s : Square) → count_by (falls_left s) edges.items ≡ downward corners.now s) }

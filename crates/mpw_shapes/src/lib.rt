@@ -1,18 +1,17 @@
-//! The exact unit squares of boundaries and paths, as rectangles.
+//! Computes the exact unit squares of boundaries and paths, as rectangles.
 //!
 //! [`rectangles`] turns an element into boxes whose union is the element's set of unit squares.
 //!
-//! A boundary is taken apart into its vertical edges (`edge`), which are passed from left to right
-//! (`sweep`). A tree over the corners' heights keeps for each row how often the boundary winds round
-//! it there, and where the squares began that are in no box yet; rows that are alike are one node
-//! (`rows`). An edge turns the rows that it crosses (`turn`): where a winding number leaves 0 squares
-//! begin, and where it comes back to 0 they become a box. Boxes that lie on one another are one
-//! (`boxes`).
+//! A boundary is split into its vertical edges (`edge`), which are processed from left to right (`sweep`). A
+//! tree over the corners' heights stores for each row its winding number, and where the squares began that
+//! are in no box yet. Rows in the same state are one node (`rows`). An edge turns the rows that it crosses
+//! (`turn`): squares begin where a winding number leaves 0, and become a box where it comes back to 0. Boxes
+//! that lie on one another are joined (`boxes`).
 //!
-//! What an edge adds where no row begins or ends is written down at a node for all of its rows, so
-//! that an edge takes O(log n), and O(log n) for each run of rows that begins or ends there.
+//! If no row begins or ends at an edge, the edge's contribution is stored once at a node for all of its rows. So
+//! an edge takes O(log n), and O(log n) for each run of rows that begins or ends there.
 //!
-//! A path gives one box for each segment of its centre line (`path`), which [`Wire`] makes one at a
+//! A path gives one box for each segment of its centre line (`path`). [`Wire`] makes them one at a
 //! time.
 #![tactic(auto)]
 

@@ -1,4 +1,4 @@
-//! The rectangles of a path.
+//! Computes the rectangles of a path.
 
 ghost use Rattle.std.specs.Prelude.{◌≡◌, ℤ, pos, All, IfOk, int_div};
 ghost use Rattle.mpw_geom.specs.Plane.{Square, HasArea, any_has_square};
@@ -11,16 +11,16 @@ use mpw_geom::{Box2, Point};
 use mpw_structures::Path;
 use std::alloc::{AllocError, Global};
 
-/// A stretch of an axis, in nm.
+/// An interval of an axis, in nm.
 #[derive(Clone, Copy)]
 pub(crate) struct Stretch {
     /// The coordinate where it begins.
     pub low: i64,
-    /// The coordinate where it ends; below `low` where a lengthening takes more than the segment has.
+    /// The coordinate where it ends. It is below `low` if a negative extension is longer than the segment.
     pub high: i64,
 }
 
-/// The box that reaches so far along each axis.
+/// The box with these intervals along the axes.
 fn framed(x: Stretch, y: Stretch) -> Box2
     ensures { result ≡ framed x y }
 {
@@ -32,20 +32,20 @@ fn framed(x: Stretch, y: Stretch) -> Box2
     }
 }
 
-/// How far a segment of a centre line reaches to its sides, before its first point and behind its
-/// second, in nm.
+/// How far a segment of a centre line extends to its sides, before its first point and after its
+/// second point, in nm.
 #[derive(Clone, Copy)]
 pub struct Wire {
     /// Half the width of the path.
     pub half: i64,
-    /// It may be negative at the first point of the path.
+    /// The extension before the first point. It may be negative at the first point of the path.
     pub before: i64,
-    /// It may be negative at the last point of the path.
+    /// The extension after the second point. It may be negative at the last point of the path.
     pub behind: i64,
 }
 
 impl Wire {
-    /// How far a segment reaches along its direction, from one coordinate to another.
+    /// The interval of a segment along its direction, from one coordinate to another.
     #[tactic(auto, unfolding(crate::specs::Internal::Wire::along))]
     fn along(self, from: i64, to: i64) -> Stretch
         requires before { IsWithinReach self.before }
@@ -67,7 +67,7 @@ impl Wire {
         }
     }
 
-    /// How far a segment reaches to its sides, from the coordinate that it has throughout.
+    /// The interval of a segment across its direction, at its coordinate.
     fn across(self, at: i64) -> Stretch
         requires half { IsWithinReach self.half }
         requires at { IsWithinReach at }
@@ -79,7 +79,7 @@ impl Wire {
         }
     }
 
-    /// The box of the segment from one point to another. Where a lengthening is negative, it may have no
+    /// The box of the segment from one point to another. If an extension is negative, it may have no
     /// area. Takes no memory.
     pub fn box_along(self, from: Point, to: Point) -> Box2
         requires half { IsWithinReach self.half }
@@ -96,7 +96,7 @@ impl Wire {
         }
     }
 
-    /// The same behind an inner point.
+    /// The same extensions for a segment that begins at an inner point.
     pub fn from_inner(self) -> Wire
         ensures { result ≡ record { half = self.half; before = self.half; behind = self.behind } }
     {
@@ -106,7 +106,7 @@ impl Wire {
         }
     }
 
-    /// The same up to the end of the path.
+    /// The same extensions for a segment that ends at the end of the path.
     pub fn to_end_of(self, path: &Path) -> Wire
         ensures { result ≡ record { half = self.half; before = self.before; behind = path.now.end } }
     {
@@ -130,7 +130,7 @@ pub fn first_wire(path: &Path) -> Wire
 }
 
 /// One rectangle for each segment of the centre line (GDSII Stream release 6, PATH), without those
-/// that have no area. An error is want of memory. Takes time by the number of points.
+/// that have no area. The only error is out of memory. Cost: linear in the points.
 pub(crate) fn path_rectangles(alloc: Global, path: &Path) -> Result<Vec<Box2>, AllocError>
     requires { IsPath path.now }
     ensures squares { IfOk result (λ boxes. (s : Square) → any_has_square boxes.items s ≡ path_has path.now s) }

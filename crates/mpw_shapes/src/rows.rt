@@ -1,9 +1,9 @@
-//! The rows of a boundary, right of the edges that were passed: a tree that halves the heights of the
-//! corners, in which rows that are alike are one node.
+//! The rows of a boundary, right of the edges that were processed: a tree that halves the heights of the
+//! corners. Rows in the same state are one node.
 //!
-//! What all rows of a node are owed is added at the node alone, and handed on when its halves are
-//! looked at (`halves_of`). Each node knows a gap round 0 in which no winding number of its rows lies:
-//! while 0 stays in the gap, no row begins or ends.
+//! What is to be added to all rows of a node is stored at the node alone, and passed on when its halves are
+//! needed (`halves_of`). Each node has a gap around 0 that contains no winding number of its rows. While 0
+//! stays in the gap, no row begins or ends.
 
 ghost use Rattle.std.specs.Prelude.{◌≡◌, ◌≢◌, ◌<◌, ◌+◌, ◌^◌, ◌↔◌, ℕ, ℤ, pos, ◌+ℤ◌, ◌≤ℤ◌, ◌<ℤ◌, IsTrue, List, IfOk, FitsSigned};
 ghost use Rattle.std.specs.Int.{int_max, w64};
@@ -12,17 +12,17 @@ ghost use Rattle.mpw_shapes.specs.Internal.Rows.{IsBuilt, IsOutside, half_at, mi
 use crate::edge::Edge;
 use std::alloc::{AllocError, Global};
 
-/// A row right of the edges passed so far.
+/// A row right of the edges processed so far.
 #[derive(Clone, Copy)]
 pub(crate) struct State {
-    /// How many of the edges passed go up across the row, less those that go down.
+    /// How many of these edges go up across the row, minus those that go down.
     pub winding: i64,
-    /// Where the squares began that are in no box yet, or 0 where the winding number is 0.
+    /// Where the squares began that are in no box yet; 0 if the winding number is 0.
     pub since: i64,
 }
 
 impl State {
-    /// Left of all edges.
+    /// The state left of all edges.
     pub const ZERO: State = State {
         winding: 0,
         since: 0,
@@ -35,7 +35,7 @@ impl State {
         self.winding == other.winding && self.since == other.since
     }
 
-    /// The row with more turns round it.
+    /// The row with more turns around it.
     #[tactic(auto, unfolding(crate::specs::Internal::Rows::raised))]
     fn raise(self, added: Added) -> State
         requires fits { FitsSigned w64 (self.winding +ℤ added.winding) }
@@ -69,7 +69,7 @@ impl State {
 /// What is added to the winding numbers of rows.
 #[derive(Clone, Copy)]
 pub(crate) struct Added {
-    /// How many edges up, less those down; it may be negative.
+    /// How many edges go up, minus those that go down. It may be negative.
     pub winding: i64,
 }
 
@@ -86,18 +86,18 @@ impl Added {
     }
 }
 
-/// No row's winding number lies strictly between the two. A narrower gap is right too: it costs time
-/// alone, so that no contract says how wide it is.
+/// No row's winding number lies strictly between the two ends. A narrower gap is correct too: it only costs time,
+/// so no contract says how wide it is.
 #[derive(Clone, Copy)]
 pub(crate) struct Gap {
-    /// Where the gap begins; a row's winding number may be this one.
+    /// The lower end; it may be a row's winding number.
     pub down: i64,
-    /// Where the gap ends; a row's winding number may be this one.
+    /// The upper end; it may be a row's winding number.
     pub up: i64,
 }
 
 impl Gap {
-    /// The widest gap round 0 that leaves out the row.
+    /// The widest gap around 0 that doesn't contain the row's winding number.
     fn round(state: State) -> Gap
         ensures { IsOutside result state.winding }
     {
@@ -114,7 +114,7 @@ impl Gap {
         }
     }
 
-    /// The part of both gaps.
+    /// The intersection of both gaps.
     fn intersection(self, other: Gap) -> Gap
         ensures one { (w : ℤ) → IsOutside self w → IsOutside result w }
         ensures other { (w : ℤ) → IsOutside other w → IsOutside result w }
@@ -125,7 +125,7 @@ impl Gap {
         }
     }
 
-    /// The gap once this is added to the winding numbers.
+    /// The gap after this is added to the winding numbers.
     fn raise(self, added: Added) -> Gap
         ensures { (w : ℤ) → FitsSigned w64 (w +ℤ added.winding) → IsOutside self w → IsOutside result (w +ℤ added.winding) }
     {
@@ -135,7 +135,7 @@ impl Gap {
         }
     }
 
-    /// Whether 0 lies in the gap, and still does once this is added: no winding number is or becomes 0.
+    /// Whether 0 lies in the gap, and still does after this is added: no winding number is or becomes 0.
     pub fn hides(self, added: Added) -> bool
         ensures before { IsTrue result → (w : ℤ) → IsOutside self w → w ≢ pos 0 }
         ensures after { IsTrue result → (w : ℤ) → IsOutside self w → (w +ℤ added.winding) ≢ pos 0 }
@@ -147,18 +147,18 @@ impl Gap {
     }
 }
 
-/// The rows between two heights of the corners. The heights stand in a list, and a node is passed with
-/// the places that it goes from and to; its halves meet in the middle of the two.
+/// The rows between two heights of the corners. The heights are in a list, and a node is always used with
+/// the indices from which and to which it goes. Its halves join in the middle of the two.
 #[cycle(rows)]
 #[derive(Drop)]
 pub(crate) enum Rows {
-    /// All of them are in one state.
+    /// All of them are in the same state.
     Alike(State),
-    /// They are in several.
+    /// They are in different states.
     Parted(Box<Halves>),
 }
 
-/// The halves of a node whose rows are in several states.
+/// The halves of a node whose rows are in different states.
 #[cycle(rows)]
 #[derive(Drop)]
 pub(crate) struct Halves {
@@ -168,12 +168,12 @@ pub(crate) struct Halves {
     pub above: Rows,
     /// What is still to be added to the rows of both halves.
     pub added: Added,
-    /// Of the rows' winding numbers, with what is still to be added.
+    /// The gap of the rows' winding numbers, including what is still to be added.
     pub gap: Gap,
 }
 
 impl Rows {
-    /// Adds to the winding numbers of all the rows. Takes O(1).
+    /// Adds to the winding numbers of all rows. Cost: O(1).
     pub fn raise(&mut self, added: Added)
         requires room { (reach self.old +ℤ size_of added.winding) <ℤ pos (2 ^ 63) }
         ensures states { (rows : List ℤ) (from to : ℕ) (row : ℤ) → state_at self.new rows from to row ≡ raised added (state_at self.old rows from to row) }
@@ -191,7 +191,7 @@ impl Rows {
         }
     }
 
-    /// A gap round 0 in which no row's winding number lies. Takes O(1).
+    /// A gap around 0 that contains no row's winding number. Cost: O(1).
     pub fn gap(&self) -> Gap
         ensures { (rows : List ℤ) (from to : ℕ) → IsBuilt self.now rows from to → (row : ℤ) → IsOutside result (state_at self.now rows from to row).winding }
     {
@@ -202,7 +202,7 @@ impl Rows {
     }
 }
 
-/// The halves of a node, with what was still to be added to them. An error is want of memory. Takes
+/// The halves of a node, with what was still to be added to them. The only error is out of memory. Cost:
 /// O(1).
 pub(crate) fn halves_of(alloc: Global, node: Rows) -> Result<Box<Halves>, AllocError>
     requires room { reach node <ℤ pos (2 ^ 63) }
@@ -233,7 +233,7 @@ pub(crate) fn halves_of(alloc: Global, node: Rows) -> Result<Box<Halves>, AllocE
     }
 }
 
-/// The node of two halves, to which nothing is still to be added. Takes O(1).
+/// The node of two halves. Nothing is left to be added to it. Cost: O(1).
 pub(crate) fn node_of(mut halves: Box<Halves>) -> Rows
     ensures states { (rows : List ℤ) (from to : ℕ) (row : ℤ) → state_at result rows from to row ≡ half_at halves.value.below halves.value.above rows from to row }
     ensures built { (rows : List ℤ) (from to : ℕ) → from + 1 < to → IsBuilt halves.value.below rows from (middle from to) → IsBuilt halves.value.above rows (middle from to) to → IsBuilt result rows from to }

@@ -1,4 +1,4 @@
-//! The rectangles of an element.
+//! Computes the rectangles of an element.
 
 ghost use Rattle.std.specs.Prelude.{◌≡◌, All, IfOk};
 ghost use Rattle.mpw_geom.specs.Plane.{Square, HasArea, any_has_square};
@@ -13,13 +13,13 @@ use mpw_structures::Element;
 use std::alloc::{AllocError, Global};
 
 /// Rectangles whose union is the element's set of unit squares, in nm. They may overlap, and each
-/// has area.
+/// has an area.
 ///
 /// A reference has none. A path of n points gives at most n - 1 rectangles and takes O(n). A boundary
-/// of n corners that gives m rectangles takes O((n + m) log n); a simple polygon gives O(n).
+/// of n corners that gives m rectangles takes O((n + m) log n). A simple polygon gives O(n) rectangles.
 ///
 /// # Errors
-/// Where there is no room.
+/// Out of memory.
 #[tactic(auto, unfolding(mpw_geom::specs::Plane::any_has_square))]
 pub fn rectangles(alloc: Global, element: &Element) -> Result<Vec<Box2>, AllocError>
     requires { IsElement element.now }
@@ -36,8 +36,8 @@ pub fn rectangles(alloc: Global, element: &Element) -> Result<Vec<Box2>, AllocEr
     }
 }
 
-/// A law of the definitions: a placing takes the unit squares of a boundary, and of a path, to the
-/// unit squares of the placed boundary or path, and no others.
+/// A law about the definitions: a placing takes the unit squares of a boundary or a path exactly to the
+/// unit squares of the placed boundary or path.
 pub fn squares_are_placed()
     ensures boundaries { BoundarySquaresArePlaced }
     ensures paths { PathSquaresArePlaced }

@@ -1,8 +1,8 @@
-//! The squares of a boundary, as its edges are passed from left to right.
+//! Computes the squares of a boundary from its edges, from left to right.
 //!
-//! Right of the edges passed so far each row has a state: its winding number, and where the squares
-//! began that are in no box yet. Right of all edges every winding number is 0, and every square is in
-//! a box.
+//! Right of the edges processed so far, each row has a state: its winding number, and where the squares
+//! began that are in no box yet. Right of all edges every winding number is 0, and every square is in a
+//! box.
 
 ghost use Rattle.std.specs.Prelude.{◌≡◌, ℤ, All, IfOk};
 ghost use Rattle.mpw_geom.specs.Plane.{Square, HasArea, any_has_square};
@@ -14,8 +14,8 @@ use crate::turn::turn;
 use mpw_geom::Box2;
 use std::alloc::{AllocError, Global};
 
-/// The boxes of all the squares round which the edges wind. An error is want of memory. For n edges,
-/// O(n) rows and m boxes it takes O((n + m) log n).
+/// The boxes of all the squares around which the edges wind. The only error is out of memory. Cost: O((n + m) log n) for n edges,
+/// O(n) rows and m boxes.
 pub(crate) fn sweep(alloc: Global, edges: &[Edge], rows: &[i64]) -> Result<Vec<Box2>, AllocError>
     requires from_left { AreFromLeft edges.now }
     requires from_below { AreFromBelow rows.now }

@@ -1,8 +1,8 @@
-//! One edge of a boundary, as it turns the rows that it crosses.
+//! Processes one edge of a boundary: turns the rows that it crosses.
 //!
-//! A node whose rows the edge misses stays as it is. Where the edge crosses all rows of a node and
-//! none begins or ends there, the node is done in one step. Only where rows begin or end, and where an
-//! end of the edge lies inside the node, are its halves looked at.
+//! A node whose rows the edge misses stays as it is. If the edge crosses all rows of a node and none begins or
+//! ends there, the node takes one step. Its halves are needed only if rows begin or end, or if an end of the
+//! edge lies inside the node.
 
 ghost use Rattle.std.specs.Prelude.{◌≡◌, ◌<◌, ◌+◌, ◌^◌, ◌||◌, ◌&&◌, ◌⊎◌, ◌↔◌, pos, ◌+ℤ◌, ◌<ℤ◌, ◌≤ℤ◌, length, IsTrue, IfOk, OnOk, All, FitsSigned, slice_index_or};
 ghost use Rattle.std.specs.Int.{w64};
@@ -50,7 +50,7 @@ impl Band {
         edge.low <= self.low && self.high <= edge.high
     }
 
-    /// The squares of the band from where the state began to the edge.
+    /// The squares of the band from where the state began up to the edge.
     fn box_to(self, edge: Edge, state: State) -> Box2
         ensures { result ≡ record { x0 = state.since; y0 = self.low; x1 = edge.x; y1 = self.high } }
     {
@@ -63,7 +63,7 @@ impl Band {
     }
 }
 
-/// Rows that are alike, right of an edge that crosses them all. Their squares become a box if they end
+/// Rows in the same state, right of an edge that crosses them all. Their squares become a box if they end
 /// there.
 fn turn_state(
     state: State,
@@ -84,10 +84,10 @@ fn turn_state(
     Ok(after)
 }
 
-/// Turns by an edge the rows of a node, which has those from the place `from` of the list to before
-/// the place `to`, and adds the boxes of the squares that end there.
+/// Turns the rows of a node by an edge, and adds the boxes of the squares that end there. The node has the rows from index `from` of the list to before
+/// index `to`.
 ///
-/// An error is want of memory; the node's rows and the boxes are then not known. Takes O(log n) for n
+/// The only error is out of memory; the node's rows and the boxes are then unspecified. Cost: O(log n) for n
 /// rows, and O(log n) for each run of rows whose squares begin or end there.
 #[cycle(turn)]
 pub(crate) fn turn(
@@ -128,7 +128,7 @@ pub(crate) fn turn(
     }
 }
 
-/// The same, half by half.
+/// Does the same, half by half.
 #[cycle(turn)]
 fn turn_halves(
     alloc: Global,

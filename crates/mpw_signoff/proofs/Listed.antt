@@ -1,4 +1,4 @@
--- The listing of waivers, one marker more at a time.
+-- The listing of waivers, one more marker at a time.
 use Rattle.std.proofs.Common.{◌≡◌, ◌∙◌, ℕ, ◌+◌, Bool, List, ◌∷◌, ◌++◌, ◌<◌, ◌≤◌, length, drop, get_or, Option, sym, ap}
 use Rattle.std.proofs.lemmas.List.{append-nil, append_assoc, drop_all, drop_more}
 use Rattle.mpw_deck.specs.declared.rule.Rule.{Rule}
@@ -10,7 +10,7 @@ use Rattle.mpw_signoff.specs.WaiverLines.{shown_line, lines_from}
 
 -- ---- the loop
 
--- the lines so far, with those that are to come
+-- the lines so far, with those that are left
 pub one_more : (rules : List Rule) (seen : List Bool) (waivers : List (Option Waiver))
     (book : List Marker) (place : ℕ) (m : Marker) (before after : List Line)
     → place < length book → m ≡ get_or book place m

@@ -1,4 +1,4 @@
--- What answers to the requests that sign a run off are.
+-- The answers to the sign-off requests.
 use Rattle.std.specs.Prelude.{◌≡◌, Bool, true, false, List, Option}
 use Rattle.mpw_waiver.specs.declared.waiver.Waiver.{Waiver}
 use Rattle.mpw_waiver.specs.Waivers.{with_asker, with_signer}
@@ -7,7 +7,7 @@ use Rattle.mpw_signoff.specs.declared.answer.NextWaivers.TheVariants.{Same, Ask,
 use Rattle.mpw_signoff.specs.declared.answer.SignOffAnswer.{SignOffAnswer}
 use Rattle.mpw_signoff.specs.SigningOff.{Outcome}
 
--- The waivers behind an answer.
+-- The waivers after an answer.
 abbrev pub waivers_after : List (Option Waiver) → NextWaivers → List (Option Waiver)
 waivers_after waivers Same = waivers
 waivers_after waivers (Ask place asker) = with_asker waivers place asker

@@ -1,2 +1,2 @@
--- What private functions and proofs alone need: no public contract speaks of it.
+-- Definitions for private functions and proofs alone. No public contract uses them.
 pub mod Named

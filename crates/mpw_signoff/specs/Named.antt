@@ -8,11 +8,11 @@ use Rattle.mpw_markers.specs.declared.marker.Marker.{Marker}
 use Rattle.mpw_markers.specs.Book.{place_in}
 use Rattle.mpw_requests.specs.declared.sign_off.MarkerName.{MarkerName}
 
--- The place of the first rule of that name.
+-- The index of the first rule of that name.
 abbrev pub rule_place : List Rule → List ℕ → Option ℕ
 rule_place rules name = position (λ rule. name_eq rule.name name) rules
 
--- The key of the marker that is named, of the rule at that place.
+-- The key of the named marker, of the rule at that index.
 abbrev pub key_by : MarkerName → ℕ → Key
 key_by name rule = record {
   rule = rule;
@@ -36,7 +36,7 @@ name_for rule m = record {
   y1 = m.y1;
 }
 
--- A marker of a book with its place.
+-- A marker of a book with its index.
 pub record Named : Type 0 where
   pub place : ℕ
   pub marker : Marker
@@ -53,6 +53,6 @@ abbrev pub found_by : List Marker → MarkerName → Option ℕ → Option Named
 found_by book name None = None
 found_by book name (Some rule) = found_at book (place_in book (key_by name rule))
 
--- The marker of the book that is named, if there is one.
+-- The marker of the book with that name, if there is one.
 unfoldable pub named_in : List Rule → List Marker → MarkerName → Option Named
 named_in rules book name = found_by book name (rule_place rules name.rule)

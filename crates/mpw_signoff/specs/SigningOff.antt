@@ -1,4 +1,4 @@
--- The requests that sign a finished run off: each with its tests in order, and what it gives where all pass.
+-- The sign-off requests for a finished run: each with its tests in order, and its result if all pass.
 use Rattle.std.specs.Prelude.{ℕ, ◌==◌, Bool, true, false, List, [], ◌∷◌, map, Option, None, Some, Result, Ok, Err, if◌then◌else◌}
 use Rattle.mpw_deck.specs.Decks.{Deck}
 use Rattle.mpw_placings.specs.declared.placement.Placement.{Placement}
@@ -39,7 +39,7 @@ use Rattle.mpw_signoff.specs.WaiverLines.{lines_from}
 
 -- ---- tests
 
--- The marker that is named is in the book, and shown in full.
+-- The named marker is in the book, and is full.
 abbrev pub if_full : List Bool → Named → Result Named Ending
 if_full seen n = if is_full seen n.marker then Ok n else Err (ending.Refused code.NoMarker)
 
@@ -52,7 +52,7 @@ full_marker policy connection f name =
     if_shown (seen_by policy connection f.planned.snapshot.shelf)
     (named_in f.planned.snapshot.deck.rules f.book name)
 
--- What ends a row where the test of a waiver fails.
+-- The denial or refusal if the test of a waiver fails.
 abbrev pub ending_of : WaiverFault → Ending
 ending_of fault.Known = ending.Refused code.Known
 ending_of fault.NoWaiver = ending.Refused code.NoWaiver
@@ -64,13 +64,13 @@ abbrev pub passes : Result (Unit {0}) WaiverFault → Result (Unit {0}) Ending
 passes (Ok x) = Ok x
 passes (Err fault) = Err (ending_of fault)
 
--- ---- rows
+-- ---- decision tables
 
--- The user, with the place of the marker.
+-- The user, with the index of the marker.
 abbrev pub by_user : Policy → ℕ → Named → ByUser
 by_user policy connection n = record { place = n.place; user = user_of policy connection }
 
--- The row of `waive`: a waiver of the marker may be asked for.
+-- The decision table of `waive`: a waiver of the marker may be asked for.
 unfoldable pub waive_row : Policy → Run → List (Option Waiver) → ℕ → MarkerName
     → Result ByUser Ending
 waive_row policy run waivers connection name = do
@@ -80,12 +80,12 @@ waive_row policy run waivers connection name = do
   free ← passes (ask_test (waiver_at waivers n.place))
   Ok (by_user policy connection n)
 
--- Nothing keeps the user apart from the waiver of the marker.
+-- The user passes the test of separation for the waiver of the marker.
 abbrev pub apart : Checked → List (Option Waiver) → Named → List ℕ → Result (Unit {0}) Ending
 apart f waivers n user =
     passes (sign_test f.planned.snapshot.shelf n.marker.met user (waiver_at waivers n.place))
 
--- The row of `sign`: the marker's waiver may be signed. Who may sign it is `sign_test`.
+-- The decision table of `sign`: the marker's waiver may be signed. `sign_test` says who may sign it.
 unfoldable pub sign_row : Policy → Run → List (Option Waiver) → ℕ → MarkerName
     → Result ByUser Ending
 sign_row policy run waivers connection name = do
@@ -95,22 +95,22 @@ sign_row policy run waivers connection name = do
   free ← apart f waivers n (user_of policy connection)
   Ok (by_user policy connection n)
 
--- The waivers of the markers that are shown in full.
+-- The waivers of the full markers.
 abbrev pub waiver_lines : Policy → ℕ → Checked → List (Option Waiver) → List Line
 waiver_lines policy connection f waivers =
     lines_from f.planned.snapshot.deck.rules (seen_by policy connection f.planned.snapshot.shelf)
     waivers
     0 f.book
 
--- The row of `waivers`.
+-- The decision table of `waivers`.
 unfoldable pub waivers_row : Policy → Run → List (Option Waiver) → ℕ → Result (List Listed) Ending
 waivers_row policy run waivers connection = do
   inside ← session_test policy connection
   f ← needed code.NotFinished (findings run.phase)
   Ok (map stored (waiver_lines policy connection f waivers))
 
--- The deck and the placed submissions are, by value, those that the run looked at. Labels of placings are no part of this, nor what
--- was put on the shelf since.
+-- The deck and the placed submissions are, by value, those that the run checked. Labels of placements don't
+-- count, nor what was added to the shelf since.
 abbrev pub is_present_with : Option Deck → List Placement → Snapshot → Bool
 is_present_with None placings s = false
 is_present_with (Some deck) placings s =
@@ -119,15 +119,15 @@ is_present_with (Some deck) placings s =
 abbrev pub is_present : Wafer → Snapshot → Bool
 is_present wafer s = is_present_with wafer.deck wafer.placings s
 
--- The verdict where so many markers have no signed waiver.
+-- The verdict for that many markers without a signed waiver.
 abbrev pub open_line : ℕ → Line
 open_line number = if number == 0 then line.Clean else line.Open number
 
--- It is stale where deck or placed submissions aren't those of the run.
+-- It is stale if the deck or the placed submissions aren't those of the run.
 abbrev pub verdict_line : Bool → ℕ → Line
 verdict_line present number = if present then open_line number else line.Stale
 
--- The row of `verdict`.
+-- The decision table of `verdict`.
 unfoldable pub verdict_row : Policy → Wafer → Run → List (Option Waiver) → ℕ
     → Result (List Listed) Ending
 verdict_row policy wafer run waivers connection = do
@@ -135,9 +135,9 @@ verdict_row policy wafer run waivers connection = do
   f ← needed code.NotFinished (findings run.phase)
   Ok (stored (verdict_line (is_present wafer f.planned.snapshot) (unsigned waivers)) ∷ [])
 
--- ---- what comes of a request
+-- ---- the outcome of a request
 
--- A reply with the waivers that it leaves, and whether that is a change, which has to be kept.
+-- A reply with the waivers after it, and whether that is a change, which must be stored.
 pub record Outcome : Type 0 where
   pub reply : Reply
   pub waivers : List (Option Waiver)
@@ -161,7 +161,7 @@ abbrev pub listing_outcome : List (Option Waiver) → Result (List Listed) Endin
 listing_outcome waivers (Ok lines) = no_change (reply.Ok lines) waivers
 listing_outcome waivers (Err ending) = no_change (ended_by ending) waivers
 
--- Each request by its row.
+-- Each request by its decision table.
 abbrev pub outcome_of : Policy → Wafer → Run → List (Option Waiver) → ℕ → SignOffRequest → Outcome
 outcome_of policy wafer run waivers connection (ask.Waive marker) =
     waived_outcome waivers (waive_row policy run waivers connection marker)

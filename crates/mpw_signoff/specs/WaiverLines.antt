@@ -1,4 +1,4 @@
--- What is told of the waivers of a book's markers.
+-- The lines of the waivers of a book's markers.
 use Rattle.std.specs.Prelude.{ℕ, ◌+◌, Bool, List, [], ◌∷◌, ◌++◌, slice_get, Option, None, Some, if◌then◌else◌}
 use Rattle.mpw_deck.specs.declared.rule.Rule.{Rule}
 use Rattle.mpw_markers.specs.declared.marker.Marker.{Marker}
@@ -24,11 +24,11 @@ abbrev pub marker_line : List Rule → Marker → Option Waiver → List Line
 marker_line rules m None = []
 marker_line rules m (Some waiver) = rule_line m waiver (slice_get rules m.rule)
 
--- Nor has one that isn't shown in full.
+-- Nor has one that isn't full.
 abbrev pub shown_line : List Rule → List Bool → Marker → Option Waiver → List Line
 shown_line rules seen m waiver = if is_full seen m then marker_line rules m waiver else []
 
--- The lines of the markers from a place of the book on, in order.
+-- The lines of the markers from an index of the book on, in order.
 unfoldable pub lines_from : List Rule → List Bool → List (Option Waiver) → ℕ → List Marker
     → List Line
 lines_from rules seen waivers place [] = []

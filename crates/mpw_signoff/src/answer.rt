@@ -1,4 +1,4 @@
-//! The answers to the requests that sign a run off.
+//! The answers to the sign-off requests.
 ghost use Rattle.std.specs.Prelude.{◌≡◌, List, Result, IfOk};
 ghost use Rattle.mpw_replies.specs.Listing.{Listed};
 ghost use Rattle.mpw_replies.specs.Rows.{Answers};
@@ -17,27 +17,27 @@ use mpw_run::Run;
 use mpw_waiver::Waivers;
 use std::alloc::{AllocError, Global};
 
-/// What a request changes in the waivers.
+/// The change of the waivers by a request.
 #[derive(Drop)]
 pub enum NextWaivers {
     /// Nothing.
     Same,
-    /// The user asked for a waiver of the marker at a place of the book.
+    /// The user asked for a waiver of the marker at an index of the book.
     Ask { place: usize, asker: Name },
-    /// The user signed the waiver of the marker at a place of the book.
+    /// The user signed the waiver of the marker at an index of the book.
     Sign { place: usize, signer: Name },
 }
 
-/// The reply to a request over the waivers, and what it changes in them.
+/// The reply to a sign-off request, and the change of the waivers.
 #[derive(Drop)]
 pub struct SignOffAnswer {
-    /// What the request is answered.
+    /// The reply to the request.
     pub reply: Reply,
-    /// What has to be done to the waivers for it; nothing where it lists, or is denied or refused.
+    /// The change of the waivers. It is `Same` if the request lists, or is denied or refused.
     pub next: NextWaivers,
 }
 
-/// A reply that leaves the waivers.
+/// A reply that leaves the waivers unchanged.
 fn no_change(reply: Reply) -> SignOffAnswer
     ensures { (result.reply ≡ reply) × (result.next ≡ NextWaivers.Same) }
 {
@@ -47,7 +47,7 @@ fn no_change(reply: Reply) -> SignOffAnswer
     }
 }
 
-/// The answer to what asks for a waiver.
+/// The answer to a request that asks for a waiver.
 fn waiving(waivers: &Waivers, made: Result<ByUser, Fault>) -> Result<SignOffAnswer, AllocError>
     ensures { (row : Result AnyUser AnyEnding) → Answers (λ by. by) made row
         → IfOk result (λ answer. Gives waivers.now (waived_outcome waivers.now row) answer) }
@@ -65,7 +65,7 @@ fn waiving(waivers: &Waivers, made: Result<ByUser, Fault>) -> Result<SignOffAnsw
     }
 }
 
-/// The answer to what signs a waiver.
+/// The answer to a request that signs a waiver.
 fn signing(waivers: &Waivers, made: Result<ByUser, Fault>) -> Result<SignOffAnswer, AllocError>
     ensures { (row : Result AnyUser AnyEnding) → Answers (λ by. by) made row
         → IfOk result (λ answer. Gives waivers.now (signed_outcome waivers.now row) answer) }
@@ -83,7 +83,7 @@ fn signing(waivers: &Waivers, made: Result<ByUser, Fault>) -> Result<SignOffAnsw
     }
 }
 
-/// The answer to what lists.
+/// The answer to a request that lists.
 fn listing(waivers: &Waivers, made: Result<Lines, Fault>) -> Result<SignOffAnswer, AllocError>
     ensures { (row : Result (List Listed) AnyEnding) → Answers (λ lines. lines) made row
         → IfOk result (λ answer. Gives waivers.now (listing_outcome waivers.now row) answer) }
@@ -92,12 +92,12 @@ fn listing(waivers: &Waivers, made: Result<Lines, Fault>) -> Result<SignOffAnswe
     Ok(no_change(listing_reply(made)?))
 }
 
-/// The answer to a request over the waivers of a finished run's markers. A `waive` and a `sign` look at each of the deck's
-/// rules, halve the book, and look up each submission that the marker meets; `waivers` takes a look-up for each submission on
-/// the run's shelf and a pass over the book; `verdict` is linear in the placings, the rules and the markers.
+/// The answer to a sign-off request about a finished run's markers. Cost of `waive` and `sign`: a comparison for each of the deck's rules,
+/// a binary search of the book, and a look-up for each submission that the marker touches. `waivers` costs a look-up for each submission on
+/// the run's shelf, and a pass over the book. `verdict` is linear in the placements, the rules and the markers.
 ///
 /// # Errors
-/// Where there is no room for it.
+/// Out of memory.
 pub fn answer_request(
     alloc: Global,
     policy: &Policy,

@@ -1,7 +1,7 @@
-//! The requests that sign a finished run off: `waive`, `sign`, `waivers` and `verdict`.
+//! The sign-off requests for a finished run: `waive`, `sign`, `waivers` and `verdict`.
 //!
-//! [`answer_request`] gives the reply to such a request, and what it changes in the waivers: that the session's user asked
-//! for one, or signed one. It changes nothing itself.
+//! [`answer_request`] gives the reply to such a request, and the change of the waivers: the session's user asked for one, or signed one. It
+//! changes nothing itself.
 #![tactic(auto)]
 
 mod answer;

@@ -28,7 +28,7 @@ fn name_for(rule: &Name, marker: &Marker) -> Result<MarkerName, AllocError>
     })
 }
 
-/// The line of a waiver that nobody signed.
+/// The line of an unsigned waiver.
 fn asked_line(rule: &Name, marker: &Marker, asker: &Name) -> Result<Line, AllocError>
     ensures { IfOk result (λ line. line ≡ Line.Asked (name_for rule.now marker.now) asker.now) }
 {
@@ -39,7 +39,7 @@ fn asked_line(rule: &Name, marker: &Marker, asker: &Name) -> Result<Line, AllocE
     })
 }
 
-/// The line of a waiver that is signed.
+/// The line of a signed waiver.
 fn signed_line(
     rule: &Name,
     marker: &Marker,
@@ -67,7 +67,7 @@ fn waiver_line(rule: &Name, marker: &Marker, waiver: &Waiver) -> Result<Line, Al
     }
 }
 
-/// The rule at a place of the deck.
+/// The rule at an index of the deck.
 fn rule_at(rules: &[Rule], place: u32) -> Option<&Rule>
     ensures { option_copied result ≡ slice_get rules.now place }
 {
@@ -90,7 +90,7 @@ fn add_line(
     Ok(())
 }
 
-/// Adds the line of a marker, where it has a waiver and is shown in full.
+/// Adds the line of a marker, if it has a waiver and is full.
 fn add_shown(
     lines: &mut Vec<Line>,
     rules: &[Rule],
@@ -109,11 +109,10 @@ fn add_shown(
     add_line(lines, rule_at(rules, marker.rule), marker, waiver)
 }
 
-/// The lines of a book's markers, in order. A pass over the book, and one over the met numbers of each marker that has a
-/// waiver.
+/// The lines of a book's markers, in order. Cost: a pass over the book, and one over the touched submissions of each marker that has a waiver.
 ///
 /// # Errors
-/// Where there is no room.
+/// Out of memory.
 pub(crate) fn waiver_lines(
     alloc: Global,
     rules: &[Rule],

@@ -1,7 +1,7 @@
 //! The markers that requests name.
 //!
-//! A request has the name of a marker's rule, and its key otherwise. The rule is looked for among the deck's, at most 256,
-//! and then the key in the book, by halving.
+//! A request names a marker by the name of its rule and the rest of its key. The rule is searched among the deck's, at most 256. Then the
+//! key is found in the book by a binary search.
 ghost use Rattle.std.specs.Prelude.{◌≡◌, ◌≤◌, length, option_map};
 ghost use Rattle.mpw_markers.specs.Book.{place_in};
 ghost use Rattle.mpw_signoff.specs.Named.{found_at, key_by, named_in, rule_place};
@@ -12,23 +12,23 @@ use mpw_geom::Name;
 use mpw_markers::{Book, Key, Marker};
 use mpw_requests::MarkerName;
 
-/// A marker of a book with its place.
+/// A marker of a book with its index.
 #[derive(Clone, Copy)]
 pub(crate) struct Named<'a> {
-    /// Its place in the book, from 0.
+    /// Its index in the book, from 0.
     pub place: usize,
-    /// The marker that stands at that place.
+    /// The marker at that index.
     pub marker: &'a Marker,
 }
 
-/// Where the first rule of that name stands.
+/// The index of the first rule of that name.
 fn rule_index(rules: &[Rule], name: &Name) -> Option<usize>
     ensures { result ≡ rule_place rules.now name.now }
 {
     rules.iter().position(|rule| rule.name == *name)
 }
 
-/// The same place, as a marker has it.
+/// The same index, as a marker has it.
 fn rule_place(rules: &[Rule], name: &Name) -> Option<u32>
     requires { length rules.now ≤ 256 }
     ensures { result ≡ rule_place rules.now name.now }
@@ -37,7 +37,7 @@ fn rule_place(rules: &[Rule], name: &Name) -> Option<u32>
     Some(place as u32)
 }
 
-/// The key of the marker that is named, of the rule at that place.
+/// The key of the named marker, of the rule at that index.
 fn key_by(name: &MarkerName, rule: u32) -> Key
     ensures { result ≡ key_by name.now rule }
 {
@@ -61,7 +61,7 @@ fn found_at<'a>(book: &'a Book, key: &Key) -> Option<Named<'a>>
     Some(Named { place, marker })
 }
 
-/// The marker of the book that is named, if there is one. A look at each of the deck's rules, and a binary search.
+/// The marker of the book with that name, if there is one. Cost: a comparison for each of the deck's rules, and a binary search.
 #[tactic(auto, unfolding(crate::specs::Named::named_in))]
 pub(crate) fn named_in<'a>(deck: &Deck, book: &'a Book, name: &MarkerName) -> Option<Named<'a>>
     ensures { option_map seen_named result ≡ named_in deck.now.rules book.now name.now }

@@ -1,4 +1,4 @@
-//! Whether the present deck and placings are those that a run looked at.
+//! Whether the present deck and placements are those that a run checked.
 ghost use Rattle.std.specs.Prelude.{◌≡◌, IfOk};
 ghost use Rattle.mpw_run.specs.Same.{same_snapshot};
 ghost use Rattle.mpw_signoff.specs.SigningOff.{is_present};
@@ -18,11 +18,11 @@ fn is_of(snapshot: &Snapshot, deck: &Deck, roots: &[Root]) -> bool
     deck.is_same(snapshot.deck()) & snapshot.has_roots(roots)
 }
 
-/// Whether the present deck and placings are the snapshot's, by value and in order; labels of placings count for nothing.
-/// Linear in the placings and the rules.
+/// Whether the present deck and placements are the snapshot's, by value and in order. Labels of placements don't count. Linear in the
+/// placements and the rules.
 ///
 /// # Errors
-/// Where there is no room for the placings' roots.
+/// Out of memory for the placements' roots.
 pub(crate) fn is_present(
     alloc: Global,
     wafer: &Wafer,

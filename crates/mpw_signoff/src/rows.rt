@@ -1,6 +1,6 @@
-//! The rows of `waive`, `sign`, `waivers` and `verdict`.
+//! The decision tables of `waive`, `sign`, `waivers` and `verdict`.
 //!
-//! Each is a function that gives its value, or what ends the row, or tells want of memory. Its parts have the same form.
+//! Each is a function. It returns its value, or the test that failed, or out of memory. Its parts have the same form.
 ghost use Rattle.std.specs.Prelude.{◌≡◌, IfOk, map};
 ghost use Rattle.mpw_replies.specs.Listing.{stored};
 ghost use Rattle.mpw_replies.specs.Rows.{Answers};
@@ -23,16 +23,16 @@ use mpw_run::{Checked, Run};
 use mpw_waiver::{WaiverFault, Waivers};
 use std::alloc::{AllocError, Global};
 
-/// A user, with the place of the marker whose waiver the user asks for or signs.
+/// A user, with the index of the marker whose waiver the user asks for or signs.
 #[derive(Drop)]
 pub struct ByUser {
-    /// The marker's place in the run's book, from 0.
+    /// The marker's index in the run's book, from 0.
     pub place: usize,
     /// The session's user.
     pub user: Name,
 }
 
-/// The marker that is named, where it is shown in full: a look-up for each submission that it meets.
+/// The named marker, if it is full. Cost: a look-up for each submission that it touches.
 #[tactic(auto, unfolding(crate::specs::SigningOff::full_marker))]
 fn full_marker<'a>(
     policy: &Policy,
@@ -52,7 +52,7 @@ fn full_marker<'a>(
     Ok(named)
 }
 
-/// What a waiver's fault ends a row with.
+/// The denial or refusal for a waiver's fault.
 fn ending_of(fault: WaiverFault) -> Ending
     ensures { result ≡ row.ending_of fault }
 {
@@ -74,7 +74,7 @@ fn passes(told: Result<(), WaiverFault>) -> Result<(), Fault>
     }
 }
 
-/// The user who asks for a waiver, with the marker's place. What [`full_marker`] takes.
+/// The user who asks for a waiver, with the marker's index. Cost: that of [`full_marker`].
 #[tactic(auto, unfolding(crate::specs::SigningOff::waive_row))]
 pub(crate) fn waive(
     policy: &Policy,
@@ -92,7 +92,7 @@ pub(crate) fn waive(
     Ok(ByUser { place, user })
 }
 
-/// Nothing keeps the user apart from the waiver of the marker.
+/// The user passes the test of separation for the waiver of the marker.
 fn is_apart(
     checked: &Checked,
     waivers: &Waivers,
@@ -106,7 +106,7 @@ fn is_apart(
     passes(waivers.may_sign(named.place, shelf, met, user)?)
 }
 
-/// The user who signs a waiver, with the marker's place. What [`full_marker`] takes, and a pass over the marker's met numbers.
+/// The user who signs a waiver, with the marker's index. Cost: that of [`full_marker`], and a pass over the marker's touched submissions.
 #[tactic(auto, unfolding(crate::specs::SigningOff::sign_row))]
 pub(crate) fn sign(
     policy: &Policy,
@@ -127,7 +127,7 @@ pub(crate) fn sign(
     })
 }
 
-/// The lines of the waivers of what a finished run found, as far as the session sees the markers in full.
+/// The lines of the waivers of a finished run's markers that are full for the session.
 fn session_lines(
     alloc: Global,
     policy: &Policy,
@@ -144,7 +144,7 @@ fn session_lines(
     Lines::from_vec(alloc, lines)
 }
 
-/// The lines of `waivers`: a look-up for each submission on the run's shelf, and a pass over the book.
+/// The lines of `waivers`. Cost: a look-up for each submission on the run's shelf, and a pass over the book.
 #[tactic(auto, unfolding(crate::specs::SigningOff::waivers_row))]
 pub(crate) fn waivers(
     alloc: Global,

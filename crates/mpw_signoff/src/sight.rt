@@ -1,7 +1,6 @@
-//! Whether a session sees a marker in full.
+//! Whether a marker is full for a session.
 //!
-//! Where one marker is asked for, only the submissions that it meets are looked at; a listing takes what `mpw_replies`
-//! tells of the whole shelf.
+//! For one marker, only the submissions that it touches are tested. A listing uses what `mpw_replies` says of the whole shelf.
 ghost use Rattle.std.specs.Prelude.{◌≡◌, slice_get, IfOk};
 ghost use Rattle.mpw_permissions.specs.declared.permission.Operation.TheVariants.{Read};
 ghost use Rattle.mpw_replies.specs.Listing.{is_seen};
@@ -14,7 +13,7 @@ use mpw_permissions::{Object, Operation};
 use mpw_rbac::{Access, Policy};
 use std::alloc::AllocError;
 
-/// Whether the submission of a number is of a cell that may be read: one look-up.
+/// Whether the submission of a number is of a cell that may be read. Cost: one look-up.
 fn may_see(access: &Access<'_>, shelf: &Shelf, number: u32) -> Result<bool, AllocError>
     requires { access.now.operation ≡ Read }
     ensures { IfOk result (λ seen. seen ≡ is_seen (slice_get (seen_by access.now.policy access.now.connection shelf.now) number)) }
@@ -26,10 +25,10 @@ fn may_see(access: &Access<'_>, shelf: &Shelf, number: u32) -> Result<bool, Allo
     Ok(access.permits(&object))
 }
 
-/// Whether the marker is shown in full to the connection's session: a look-up for each submission that it meets.
+/// Whether the marker is full for the connection's session. Cost: a look-up for each submission that it touches.
 ///
 /// # Errors
-/// Where no more copies of a cell's name can be counted.
+/// No more copies of a cell's name can be counted.
 pub(crate) fn is_shown(
     policy: &Policy,
     connection: u32,
@@ -57,7 +56,7 @@ fn is_seen(seen: &[bool], number: u32) -> bool
     }
 }
 
-/// Whether the marker is shown in full: each submission that it meets may be seen. One pass over their numbers.
+/// Whether the marker is full: each submission that it touches may be seen. One pass over their numbers.
 pub(crate) fn is_full(seen: &[bool], marker: &Marker) -> bool
     ensures { result ≡ is_full seen.now marker.now }
 {

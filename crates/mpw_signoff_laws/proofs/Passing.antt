@@ -1,4 +1,4 @@
--- What a row that gives a user has passed, and the tests of a waiver.
+-- What a decision table that gives a user has passed, and the tests of a waiver.
 use Rattle.std.proofs.Common.{◌≡◌, ℕ, cond, List, Option, None, Some, is_some, Result, Ok, Err, refl, ap}
 use Rattle.mpw_replies.proofs.RowParts.{passed}
 use Rattle.mpw_permissions.specs.declared.permission.Object.TheVariants as objects
@@ -24,7 +24,7 @@ use Rattle.mpw_signoff.specs.declared.rows.ByUser.{ByUser}
 use Rattle.mpw_signoff.specs.Named.{Named}
 use Rattle.mpw_signoff.specs.SigningOff.{full_marker, passes, apart, by_user, waive_row, sign_row}
 
--- ---- rows that were passed
+-- ---- decision tables that were passed
 
 pub finished_is : (phase : Phase) (f : Checked) → needed code.NotFinished (findings phase) ≡ Ok f
     → phase ≡ Finished f
@@ -42,7 +42,7 @@ pub unit_ok : (r : Result (Unit {0}) Ending) (x : Unit {0}) → r ≡ Ok x → r
 unit_ok (Ok tt) x e = refl
 unit_ok (Err why) x e = absurd cc
 
--- what a row that gives a user has passed
+-- what a decision table that gives a user has passed
 pub record Passed (policy : Policy) (run : Run) (connection : ℕ) (asked : Operation)
     (name : MarkerName) (by : ByUser) (Free : Checked → Named → Type 0) : Type 0 where
   pub f : Checked
@@ -109,7 +109,7 @@ pub asks_none : (o : Option Waiver) → ask_test o ≡ Ok tt → o ≡ None
 asks_none None e = refl
 asks_none (Some waiver) e = absurd cc
 
--- a waiver that nobody signed
+-- an unsigned waiver
 pub record Unsigned (o : Option Waiver) : Type 0 where
   pub waiver : Waiver
   pub is : o ≡ Some waiver

@@ -1,4 +1,4 @@
--- Waivers at their places.
+-- Waivers at their indexes.
 use Rattle.std.proofs.Common.{◌≡◌, ℕ, ◌<◌, Bool, true, false, ltb, List, length, Option, None, Some, refl, sym, ap, ◌∙◌, inl, inr}
 use Rattle.std.specs.Prelude.{get_or, slice_set, ◌≢◌}
 use Rattle.std.specs.Option.{option_flatten}
@@ -39,7 +39,7 @@ pub put_other : (ws : Places) (i j : ℕ) (o : Option Waiver) → j ≢ i
 put_other ws i j o other =
     at_is (slice_set ws i o) j ∙ get_or-set_other ws i j o None other ∙ sym (at_is ws j)
 
--- the same place, or another
+-- the same index, or another
 pub data Same (i j : ℕ) : Type 0 where
   same : j ≡ i → Same i j
   other : j ≢ i → Same i j

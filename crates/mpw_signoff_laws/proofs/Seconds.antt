@@ -1,4 +1,4 @@
--- Who comes second is refused; who signs, and who asks.
+-- A second request is refused; who signs, and who asks.
 use Rattle.std.proofs.Common.{◌≡◌, ℕ, ◌<◌, Bool, true, false, cond, List, [], length, Option, None, Some, Result, Ok, Err, refl, sym, ap, subst, ◌∙◌, arith}
 use Rattle.std.specs.Prelude.{slice_get}
 use Rattle.std.proofs.lemmas.Option.{slice_get_within}
@@ -45,7 +45,7 @@ shown_is : (seen : List Bool) (o : Option Named) (n : Named) → if_shown seen o
 shown_is seen None n e = absurd cc
 shown_is seen (Some m) n e = ap Some (full_is seen m n e)
 
--- which marker is named says the book alone
+-- which marker is named depends on the book alone
 named_is : (policy : Policy) (connection : ℕ) (f : Checked) (name : MarkerName) (n : Named)
     → full_marker policy connection f name ≡ Ok n
     → named_in f.planned.snapshot.deck.rules f.book name ≡ Some n
@@ -54,7 +54,7 @@ named_is policy connection f name n e =
     shown_is (seen_by policy connection f.planned.snapshot.shelf)
     (named_in f.planned.snapshot.deck.rules f.book name) n e
 
--- and it stands there
+-- and the marker is in it
 in_book : (rules : List Rule) (book : List Marker) (name : MarkerName) (n : Named)
     → named_in rules book name ≡ Some n → n.place < length book
 unfolding named_in
@@ -89,7 +89,7 @@ same_named policy other connection another f g name n m e a b =
     ∙ ap (λ (h : Checked). named_in h.planned.snapshot.deck.rules h.book name) e ∙ second in
     cc
 
--- a signed waiver is known to who signs, and any to who asks
+-- a signed waiver is `known` to a signer, and any waiver to an asker
 signed_known : (shelf : _) (met user : List ℕ) (o : Option Waiver) (asker signer : List ℕ)
     → o ≡ Some (record { asker = asker; signer = Some signer })
     → passes (sign_test shelf met user o) ≡ Err (ending.Refused code.Known)

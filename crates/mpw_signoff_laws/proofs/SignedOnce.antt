@@ -37,7 +37,7 @@ not_none o waiver a b = let e = sym a ∙ b in cc
 module _ (policy : Policy) (run : Run) (waivers : List (Option Waiver)) (connection : ℕ)
     (name : MarkerName) (place : ℕ) (waiver : Waiver)
     (there : waiver_at waivers place ≡ Some waiver) where
-  -- who asks for a waiver leaves those that are there
+  -- a request for a waiver leaves the existing ones unchanged
   waive_leaves : (row : Result ByUser Ending)
       → waive_row policy run waivers connection name ≡ row
       → waiver_at (waived_outcome waivers row).waivers place ≡ Some waiver
@@ -61,7 +61,7 @@ module _ (policy : Policy) (run : Run) (waivers : List (Option Waiver)) (connect
               put_other waivers by.place place
               (Some (record { asker = by.user; signer = None })) e ∙ there
 
-  -- who signs one leaves the others, and what is there was not signed
+  -- a signature leaves the other waivers unchanged, and its own was unsigned
   data Signed (by : ByUser) : Type 0 where
     elsewhere : waiver_at (with_signer waivers by.place by.user) place ≡ Some waiver → Signed by
     here : waiver.signer ≡ None

@@ -1,4 +1,4 @@
--- A waiver that was asked for and signed stays so: what requests that sign a run off leave of it.
+-- A waiver that was asked for and signed stays so: what sign-off requests leave of it.
 use Rattle.std.specs.Prelude.{◌≡◌, ◌↔◌, ℕ, List, [], length, Option, None, Some, Ok}
 use Rattle.mpw_permissions.specs.declared.permission.Operation.{Operation}
 use Rattle.mpw_permissions.specs.declared.permission.Operation.TheVariants as operation
@@ -32,13 +32,13 @@ SignaturesStay =
     → waiver_at (outcome_of policy wafer run waivers connection request).waivers place
     ≡ Some waiver
 
--- The waiver of a marker is still there, and was asked for by this user.
+-- The waiver of a marker still exists, and this user asked for it.
 pub record IsAskedBy (waivers : List (Option Waiver)) (place : ℕ) (asker : List ℕ) : Type 0 where
   pub waiver : Waiver
   pub is : waiver_at waivers place ≡ Some waiver
   pub by : waiver.asker ≡ asker
 
--- A waiver that was asked for stays, and so does who asked.
+-- A waiver that was asked for stays, with the user who asked for it.
 abbrev pub AskersStay : Type 0
 AskersStay =
     (policy : Policy) (wafer : Wafer) (run : Run) (waivers : List (Option Waiver)) (connection : ℕ)
@@ -46,9 +46,10 @@ AskersStay =
     → IsAskedBy waivers place asker
     → IsAskedBy (outcome_of policy wafer run waivers connection request).waivers place asker
 
--- ---- who reaches a marker
+-- ---- which session reaches a marker
 
--- The session may do the operation on the desk, the run is finished, and the name is that of a marker which is shown in full.
+-- The session may do the operation on the desk, the run is finished, and the name is that of a marker that is
+-- full.
 pub record Reaches (policy : Policy) (run : Run) (connection : ℕ) (asked : Operation)
     (name : MarkerName) : Type 0 where
   pub checked : Checked
@@ -59,8 +60,8 @@ pub record Reaches (policy : Policy) (run : Run) (connection : ℕ) (asked : Ope
 
 -- ---- who signs
 
--- Such a session's user passes the test of the marker's waiver: it is there, nobody signed it, and the user neither asked for it nor
--- submitted what the marker meets.
+-- Such a session's user passes the test of the marker's waiver: it exists and is unsigned, and the user
+-- neither asked for it nor submitted what the marker touches.
 pub record IsSignable (policy : Policy) (run : Run) (waivers : List (Option Waiver)) (connection : ℕ)
     (name : MarkerName) : Type 0 where
   pub reaches : Reaches policy run connection operation.Sign name
@@ -68,7 +69,7 @@ pub record IsSignable (policy : Policy) (run : Run) (waivers : List (Option Waiv
       (user_of policy connection) (waiver_at waivers reaches.named.place)
       ≡ Ok tt
 
--- A `sign` is accepted of such a session, and of no other.
+-- A `sign` is accepted from such a session, and from no other.
 abbrev pub SignedExactly : Type 0
 SignedExactly =
     (policy : Policy) (wafer : Wafer) (run : Run) (waivers : List (Option Waiver)) (connection : ℕ)
@@ -76,7 +77,7 @@ SignedExactly =
     → (outcome_of policy wafer run waivers connection (ask.Sign name)).reply ≡ reply.Ok []
     ↔ IsSignable policy run waivers connection name
 
--- The same of who asks: the marker has no waiver.
+-- The same for asking: the marker has no waiver.
 pub record IsAskable (policy : Policy) (run : Run) (waivers : List (Option Waiver)) (connection : ℕ)
     (name : MarkerName) : Type 0 where
   pub reaches : Reaches policy run connection operation.Waive name
@@ -91,12 +92,12 @@ AskedExactly =
 
 -- ---- who comes second
 
--- A request is refused as known, and leaves the waivers.
+-- A request is refused as known, and leaves the waivers unchanged.
 abbrev pub IsKnown : Outcome → List (Option Waiver) → Type 0
 IsKnown outcome waivers = outcome ≡ no_change (reply.Refused code.Known) waivers
 
--- Once a marker's waiver was signed, nobody else signs it, whoever that is and whatever the policy is then: who reaches it is
--- refused.
+-- After a marker's waiver was signed, nobody else can sign it, whatever the policy is then: a session that
+-- reaches it is refused.
 abbrev pub SecondSignaturesAreRefused : Type 0
 SecondSignaturesAreRefused =
     (policy other : Policy) (wafer later : Wafer) (run : Run) (waivers : List (Option Waiver))
@@ -107,7 +108,8 @@ SecondSignaturesAreRefused =
     (ask.Sign name)).waivers in
     IsKnown (outcome_of other later run after another (ask.Sign name)) after
 
--- Once a marker's waiver was asked for, nobody else asks for it, where each marker of the book has a place for its waiver.
+-- After a waiver of a marker was asked for, nobody else can ask for one, if each marker of the book has an
+-- entry for its waiver.
 abbrev pub SecondAskersAreRefused : Type 0
 SecondAskersAreRefused =
     (policy other : Policy) (wafer later : Wafer) (run : Run) (waivers : List (Option Waiver))

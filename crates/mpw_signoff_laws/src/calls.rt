@@ -1,4 +1,4 @@
-//! The test of a waiver, and the change behind it.
+//! The test of a waiver, and the change after it.
 
 ghost use Rattle.std.specs.Prelude.{◌≡◌, true, Ok, Err, IfOk, OnErr};
 ghost use Rattle.mpw_waiver.specs.declared.fault.WaiverFault.TheVariants.{Known};
@@ -10,10 +10,10 @@ use mpw_hier::Shelf;
 use mpw_waiver::{WaiverFault, Waivers};
 use std::alloc::AllocError;
 
-/// Asks for a waiver of the marker at a place, where there is none yet.
+/// Asks for a waiver of the marker at an index, if there is none yet.
 ///
 /// # Errors
-/// Within, `Known` where there is one. Without, where no more copies of the name can be counted.
+/// The inner result: `Known` if there is one. The outer result: no more copies of the name can be counted.
 pub fn ask_once(
     waivers: &mut Waivers,
     place: usize,
@@ -31,10 +31,10 @@ pub fn ask_once(
     Ok(Ok(()))
 }
 
-/// Signs the waiver of the marker at a place, which meets the submissions of these numbers, where the user may.
+/// Signs the waiver of the marker at an index, which touches the submissions of these numbers, if the user may.
 ///
 /// # Errors
-/// Within, those of [`Waivers::may_sign`]. Without, where no more copies of a name can be counted.
+/// The inner result: those of [`Waivers::may_sign`]. The outer result: no more copies of a name can be counted.
 pub fn sign_once(
     waivers: &mut Waivers,
     place: usize,

@@ -1,7 +1,7 @@
-//! Laws of waivers that none of the desk's calls rests on: who asks for one and who signs it, and that both come once.
+//! Laws of waivers that none of the desk's calls needs: who asks for one and who signs it, and that each happens once.
 //!
-//! [`ask_once`] and [`sign_once`] make the two calls that a request makes, the test and the change, one behind the other. The laws
-//! do nothing: their contracts speak of the rows of requests. No program links this crate.
+//! [`ask_once`] and [`sign_once`] make the two calls of a request, the test and the change, one after the other. The laws do nothing. Their
+//! contracts speak of the decision tables of requests. No program links this crate.
 #![tactic(auto)]
 
 mod calls;

@@ -1,4 +1,4 @@
--- What stands in a text, one step further.
+-- The records of a text, one step further.
 use Rattle.std.proofs.Common.{◌≡◌, ◌∙◌, ◌<◌, ◌≤◌, ◌+◌, ◌-◌, ℕ, suc, List, [], ◌∷◌, drop, length, Bool, true, false, cond, ltb, refl, sym, ap, Option, Some, None, Ok, Err}
 use Rattle.std.proofs.lemmas.Bool.{le-ltb, lt-ltb}
 use Rattle.mpw_records.specs.declared.fault.Code.{Code}
@@ -12,9 +12,9 @@ use Rattle.mpw_skipping.specs.Structures.{links_in, structures_in}
 use Rattle.mpw_skipping.specs.declared.span.Opened.{Opened}
 use Rattle.mpw_skipping.specs.declared.standing.Standing.{Standing}
 
--- ---- at one place
+-- ---- at one offset
 
--- An outcome at another place.
+-- An outcome at another offset.
 abbrev pub placed : ℕ → RecordOutcome → RecordOutcome
 placed at (Ok r) =
     Ok (record { offset = at; kind = r.kind; data_type = r.data_type; bytes = r.bytes })
@@ -30,7 +30,7 @@ first_is : (text : List ℕ) (o : RecordOutcome) (rest : List RecordOutcome)
 unfolding outcomes
 first_is text o rest e = cc
 
--- What the rest of a text begins with stands there in the text.
+-- The first record of the rest of a text is the record at that offset of the text.
 pub front_is : (text rest : List ℕ) (at : ℕ) (o : RecordOutcome) (rs more : List RecordOutcome)
     → rest ≡ drop at text → rs ≡ outcomes_of rest → rs ≡ o ∷ more
     → placed at o ≡ front text at

@@ -1,4 +1,4 @@
--- The lemmas of the parts that are left out.
+-- The lemmas about the parts that are left out.
 mod Finding
 mod Passing
 pub mod Reaching

@@ -22,7 +22,7 @@ unfolding left_from
 left_more reached cuts i d text h =
     at_drop_more (λ cs. left_from reached cs text) cuts i d h
 
--- ---- where it stands
+-- ---- offsets in the text
 
 pub original_end : (reached : ℕ) (cuts : List Cut) (i : ℕ) (at : ℕ) → length cuts ≤ i
     → original_from reached (drop i cuts) at ≡ min (reached + at) (2 ^ 64 - 1)

@@ -1,4 +1,4 @@
--- The names to which one leads, one pass over the links after another.
+-- The names that one name reaches, one pass over the links after another.
 use Rattle.std.proofs.Common.{◌≡◌, ◌∙◌, ◌+◌, ◌||◌, ◌&&◌, ◌⊎◌, ℕ, List, [], ◌∷◌, ◌++◌, length, Bool, true, false, refl, sym, ap, subst, inl, inr, arith, length-append}
 use Rattle.std.specs.Cmp.Lexicographic.{bytes_decides}
 use Rattle.std.proofs.lemmas.List.Folds.{list_any-append}
@@ -41,7 +41,7 @@ both true true e = (refl, refl)
 both true false e = absurd cc
 both false b e = absurd cc
 
--- The link is the one that is named.
+-- The link is the named one.
 is_that : (l : Link) (from to : List ℕ) → is_link from to l ≡ true → (l.0 ≡ from) × (l.1 ≡ to)
 is_that l from to e =
     let h = both (name_eq l.0 from) (name_eq l.1 to) e in
@@ -89,7 +89,7 @@ one_more xs x = length-append xs (x ∷ [])
 
 -- ---- a pass
 
--- A link whose structure's name isn't there is left.
+-- A link goes to the left ones if the name of its structure isn't in the list.
 pub pass_left : (before names : List (List ℕ)) (passed left : List Link) (l : Link)
     → IsPass before names passed left → has_name names l.0 ≡ false
     → IsPass before names (passed ++ (l ∷ [])) (left ++ (l ∷ []))
@@ -116,7 +116,7 @@ pass_left before names passed left l p absent = record {
   ];
 }
 
--- A link whose names are both there has nothing to add.
+-- A link whose names are both in the list adds nothing.
 pub pass_there : (before names : List (List ℕ)) (passed left : List Link) (l : Link)
     → IsPass before names passed left → has_name names l.1 ≡ true
     → IsPass before names (passed ++ (l ∷ [])) left
@@ -132,7 +132,7 @@ pass_there before names passed left l p there = record {
   idle = λ same from to h. absurd (omega (arith, same, one_more passed l, p.shorter));
 }
 
--- A link whose structure's name is there adds the other.
+-- A link whose structure's name is in the list adds the other name.
 pub pass_added : (before names : List (List ℕ)) (passed left : List Link) (l : Link)
     → IsPass before names passed left → has_name names l.0 ≡ true
     → IsPass before (names ++ (l.1 ∷ [])) (passed ++ (l ∷ [])) left
@@ -159,7 +159,7 @@ pass_added before names passed left l p there = record {
 
 -- ---- all passes
 
--- Each link waits, or its name is there; and no other names are.
+-- Each link waits, or its name is in the list; and the list has no other names.
 pub record IsOnTheWay (links : List Link) (top : List ℕ) (waiting : List Link)
     (names : List (List ℕ)) : Type 0 where
   pub first : has_name names top ≡ true

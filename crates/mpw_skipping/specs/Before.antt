@@ -1,11 +1,11 @@
--- What stands before a byte of a text.
+-- Which structure is open, and which record comes last, before a byte of a text.
 use Rattle.std.specs.Prelude.{ℕ, nat_lt, List, [], ◌∷◌, Option, Some, None, Ok, Err, if◌then◌else◌}
 use Rattle.mpw_records.specs.Records.{RecordOutcome}
 use Rattle.mpw_skipping.specs.Elements.{behind, nothing_open}
 use Rattle.mpw_skipping.specs.Found.{found_in}
 use Rattle.mpw_skipping.specs.declared.span.Opened.{Opened}
 
--- ---- what stands at a place
+-- ---- a record, or the fault in its place
 
 abbrev pub offset_of : RecordOutcome → ℕ
 offset_of (Ok r) = r.offset
@@ -22,7 +22,7 @@ opened_after (Err fault) o = o
 
 -- ---- up to a byte
 
--- What is open behind all that begins before a byte.
+-- What is open after all that begins before a byte.
 unfoldable pub opened_until : ℕ → Opened → List RecordOutcome → Opened
 opened_until offset o [] = o
 opened_until offset o (found ∷ rest) =
@@ -31,7 +31,7 @@ opened_until offset o (found ∷ rest) =
 abbrev pub opened_before : List ℕ → ℕ → Opened
 opened_before text offset = opened_until offset nothing_open (found_in text)
 
--- Where the STRNAME begins of the structure that is open there.
+-- The offset of the STRNAME of the structure that is open there.
 abbrev pub structure_before : List ℕ → ℕ → Option ℕ
 structure_before text offset = (opened_before text offset).structure
 

@@ -1,4 +1,4 @@
--- A text without some of its bytes, and where those that are left stand in it.
+-- A text without some of its bytes, and the offsets in the text of those that are left.
 use Rattle.std.specs.Prelude.{ℕ, ◌+◌, ◌-◌, ◌^◌, nat_lt, min, Bool, false, List, [], ◌∷◌, ◌++◌, take, drop, map, filter, Option, Some, None, if◌then◌else◌}
 use Rattle.std.specs.List.{list_any}
 use Rattle.mpw_geom.specs.declared.plane.Layer.{Layer}
@@ -7,7 +7,7 @@ use Rattle.mpw_skipping.specs.Elements.{elements_of}
 use Rattle.mpw_skipping.specs.declared.cut.Cut.{Cut}
 use Rattle.mpw_skipping.specs.declared.span.ElementSpan.{ElementSpan}
 
--- What is left of a text from a byte on.
+-- What is left of a text from an offset on.
 unfoldable pub left_from : ℕ → List Cut → List ℕ → List ℕ
 left_from reached [] text = drop reached text
 left_from reached (cut ∷ cuts) text =
@@ -16,7 +16,7 @@ left_from reached (cut ∷ cuts) text =
 abbrev pub without : List Cut → List ℕ → List ℕ
 without cuts text = left_from 0 cuts text
 
--- Where the byte of what is left stands in the text, of which some is left out from a byte on.
+-- The offset in the text of a byte of what is left from an offset on.
 unfoldable pub original_from : ℕ → List Cut → ℕ → ℕ
 original_from reached [] at = min (reached + at) (2 ^ 64 - 1)
 original_from reached (cut ∷ cuts) at =

@@ -1,4 +1,4 @@
--- The elements of a text, by what stands in its structures: each from the record that begins it through its ENDEL.
+-- The elements of a text, by the records in its structures: each from its first record through its ENDEL.
 use Rattle.std.specs.Prelude.{ℕ, ◌+◌, ◌-◌, ◌*◌, ◌^◌, ◌==◌, ◌||◌, ◌&&◌, not, min, Bool, false, List, [], ◌∷◌, ◌++◌, length, Option, Some, None, option_map, Ok, Err, if◌then◌else◌}
 use Rattle.mpw_records.specs.Records.{RawRecord, RecordOutcome}
 use Rattle.mpw_records.specs.declared.kind.TheConstants.{AREF, BGNSTR, BOUNDARY, BOX, BOXTYPE, DATATYPE, ENDEL, ENDLIB, ENDSTR, LAYER, NODE, PATH, SREF, STRNAME, TEXT, XY}
@@ -15,7 +15,7 @@ begins kind =
     || (kind == NODE)
     || (kind == BOX)
 
--- What ends an element, or can't stand in one.
+-- What ends an element, or can't be in one.
 abbrev pub stops : ℕ → Bool
 stops kind =
     (kind == ENDEL) || (kind == BGNSTR) || (kind == STRNAME) || (kind == ENDSTR)
@@ -24,23 +24,23 @@ stops kind =
 abbrev pub is_type : ℕ → Bool
 is_type kind = (kind == DATATYPE) || (kind == TEXTTYPE) || (kind == NODETYPE) || (kind == BOXTYPE)
 
--- The two-byte number that data begins with.
+-- The two-byte number at the front of the data.
 abbrev pub number_of : List ℕ → Option ℕ
 number_of (high ∷ low ∷ rest) = Some (high * 256 + low)
 number_of _ = None
 
--- What was told first.
+-- The number that was read first.
 abbrev pub first_told : Option ℕ → Option ℕ → Option ℕ
 first_told (Some number) next = Some number
 first_told None next = next
 
--- Where a record ends.
+-- The offset after a record.
 abbrev pub end_of : RawRecord → ℕ
 end_of r = min (min (r.offset + 4) (2 ^ 64 - 1) + length r.bytes) (2 ^ 64 - 1)
 
 -- ---- an element that is open
 
--- One that a record begins, in the structure whose name stands there.
+-- The element that a record begins, in the structure whose STRNAME is at that offset.
 abbrev pub begun : RawRecord → ℕ → ElementSpan
 begun r structure = record {
   start = r.offset;
@@ -69,7 +69,7 @@ abbrev pub closed : RawRecord → Option ElementSpan → Option ElementSpan
 closed r None = None
 closed r (Some e) = if r.kind == ENDEL then Some (with_record r e) else None
 
--- TEXT and NODE may have any record in them, but ENDLIB, up to ENDEL.
+-- TEXT and NODE may contain any record but ENDLIB, up to ENDEL.
 abbrev pub is_text : Option ElementSpan → Bool
 is_text None = false
 is_text (Some e) = (e.kind == TEXT) || (e.kind == NODE)
@@ -77,13 +77,13 @@ is_text (Some e) = (e.kind == TEXT) || (e.kind == NODE)
 abbrev pub is_inner : RawRecord → Option ElementSpan → Bool
 is_inner r so_far = is_text so_far && not (r.kind == ENDEL) && not (r.kind == ENDLIB)
 
--- The element that is open behind a record.
+-- The element that is open after a record.
 abbrev pub element_behind : RawRecord → Option ℕ → Option ElementSpan → Option ElementSpan
 element_behind r structure so_far =
     if begins r.kind then option_map (begun r) structure else if stops r.kind then None
     else option_map (with_record r) so_far
 
--- Where the name of the structure stands that is open behind a record: one begins without a name, and there is none behind its end.
+-- The offset of the STRNAME of the structure that is open after a record: one begins without a name, and there is none after its end.
 abbrev pub structure_behind : RawRecord → Option ℕ → Option ℕ
 structure_behind r so_far =
     if r.kind == STRNAME then Some r.offset
@@ -106,7 +106,7 @@ abbrev pub listed : Option ElementSpan → List ElementSpan
 listed None = []
 listed (Some e) = e ∷ []
 
--- Those of what stands somewhere, where that is open. A fault of a record's data ends no element.
+-- The elements in a list of records, given what is open before them. A fault of a record's data ends no element.
 unfoldable pub elements_in : Opened → List RecordOutcome → List ElementSpan
 elements_in o [] = []
 elements_in o (Err fault ∷ rest) = elements_in o rest

@@ -1,22 +1,22 @@
--- What stands in a text, one record after another, as long as the lengths are sound.
+-- The records of a text one by one, as long as their lengths are sound.
 use Rattle.std.specs.Prelude.{ℕ, zero, suc, ◌+◌, ◌==◌, not, Bool, true, false, List, [], ◌∷◌, length, drop, Ok, Err, if◌then◌else◌}
 use Rattle.mpw_records.specs.Records.{RecordOutcome, front, told_length}
 use Rattle.mpw_records.specs.declared.fault.Code.{Code}
 use Rattle.mpw_records.specs.declared.fault.Code.TheVariants.{BadType, BadSize}
 use Rattle.mpw_records.specs.declared.kind.TheConstants.{ENDLIB}
 
--- The fault is one of a record's data, whose length is sound.
+-- The fault is one of a record's data, so that its length is sound.
 abbrev pub is_of_data : Code → Bool
 is_of_data BadType = true
 is_of_data BadSize = true
 is_of_data code = false
 
--- Behind a record but ENDLIB, and behind a fault of its data alone, the next one is found.
+-- The next record is found after each record except ENDLIB, and after a fault of its data.
 abbrev pub goes_on : RecordOutcome → Bool
 goes_on (Ok r) = not (r.kind == ENDLIB)
 goes_on (Err f) = is_of_data f.code
 
--- What stands in a text from a place on, at most so many: records, and the faults of their data.
+-- The records of a text from an offset on, at most the given number: records, and the faults of their data.
 unfoldable pub found_from : ℕ → List ℕ → ℕ → List RecordOutcome
 found_from zero text at = []
 found_from (suc most) text at =

@@ -1,4 +1,4 @@
--- The structures of a text and the references in them; and which names a structure's leads to.
+-- The structures of a text and the references in them; and which names one name reaches.
 use Rattle.std.specs.Prelude.{◌≡◌, ℕ, ◌==◌, ◌&&◌, ◌||◌, not, Bool, true, false, List, [], ◌∷◌, ◌++◌, map, filter, Option, Some, None, Ok, Err, if◌then◌else◌}
 use Rattle.std.specs.List.{list_any}
 use Rattle.mpw_geom.specs.Names.{name_eq}
@@ -12,14 +12,14 @@ use Rattle.mpw_skipping.specs.declared.standing.StructureSpan.{StructureSpan}
 
 -- ---- a structure that is open
 
--- Where it begins.
+-- The offset of its BGNSTR.
 abbrev pub begin_behind : RawRecord → Option ℕ → Option ℕ
 begin_behind r so_far =
     if r.kind == BGNSTR then Some r.offset
     else if (r.kind == ENDSTR) || (r.kind == ENDLIB) then None
     else so_far
 
--- What is open behind a record. In a text or a node no record begins or ends a structure.
+-- What is open after a record. In a text or a node no record begins or ends a structure.
 abbrev pub standing_behind : RawRecord → Standing → Standing
 standing_behind r s = record {
   begin = if is_inner r s.opened.element then s.begin else begin_behind r s.begin;
@@ -31,7 +31,7 @@ ended r None name = None
 ended r (Some begin) None = None
 ended r (Some begin) (Some name) = Some (record { start = begin; end = end_of r; name = name })
 
--- The structure that a record ends, from its BGNSTR on, with the place of its STRNAME.
+-- The structure that a record ends, from its BGNSTR on, with the offset of its STRNAME.
 abbrev pub ended_by : RawRecord → Standing → Option StructureSpan
 ended_by r s =
     if is_inner r s.opened.element then None
@@ -61,17 +61,17 @@ abbrev pub data_of : RecordOutcome → List ℕ
 data_of (Ok r) = r.bytes
 data_of (Err fault) = []
 
--- The data of the record at a place: the name that stands there.
+-- The data of the record at an offset: the name in it.
 abbrev pub name_at : List ℕ → ℕ → List ℕ
 name_at text at = data_of (front text at)
 
 -- ---- references
 
--- A structure's name, and that of one which it refers to.
+-- A structure's name, and the name of a structure to which it refers.
 abbrev pub Link : Type 0
 Link = List ℕ × List ℕ
 
--- By a reference's name, in the structure whose name stands at that place.
+-- A reference by its name, in the structure whose STRNAME is at that offset.
 abbrev pub linked_by : List ℕ → RawRecord → Option ℕ → List Link
 linked_by text r None = []
 linked_by text r (Some name) = if r.kind == SNAME then (name_at text name, r.bytes) ∷ [] else []
@@ -94,7 +94,7 @@ is_link from to l = name_eq l.0 from && name_eq l.1 to
 abbrev pub is_linked : List Link → (from to : List ℕ) → Bool
 is_linked links from to = list_any (is_link from to) links
 
--- The one name is the other, or references lead from it to the other.
+-- The two names are equal, or references lead from the first to the second.
 pub data Leads (links : List Link) (from : List ℕ) : List ℕ → Type 0 where
   here : Leads links from from
   on : {middle to : List ℕ} → Leads links from middle → is_linked links middle to ≡ true
@@ -105,7 +105,7 @@ pub data Leads (links : List Link) (from : List ℕ) : List ℕ → Type 0 where
 abbrev pub has_name : List (List ℕ) → List ℕ → Bool
 has_name names name = list_any (name_eq name) names
 
--- The names are just those to which one leads.
+-- The names are exactly those that the first one reaches.
 pub record AreReached (links : List Link) (top : List ℕ) (names : List (List ℕ)) : Type 0 where
   pub each_is_led_to : (name : List ℕ) → has_name names name ≡ true → Leads links top name
   pub each_led_to_is : (name : List ℕ) → Leads links top name → has_name names name ≡ true
@@ -122,7 +122,7 @@ cuts_but names text =
 abbrev pub is_structure : List ℕ → List ℕ → Bool
 is_structure text name = list_any (λ s. name_eq (name_at text s.name) name) (structures_of text)
 
--- The cuts leave out just the structures to which that of one name doesn't lead; and nothing where there is none of that name.
+-- The cuts leave out exactly the structures that the one with that name doesn't reach; there are none if no structure has that name.
 abbrev pub AreUnreached : (text top : List ℕ) → List Cut → Type 0
 AreUnreached text top cuts =
     (is_structure text top ≡ false → cuts ≡ [])

@@ -1,4 +1,4 @@
-//! What stands before a place of a text.
+//! Finds which structure is open, and which record comes last, before a byte of a text.
 ghost use Rattle.std.specs.Prelude.{◌≡◌};
 ghost use Rattle.mpw_records.specs.Records.{seen};
 ghost use Rattle.mpw_skipping.specs.Before.{kind_before, kind_of, offset_of, opened_after, opened_before, structure_before};
@@ -7,7 +7,7 @@ use crate::found::Finds;
 use crate::span::{Opened, behind};
 use mpw_records::{ReadFault, Record};
 
-/// Where what stands at a place begins.
+/// The offset of a record, or of a fault in its place.
 fn offset_of(found: &Result<Record<'_>, ReadFault>) -> usize
     ensures { result ≡ offset_of (seen found.now) }
 {
@@ -17,7 +17,7 @@ fn offset_of(found: &Result<Record<'_>, ReadFault>) -> usize
     }
 }
 
-/// The type of the record that stands there, if it is one without a fault.
+/// The type of a record; `None` for a fault.
 fn kind_of(found: &Result<Record<'_>, ReadFault>) -> Option<u8>
     ensures { result ≡ kind_of (seen found.now) }
 {
@@ -27,7 +27,7 @@ fn kind_of(found: &Result<Record<'_>, ReadFault>) -> Option<u8>
     }
 }
 
-/// What is open behind what stands there.
+/// What is open after a record, or after a fault in its place.
 fn opened_after(found: Result<Record<'_>, ReadFault>, so_far: Opened) -> Opened
     ensures { result ≡ opened_after (seen found.entry) so_far }
 {
@@ -52,17 +52,17 @@ fn opened_before(text: &[u8], offset: usize) -> Opened
     opened
 }
 
-/// Where the STRNAME begins of the structure that is open at a byte of a text, by what begins before that; none where no structure
-/// with a name is open. What stands in a text or a node names no structure, and a fault of a record's data ends none. It costs a
-/// look at each record before that byte.
+/// The offset of the STRNAME of the structure that is open at a byte of a text. It depends only on the records that begin before that byte. `None` if no
+/// structure with a name is open. A record inside a text or a node names no structure, and a fault of a record's data ends none. Cost: one visit of each
+/// record before that byte.
 pub fn structure_before(text: &[u8], offset: usize) -> Option<usize>
     ensures { result ≡ structure_before text.now offset }
 {
     opened_before(text, offset).structure
 }
 
-/// The type of the last record that begins before a byte of a text; none where there is none, or it has a fault. It costs what
-/// [`structure_before`] does.
+/// The type of the last record that begins before a byte of a text. `None` if there is no such record, or if it has a fault. Cost: as
+/// [`structure_before`].
 pub fn kind_before(text: &[u8], offset: usize) -> Option<u8>
     ensures { result ≡ kind_before text.now offset }
 {

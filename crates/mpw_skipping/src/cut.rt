@@ -1,19 +1,19 @@
-//! A text without some of its bytes.
+//! Copies a text without some of its bytes, and maps offsets of the copy back to the text.
 ghost use Rattle.std.specs.Prelude.{◌≡◌, ◌-◌, drop, take, IfOk};
 ghost use Rattle.mpw_skipping.specs.Cuts.{original, without};
 
 use std::alloc::{AllocError, Global};
 
-/// Bytes of a text that are left out, counted from its front.
+/// Bytes of a text to leave out, by their offsets from its front.
 #[derive(Clone, Copy, PartialEq, Eq, Debug)]
 pub struct Cut {
-    /// The first that is.
+    /// The first byte that is left out.
     pub start: usize,
-    /// The first behind them that isn't.
+    /// The first byte after these.
     pub end: usize,
 }
 
-/// The bytes of a text from one on.
+/// The bytes of a text from an offset on.
 pub(crate) fn from(text: &[u8], at: usize) -> &[u8]
     ensures { result.now ≡ drop at text.now }
 {
@@ -23,7 +23,7 @@ pub(crate) fn from(text: &[u8], at: usize) -> &[u8]
     }
 }
 
-/// The first so many bytes of a text, or all where it has fewer.
+/// The first `most` bytes of a text, or all if it has fewer.
 fn first(text: &[u8], most: usize) -> &[u8]
     ensures { result.now ≡ take most text.now }
 {
@@ -33,11 +33,11 @@ fn first(text: &[u8], most: usize) -> &[u8]
     }
 }
 
-/// A text without the bytes of these cuts, which stand in it in order, none over another. Linear in the text and the cuts, with memory
+/// A copy of a text without the bytes of these cuts. The cuts must be in order and must not overlap. Cost: linear in the text and the cuts, with memory
 /// for the copy.
 ///
 /// # Errors
-/// Want of memory.
+/// Out of memory.
 pub fn without(alloc: Global, text: &[u8], cuts: &[Cut]) -> Result<Vec<u8>, AllocError>
     ensures { IfOk result (λ copy. copy.items ≡ without cuts.now text.now) }
 {
@@ -52,8 +52,8 @@ pub fn without(alloc: Global, text: &[u8], cuts: &[Cut]) -> Result<Vec<u8>, Allo
     Ok(copy)
 }
 
-/// Where a byte of the copy that [`without`] makes stands in the text, up to 2^64 - 1; of the one behind its last, where the text
-/// ends. Linear in the cuts.
+/// The offset in the text of a byte of the copy that [`without`] makes, up to 2^64 - 1. For the offset after the copy's last byte it is where the text
+/// ends. Cost: linear in the cuts.
 pub fn original(cuts: &[Cut], at: usize) -> usize
     ensures { result ≡ original cuts.now at }
 {

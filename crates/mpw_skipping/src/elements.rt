@@ -1,4 +1,4 @@
-//! The elements of a text.
+//! Finds the elements of a text.
 ghost use Rattle.std.specs.Prelude.{◌≡◌, ◌∷◌, ◌++◌, List, IfOk};
 ghost use Rattle.mpw_records.specs.Records.{RecordOutcome, seen};
 ghost use Rattle.mpw_skipping.specs.Elements.{elements_in, elements_of, listed};
@@ -18,7 +18,7 @@ fn add(spans: &mut Vec<ElementSpan>, found: Option<ElementSpan>) -> Result<(), A
     Ok(())
 }
 
-/// Takes in what stands at a place: adds the element that it ends, and tells what is open behind it.
+/// Processes one record: adds the element that it ends, and updates what is open.
 #[tactic(auto, unfolding(crate::specs::Elements::elements_in))]
 fn take(
     spans: &mut Vec<ElementSpan>,
@@ -36,13 +36,13 @@ fn take(
     }
 }
 
-/// Where the elements of a text's structures stand, in order: each from the record that begins one through its ENDEL. A record that begins
-/// an element, or begins, names or ends a structure, ends one that is open without it; but a text or a node goes on to its ENDEL. A
-/// fault of a record's data ends nothing; nothing is found behind a record whose length isn't sound, and behind ENDLIB. Linear in
-/// the records, with memory for the elements.
+/// The elements of the structures of a text, in order: each from its first record through its ENDEL. If an element is open, a record that begins
+/// another element, or that begins, names or ends a structure, drops the open one. But a text or a node continues to its ENDEL. A fault of a
+/// record's data ends nothing. Nothing is found after a record with an unsound length, or after ENDLIB. Cost: linear in the records, with memory
+/// for the elements.
 ///
 /// # Errors
-/// Want of memory.
+/// Out of memory.
 pub fn elements_of(alloc: Global, text: &[u8]) -> Result<Vec<ElementSpan>, AllocError>
     ensures { IfOk result (λ spans. spans.items ≡ elements_of text.now) }
 {

@@ -1,4 +1,4 @@
-//! What stands in a text, one record after another, as long as the lengths are sound.
+//! Reads the records of a text one by one, as long as their lengths are sound.
 ghost use Rattle.std.specs.Prelude.{◌≡◌, [], ◌∷◌, drop, IfOk, IfSome, IfNone};
 ghost use Rattle.mpw_records.specs.Records.{IsSized, front, raw, seen, told_length};
 ghost use Rattle.mpw_skipping.specs.Found.{found_in, goes_on, is_of_data};
@@ -8,10 +8,10 @@ use mpw_records::kind::ENDLIB;
 use mpw_records::{Code, ReadFault, Record, Records};
 use std::marker::Model;
 
-/// What stands at a place of a text: a record, or the fault in its place. It looks at six bytes at most.
+/// The record at an offset of a text, or the fault in its place. Reads at most six bytes.
 ///
 /// # Errors
-/// The first fault of what stands there, as the records of the text have it.
+/// The first fault at that offset, the same one that reading the records of the text finds.
 pub fn record_at(text: &[u8], at: usize) -> Result<Record<'_>, ReadFault>
     ensures outcome { seen result ≡ front text.now at }
     ensures sized { IfOk result (λ found. IsSized (raw found)) }
@@ -34,7 +34,7 @@ pub fn record_at(text: &[u8], at: usize) -> Result<Record<'_>, ReadFault>
     }
 }
 
-/// The number of bytes that the record at a place tells of itself.
+/// The length in bytes that the record at an offset states.
 fn length_at(text: &[u8], at: usize) -> usize
     ensures { result ≡ told_length (drop at text.now) }
 {
@@ -45,14 +45,14 @@ fn length_at(text: &[u8], at: usize) -> usize
     }
 }
 
-/// Whether a fault is one of a record's data, whose length is sound.
+/// Whether a fault is one of a record's data, so that the record's length is sound.
 fn is_of_data(code: Code) -> bool
     ensures { result ≡ is_of_data code }
 {
     matches!(code, Code::BadType | Code::BadSize)
 }
 
-/// Whether behind this the next record is found.
+/// Whether the next record can be found after this one.
 fn goes_on(found: &Result<Record<'_>, ReadFault>) -> bool
     ensures { result ≡ goes_on (seen found.now) }
 {
@@ -62,7 +62,7 @@ fn goes_on(found: &Result<Record<'_>, ReadFault>) -> bool
     }
 }
 
-/// What stands in a text from a place on, at most so many. Contracts see it as that list.
+/// The records of a text from an offset on, at most a given number. Contracts see them as a list.
 #[derive(Drop)]
 pub(crate) struct Finds<'a> {
     text: &'a [u8],
@@ -83,7 +83,7 @@ impl<'a> Model for Finds<'a> {
 }
 
 impl<'a> Finds<'a> {
-    /// What stands in a text, from its front.
+    /// The records of a text, from its front.
     pub fn new(text: &'a [u8]) -> Finds<'a>
         ensures { result ≡ found_in text.entry.now }
     {
@@ -94,7 +94,7 @@ impl<'a> Finds<'a> {
         }
     }
 
-    /// What stands next. It looks at six bytes at most.
+    /// The next record, or the fault in its place. Reads at most six bytes.
     pub fn next(&mut self) -> Option<Result<Record<'a>, ReadFault>>
         ensures some { IfSome result (λ found. self.old ≡ seen found ∷ self.new) }
         ensures none { IfNone result (self.old ≡ []) }

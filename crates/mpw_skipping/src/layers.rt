@@ -1,4 +1,4 @@
-//! The elements on some layers.
+//! Finds the elements on some layers.
 ghost use Rattle.std.specs.Prelude.{◌≡◌, map, filter, IfOk};
 ghost use Rattle.std.specs.List.{list_any};
 ghost use Rattle.mpw_geom.specs.Layers.{same_layer};
@@ -10,14 +10,14 @@ use crate::span::ElementSpan;
 use mpw_geom::Layer;
 use std::alloc::{AllocError, Global};
 
-/// Whether two layers are one.
+/// Whether two layers are the same.
 fn same_layer(one: Layer, other: Layer) -> bool
     ensures { result ≡ same_layer one other }
 {
     (one.layer == other.layer) & (one.datatype == other.datatype)
 }
 
-/// Whether a layer is one of these.
+/// Whether the list has the layer.
 fn is_among(layers: &[Layer], layer: Layer) -> bool
     ensures { result ≡ list_any (same_layer layer) layers.now }
 {
@@ -29,7 +29,7 @@ fn is_among(layers: &[Layer], layer: Layer) -> bool
     false
 }
 
-/// Whether an element tells a layer and a type that are one of these.
+/// Whether an element has a layer and a type that are one of these layers.
 pub fn is_named(layers: &[Layer], span: ElementSpan) -> bool
     ensures { result ≡ is_named layers.now span }
 {
@@ -57,11 +57,11 @@ fn cuts_among(
     Ok(cuts)
 }
 
-/// The cuts that leave out the elements of a text on these layers, in order. It costs what [`elements_of`] does, and a comparison for
-/// each element and layer.
+/// The cuts that leave out the elements of a text on these layers, in order. Cost: that of [`elements_of`], and a comparison of
+/// each element with each layer.
 ///
 /// # Errors
-/// Want of memory.
+/// Out of memory.
 pub fn cuts_of_layers(alloc: Global, layers: &[Layer], text: &[u8]) -> Result<Vec<Cut>, AllocError>
     ensures { IfOk result (λ cuts. cuts.items ≡ cuts_of_layers layers.now text.now) }
 {

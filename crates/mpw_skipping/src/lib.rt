@@ -1,15 +1,15 @@
-//! Parts of a GDSII text left out before it is read: its elements on some layers, and the structures that aren't reached, with their faults.
+//! Leaves out parts of a GDSII text before it is read: elements on some layers, and structures that the top doesn't reach, with their faults.
 //!
-//! [`elements_of`] finds the elements of a text: from the record that begins one through its ENDEL. [`without`] copies a text but
-//! for some cuts, and [`original`] tells where a byte of the copy stands in the text, so that what is told of the copy can be told of
-//! the text. [`cuts_of_layers`] are the cuts of the elements whose layer and type are named, [`cuts_of_unreached`] those of the
-//! structures to which one doesn't lead.
+//! - [`elements_of`] finds the elements of a text: each from its first record through its ENDEL.
+//! - [`without`] copies a text without some cuts. [`original`] returns the offset in the text of a byte of the copy, so that a fault in the copy can be
+//!   reported in terms of the text.
+//! - [`cuts_of_layers`] are the cuts of the elements on given layers. [`cuts_of_unreached`] are the cuts of the structures that one structure doesn't reach.
 //!
-//! [`names_of`] are the names in the records of one type, but for those in texts and nodes; of a byte, [`structure_before`] tells
-//! which structure is open there, and [`kind_before`] what record stands before it.
+//! - [`names_of`] are the names in the records of one type, except those in texts and nodes.
+//! - [`structure_before`] is the structure that is open at a byte, and [`kind_before`] the type of the last record before it.
 //!
-//! Nothing here judges a text: what is no element, and an element that doesn't end, stay where they are, and so does what stands
-//! behind a record whose length isn't sound.
+//! Nothing here validates a text. Elements without an end stay in the text, and so does everything that is no element, and everything
+//! after a record with an unsound length.
 #![tactic(auto)]
 
 mod before;

@@ -1,4 +1,4 @@
-//! The references of a text, and the names to which one leads.
+//! Finds the references of a text, and the names that one name reaches.
 ghost use Rattle.std.specs.Prelude.{◌≡◌, [], ◌∷◌, ◌++◌, ℕ, List, map, IfOk};
 ghost use Rattle.mpw_records.specs.Records.{RecordOutcome, raw, seen};
 ghost use Rattle.mpw_skipping.specs.Internal.Passes.{IsPass, link_of};
@@ -11,14 +11,14 @@ use mpw_records::kind::SNAME;
 use mpw_records::{ReadFault, Record};
 use std::alloc::{AllocError, Global};
 
-/// A structure's name, and that of one which it refers to, as they stand in their records.
+/// A structure's name, and the name of a structure to which it refers, as they are in their records.
 #[derive(Clone, Copy)]
 pub(crate) struct Link<'a> {
     pub from: &'a [u8],
     pub to: &'a [u8],
 }
 
-/// The data of the record at a place: the name that stands there.
+/// The data of the record at an offset: the name in it.
 pub(crate) fn name_at(text: &[u8], at: usize) -> &[u8]
     ensures { result.now ≡ name_at text.entry.now at }
 {
@@ -28,7 +28,7 @@ pub(crate) fn name_at(text: &[u8], at: usize) -> &[u8]
     }
 }
 
-/// The reference that a record names, in the structure whose name stands at that place.
+/// The reference that a record makes, in the structure whose STRNAME is at offset `name`.
 fn linked_by<'a>(text: &'a [u8], found: Record<'a>, name: Option<usize>) -> Option<Link<'a>>
     ensures { map link_of (listed result) ≡ linked_by text.entry.now (raw found.entry) name }
 {
@@ -41,7 +41,7 @@ fn linked_by<'a>(text: &'a [u8], found: Record<'a>, name: Option<usize>) -> Opti
     }
 }
 
-/// The reference that a record names.
+/// The reference that a record makes.
 fn link_by<'a>(text: &'a [u8], found: Record<'a>, standing: Standing) -> Option<Link<'a>>
     ensures { map link_of (listed result) ≡ link_by text.entry.now (raw found.entry) standing }
 {
@@ -62,7 +62,7 @@ fn add<'a>(links: &mut Vec<Link<'a>>, found: Option<Link<'a>>) -> Result<(), All
     Ok(())
 }
 
-/// Takes in what stands at a place: adds the reference that it names, and tells what is open behind it.
+/// Processes one record: adds the reference that it makes, and updates what is open.
 fn take<'a>(
     text: &'a [u8],
     links: &mut Vec<Link<'a>>,
@@ -80,10 +80,10 @@ fn take<'a>(
     }
 }
 
-/// The references in the structures of a text, in order. Linear in the records, with memory for the references.
+/// The references in the structures of a text, in order. Cost: linear in the records, with memory for the references.
 ///
 /// # Errors
-/// Want of memory.
+/// Out of memory.
 pub(crate) fn links_of<'a>(alloc: Global, text: &'a [u8]) -> Result<Vec<Link<'a>>, AllocError>
     ensures { IfOk result (λ links. map link_of links.items ≡ links_of text.entry.now) }
 {
@@ -96,7 +96,7 @@ pub(crate) fn links_of<'a>(alloc: Global, text: &'a [u8]) -> Result<Vec<Link<'a>
     Ok(links)
 }
 
-/// Whether a name is one of these.
+/// Whether the list has the name.
 pub(crate) fn has_name(names: &[&[u8]], name: &[u8]) -> bool
     ensures { result ≡ has_name (map (λ n. n.now) names.now) name.now }
 {
@@ -108,7 +108,7 @@ pub(crate) fn has_name(names: &[&[u8]], name: &[u8]) -> bool
     false
 }
 
-/// Adds the name that a link leads to, where that of its structure is there; else it is left.
+/// Adds the name to which a link leads, if the name of its structure is in the list. Otherwise the link goes to `left`.
 fn pass_one<'a>(
     names: &mut Vec<&'a [u8]>,
     left: &mut Vec<Link<'a>>,
@@ -124,7 +124,7 @@ fn pass_one<'a>(
     Ok(())
 }
 
-/// Adds to these names those which the waiting links of them lead to, and gives the links that wait on.
+/// Adds to these names those to which their waiting links lead, and returns the links that still wait.
 fn pass<'a>(
     alloc: Global,
     names: &mut Vec<&'a [u8]>,
@@ -139,11 +139,11 @@ fn pass<'a>(
     Ok(left)
 }
 
-/// The names to which a name leads by these links, itself among them. It goes over the links once for each level of structures below it, in
-/// which it compares each with the names so far.
+/// The names that a name reaches by these links; it is one of them. Cost: one pass over the links for each level of structures below it. A
+/// pass compares each link with the names so far.
 ///
 /// # Errors
-/// Want of memory.
+/// Out of memory.
 pub(crate) fn reached_from<'a>(
     alloc: Global,
     links: Vec<Link<'a>>,

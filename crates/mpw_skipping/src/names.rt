@@ -1,4 +1,4 @@
-//! The names in a text's records.
+//! Finds the names in a text's records.
 ghost use Rattle.std.specs.Prelude.{◌≡◌, ◌∷◌, ◌++◌, List, map, IfOk};
 ghost use Rattle.mpw_records.specs.Records.{RecordOutcome, raw, seen};
 ghost use Rattle.mpw_skipping.specs.Names.{named_by, names_in, names_of};
@@ -9,7 +9,7 @@ use crate::span::{Opened, behind, is_inner};
 use mpw_records::{ReadFault, Record};
 use std::alloc::{AllocError, Global};
 
-/// The data of a record, where it is of that type and outside texts and nodes.
+/// The data of a record, if it has that type and is outside texts and nodes.
 fn named_by<'a>(found: Record<'a>, kind: u8, opened: Opened) -> Option<&'a [u8]>
     ensures { map (λ n. n.now) (listed result) ≡ named_by kind (raw found.entry) opened }
 {
@@ -32,7 +32,7 @@ fn add<'a>(names: &mut Vec<&'a [u8]>, found: Option<&'a [u8]>) -> Result<(), All
     Ok(())
 }
 
-/// Takes in what stands at a place: adds the name in it, and tells what is open behind it.
+/// Processes one record: adds the name in it, and updates what is open.
 fn take<'a>(
     names: &mut Vec<&'a [u8]>,
     kind: u8,
@@ -50,12 +50,11 @@ fn take<'a>(
     }
 }
 
-/// The data of a text's records of that type, in order, but of those in texts and nodes: of SNAME or STRNAME the names, as they stand
-/// there. Nothing is found behind a record whose length isn't sound, and behind ENDLIB. Linear in the records, with memory for the
-/// names.
+/// The data of a text's records of that type, in order, except those in texts and nodes. For SNAME or STRNAME these are the names as they are in the
+/// records. Nothing is found after a record with an unsound length, or after ENDLIB. Cost: linear in the records, with memory for the names.
 ///
 /// # Errors
-/// Want of memory.
+/// Out of memory.
 pub fn names_of<'a>(alloc: Global, text: &'a [u8], kind: u8) -> Result<Vec<&'a [u8]>, AllocError>
     ensures { IfOk result (λ names. map (λ n. n.now) names.items ≡ names_of kind text.entry.now) }
 {

@@ -1,4 +1,4 @@
-//! Where an element stands, and what its records tell of its layer.
+//! The position of an element in a text, and the layer and type in its records.
 ghost use Rattle.std.specs.Prelude.{◌≡◌, Some, option_map};
 ghost use Rattle.mpw_records.specs.Records.{raw};
 ghost use Rattle.mpw_skipping.specs.Elements.{begins, begun, behind, closed, element_behind, end_of, first_told, is_inner, is_text, is_type, nothing_open, number_of, stops, structure_behind, with_record};
@@ -9,42 +9,42 @@ use mpw_records::kind::{
     STRNAME, TEXT, XY,
 };
 
-/// The type of a text, a two-byte number, as the datatype of a boundary.
+/// The record TEXTTYPE of a text: a two-byte number, like the datatype of a boundary.
 pub const TEXTTYPE: u8 = 0x16;
 
-/// The type of a node, a two-byte number, as the datatype of a boundary.
+/// The record NODETYPE of a node: a two-byte number, like the datatype of a boundary.
 pub const NODETYPE: u8 = 0x2A;
 
-/// Where an element stands in a text, in bytes from its front, and what its records tell first of its layer and its type.
+/// The position of an element in a text, and its first layer and type. Offsets are in bytes from the text's front.
 #[derive(Clone, Copy, PartialEq, Eq, Debug)]
 pub struct ElementSpan {
-    /// Where its first record begins.
+    /// The offset of its first record.
     pub start: usize,
-    /// Where its last record ends.
+    /// The offset after its last record.
     pub end: usize,
     /// The type of its first record.
     pub kind: u8,
-    /// Where the STRNAME of its structure begins.
+    /// The offset of the STRNAME of its structure.
     pub structure: usize,
-    /// The number of its LAYER.
+    /// The number in its first LAYER.
     pub layer: Option<u16>,
-    /// The number of its DATATYPE, TEXTTYPE, NODETYPE or BOXTYPE.
+    /// The number in its first DATATYPE, TEXTTYPE, NODETYPE or BOXTYPE.
     pub datatype: Option<u16>,
-    /// Where its first XY begins.
+    /// The offset of its first XY.
     pub points: Option<usize>,
 }
 
-/// What is open at a place of a text.
+/// What is open at an offset of a text.
 #[derive(Clone, Copy)]
 pub(crate) struct Opened {
-    /// Where the STRNAME of the structure begins.
+    /// The offset of the STRNAME of the open structure.
     pub structure: Option<usize>,
-    /// The element, so far.
+    /// The open element, as far as it was read.
     pub element: Option<ElementSpan>,
 }
 
 impl Opened {
-    /// Nothing is, as at a text's front.
+    /// Nothing is open, as at the front of a text.
     pub fn nothing() -> Opened
         ensures { result ≡ nothing_open }
     {
@@ -62,21 +62,21 @@ fn begins(kind: u8) -> bool
     matches!(kind, BOUNDARY | PATH | SREF | AREF | TEXT | NODE | BOX)
 }
 
-/// Whether a record ends an element, or can't stand in one.
+/// Whether a record ends an element, or can't be in one.
 fn stops(kind: u8) -> bool
     ensures { result ≡ stops kind }
 {
     matches!(kind, ENDEL | BGNSTR | STRNAME | ENDSTR | ENDLIB)
 }
 
-/// Whether a record tells the type of an element.
+/// Whether a record has the type of an element.
 fn is_type(kind: u8) -> bool
     ensures { result ≡ is_type kind }
 {
     matches!(kind, DATATYPE | TEXTTYPE | NODETYPE | BOXTYPE)
 }
 
-/// The two-byte number that data begins with.
+/// The two-byte number at the front of the data.
 fn number_of(bytes: &[u8]) -> Option<u16>
     ensures { result ≡ number_of bytes.now }
 {
@@ -86,7 +86,7 @@ fn number_of(bytes: &[u8]) -> Option<u16>
     }
 }
 
-/// A number, if it is told before, or else the next one.
+/// The number that was read before, or else the next one.
 fn first_told(before: Option<u16>, next: Option<u16>) -> Option<u16>
     ensures { result ≡ first_told before next }
 {
@@ -96,7 +96,7 @@ fn first_told(before: Option<u16>, next: Option<u16>) -> Option<u16>
     }
 }
 
-/// A place, if one is told before, or else the next one.
+/// The offset that was read before, or else the next one.
 fn first_place(before: Option<usize>, next: usize) -> Option<usize>
     ensures { result ≡ first_told before (Some next) }
 {
@@ -106,7 +106,7 @@ fn first_place(before: Option<usize>, next: usize) -> Option<usize>
     }
 }
 
-/// Where a record ends, in bytes from the text's front, up to 2^64 - 1.
+/// The offset after a record, in bytes from the text's front, up to 2^64 - 1.
 pub(crate) fn end_of(found: Record<'_>) -> usize
     ensures { result ≡ end_of (raw found.entry) }
 {
@@ -116,7 +116,7 @@ pub(crate) fn end_of(found: Record<'_>) -> usize
         .saturating_add(found.bytes.len())
 }
 
-/// An element of which the first record was read, in the structure whose STRNAME stands there.
+/// An element whose first record was read, in the structure whose STRNAME is at this offset.
 fn begun(found: Record<'_>, structure: usize) -> ElementSpan
     ensures { result ≡ begun (raw found.entry) structure }
 {
@@ -159,7 +159,7 @@ pub(crate) fn closed(found: Record<'_>, so_far: Option<ElementSpan>) -> Option<E
     }
 }
 
-/// An element that may be open, with its next record.
+/// The open element, if there is one, with its next record.
 fn continued(found: Record<'_>, so_far: Option<ElementSpan>) -> Option<ElementSpan>
     ensures { result ≡ option_map (with_record (raw found.entry)) so_far }
 {
@@ -179,14 +179,14 @@ fn is_text(so_far: Option<ElementSpan>) -> bool
     }
 }
 
-/// Whether a record stands in a text or a node, whatever it is.
+/// Whether a record is inside a text or a node, whatever its type.
 pub(crate) fn is_inner(found: Record<'_>, so_far: Option<ElementSpan>) -> bool
     ensures { result ≡ is_inner (raw found.entry) so_far }
 {
     is_text(so_far) & (found.kind != ENDEL) & (found.kind != ENDLIB)
 }
 
-/// The element that is open behind a record.
+/// The element that is open after a record.
 fn element_behind(
     found: Record<'_>,
     structure: Option<usize>,
@@ -206,7 +206,7 @@ fn element_behind(
     }
 }
 
-/// Where the name of the structure stands that is open behind a record.
+/// The offset of the STRNAME of the structure that is open after a record.
 fn structure_behind(found: Record<'_>, so_far: Option<usize>) -> Option<usize>
     ensures { result ≡ structure_behind (raw found.entry) so_far }
 {
@@ -217,7 +217,7 @@ fn structure_behind(found: Record<'_>, so_far: Option<usize>) -> Option<usize>
     }
 }
 
-/// What is open behind a record.
+/// What is open after a record.
 pub(crate) fn behind(found: Record<'_>, so_far: Opened) -> Opened
     ensures { result ≡ behind (raw found.entry) so_far }
 {

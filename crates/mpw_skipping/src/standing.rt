@@ -1,4 +1,4 @@
-//! The structures of a text.
+//! Finds the structures of a text.
 ghost use Rattle.std.specs.Prelude.{◌≡◌, ◌∷◌, ◌++◌, List, IfOk};
 ghost use Rattle.mpw_records.specs.Records.{RecordOutcome, raw, seen};
 ghost use Rattle.mpw_skipping.specs.Structures.{begin_behind, ended, ended_by, listed, nothing_stands, standing_behind, structures_in, structures_of};
@@ -9,28 +9,28 @@ use mpw_records::kind::{BGNSTR, ENDLIB, ENDSTR};
 use mpw_records::{ReadFault, Record};
 use std::alloc::{AllocError, Global};
 
-/// Where a structure stands in a text, in bytes from its front.
+/// The position of a structure in a text, in bytes from its front.
 #[derive(Clone, Copy)]
 pub(crate) struct StructureSpan {
-    /// Where its BGNSTR begins.
+    /// The offset of its BGNSTR.
     pub start: usize,
-    /// Where its ENDSTR ends.
+    /// The offset after its ENDSTR.
     pub end: usize,
-    /// Where its STRNAME begins.
+    /// The offset of its STRNAME.
     pub name: usize,
 }
 
-/// What is open at a place of a text.
+/// What is open at an offset of a text.
 #[derive(Clone, Copy)]
 pub(crate) struct Standing {
-    /// Where the BGNSTR of the structure begins.
+    /// The offset of the BGNSTR of the open structure.
     pub begin: Option<usize>,
-    /// Where its name stands, and the element in it.
+    /// The name of the open structure, and the open element.
     pub opened: Opened,
 }
 
 impl Standing {
-    /// Nothing is, as at a text's front.
+    /// Nothing is open, as at the front of a text.
     pub fn nothing() -> Standing
         ensures { result ≡ nothing_stands }
     {
@@ -40,7 +40,7 @@ impl Standing {
         }
     }
 
-    /// What is open behind a record.
+    /// What is open after a record.
     pub fn behind(self, found: Record<'_>) -> Standing
         ensures { result ≡ standing_behind (raw found.entry) self }
     {
@@ -55,7 +55,7 @@ impl Standing {
     }
 }
 
-/// Where the structure begins that is open behind a record.
+/// The offset of the BGNSTR of the structure that is open after a record.
 fn begin_behind(found: Record<'_>, so_far: Option<usize>) -> Option<usize>
     ensures { result ≡ begin_behind (raw found.entry) so_far }
 {
@@ -66,7 +66,7 @@ fn begin_behind(found: Record<'_>, so_far: Option<usize>) -> Option<usize>
     }
 }
 
-/// The structure that ends with a record, where it began and was named.
+/// The structure that ends with a record, if it began and has a name.
 fn ended(found: Record<'_>, begin: Option<usize>, name: Option<usize>) -> Option<StructureSpan>
     ensures { result ≡ ended (raw found.entry) begin name }
 {
@@ -103,7 +103,7 @@ fn add(spans: &mut Vec<StructureSpan>, found: Option<StructureSpan>) -> Result<(
     Ok(())
 }
 
-/// Takes in what stands at a place: adds the structure that it ends, and tells what is open behind it.
+/// Processes one record: adds the structure that it ends, and updates what is open.
 #[tactic(auto, unfolding(crate::specs::Structures::structures_in))]
 fn take(
     spans: &mut Vec<StructureSpan>,
@@ -121,11 +121,11 @@ fn take(
     }
 }
 
-/// Where the structures of a text stand, in order: each from its BGNSTR through its ENDSTR, where it has a name. Linear in the records, with
+/// The structures of a text that have a name, in order: each from its BGNSTR through its ENDSTR. Cost: linear in the records, with
 /// memory for the structures.
 ///
 /// # Errors
-/// Want of memory.
+/// Out of memory.
 pub(crate) fn structures_of(alloc: Global, text: &[u8]) -> Result<Vec<StructureSpan>, AllocError>
     ensures { IfOk result (λ spans. spans.items ≡ structures_of text.now) }
 {

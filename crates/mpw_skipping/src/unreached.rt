@@ -1,4 +1,4 @@
-//! The structures to which another doesn't lead.
+//! Finds the structures that another one doesn't reach.
 ghost use Rattle.std.specs.Prelude.{◌≡◌, map, IfOk};
 ghost use Rattle.mpw_skipping.specs.Structures.{AreUnreached, cuts_but, is_structure, structures_of};
 
@@ -20,7 +20,7 @@ fn is_structure(text: &[u8], structures: &[StructureSpan], name: &[u8]) -> bool
     false
 }
 
-/// The cuts of a text's structures that have none of these names.
+/// The cuts of a text's structures whose name is none of these.
 fn cuts_but(
     alloc: Global,
     text: &[u8],
@@ -40,12 +40,12 @@ fn cuts_but(
     Ok(cuts)
 }
 
-/// The cuts that leave out the structures of a text to which that of one name doesn't lead, by the references in its records; none where the text has
-/// no structure of that name. Names are compared as they stand in their records. It goes over the text twice, and over the
-/// references once for each level below the structure, in which it compares each with the names so far.
+/// The cuts that leave out the structures of a text that the one named `top` doesn't reach by the references in its records. There are none if the text has
+/// no structure with that name. Names are compared as they are in their records. Cost: two passes over the text, and one pass over the references for each
+/// level below the structure. Such a pass compares each reference with the names so far.
 ///
 /// # Errors
-/// Want of memory.
+/// Out of memory.
 pub fn cuts_of_unreached(alloc: Global, text: &[u8], top: &[u8]) -> Result<Vec<Cut>, AllocError>
     ensures { IfOk result (λ cuts. AreUnreached text.now top.now cuts.items) }
 {

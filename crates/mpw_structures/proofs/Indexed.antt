@@ -1,4 +1,4 @@
--- One more structure under a new name.
+-- One more structure with a new name.
 use Rattle.std.proofs.Common.{◌≡◌, ℕ, ◌+◌, Bool, true, false, cond, List, [], ◌∷◌, ◌++◌, length, Option, Some, None, refl, sym, ap, ◌∙◌, arith}
 use Rattle.std.specs.Prelude.{nat_eq}
 use Rattle.std.specs.Option.{option_or}
@@ -15,7 +15,7 @@ step : (b : Bool) (x : ℕ) (X Y Z : Option ℕ) → X ≡ option_or Y Z
 step true x X Y Z e = refl
 step false x X Y Z e = e
 
--- where a structure is among these and one more
+-- the index of a structure among these and one more
 place_push : (i : ℕ) (ss : List Structure) (s : Structure) (q : List ℕ)
     → place_from i (ss ++ s ∷ []) q ≡ option_or (place_from i ss q)
     (cond (pointwise nat_eq s.name q) (Some (i + length ss)) None)

@@ -32,7 +32,7 @@ pub points_length : (unit : ℕ) (bytes : List ℕ) (at count : ℕ)
 points_length unit bytes at zero = refl
 points_length unit bytes at (suc n) = rw (points_length unit bytes (at + 8) n) (omega arith)
 
--- the point with an index
+-- the point at an index
 pub point_of : (unit : ℕ) (bytes : List ℕ) (at count i : ℕ) → i < count
     → get_or (points_from unit bytes at count) i no_point ≡ point_from unit bytes (at + 8 * i)
 point_of unit bytes at zero i h = absurd (omega (arith, h))
@@ -75,7 +75,7 @@ same_if_not_apart p q e =
     let y = (Decides-int_eq p.y q.y).0 both.1 in
     λ i. record { x = x i; y = y i }
 
--- ---- a list of points that is shared
+-- ---- a list of points in the text
 
 pub shared_length : (source : Coordinates) (text : Text) (at count : ℕ) (ps : List Point)
     → source ≡ Shared text → points_in source at count ≡ ps → count ≡ length ps

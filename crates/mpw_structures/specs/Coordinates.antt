@@ -8,7 +8,7 @@ use Rattle.mpw_geom.specs.declared.plane.Point.{Point}
 unfoldable pub scaled : ℕ → List ℕ → ℤ
 scaled unit bytes = cast_signed w32 (big_number 4 bytes) *ℤ pos unit
 
--- The point that begins at a byte: its x, and behind that its y.
+-- The point that begins at a byte: its x, and after that its y.
 abbrev pub point_from : ℕ → List ℕ → ℕ → Point
 point_from unit bytes at =
     record { x = scaled unit (drop at bytes); y = scaled unit (drop (at + 4) bytes) }

@@ -1,4 +1,4 @@
--- What a read element satisfies.
+-- The properties of an element that was read.
 use Rattle.std.specs.Prelude.{◌≡◌, ℕ, ◌*◌, ◌^◌, ◌≤◌, ◌&&◌, ◌||◌, not, Bool, true, IsTrue, ℤ, pos, ◌<ℤ◌, List, [], ◌∷◌, ◌++◌, length, take, All, neg_ℤ}
 use Rattle.std.specs.Ordering.{int_eq}
 use Rattle.mpw_geom.specs.declared.plane.Point.{Point}
@@ -31,11 +31,11 @@ each_step test [] = true
 each_step test (p ∷ []) = true
 each_step test (p ∷ q ∷ ps) = test p q && each_step test (q ∷ ps)
 
--- The corners with the closing edge: behind the last corner stands the first again.
+-- The corners with the closing edge: the first corner again after the last one.
 abbrev pub closed : List Point → List Point
 closed ps = ps ++ take 1 ps
 
--- A boundary has a corner, and each of its edges, the closing one too, is horizontal or vertical.
+-- A boundary has a corner, and each of its edges, including the closing one, is horizontal or vertical.
 pub record IsBoundary (b : Boundary) : Type 0 where
   pub corners : 1 ≤ length b.points
   pub manhattan : IsTrue (each_step is_manhattan_step (closed b.points))
@@ -70,7 +70,7 @@ pub record IsReference (r : Reference) : Type 0 where
   pub column_step : IsPointWithinReach r.column_step
   pub row_step : IsPointWithinReach r.row_step
 
--- What reading an element gives.
+-- The properties of an element that was read.
 abbrev pub IsElement : Element → Type 0
 IsElement (elements.Boundary b) = IsBoundary b
 IsElement (elements.Path p) = IsPath p

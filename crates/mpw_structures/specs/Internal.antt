@@ -1,1 +1,2 @@
+-- Definitions for private functions and proofs. No public contract refers to them.
 pub mod Coordinates

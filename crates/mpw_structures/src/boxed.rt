@@ -1,11 +1,11 @@
-//! A value in memory of its own.
+//! A value in its own allocation.
 
 ghost use Rattle.std.specs.Prelude.{◌≡◌, IfOk};
 
 use std::alloc::{AllocError, Global};
 use std::marker::Model;
 
-/// A value in memory of its own, which contracts see as the value.
+/// A value in its own allocation. Contracts see the value.
 pub struct Boxed<T> {
     held: Box<T>,
 }
@@ -24,7 +24,7 @@ impl<T> Model for Boxed<T> {
 }
 
 impl<T: Drop> Boxed<T> {
-    /// The value, moved there. An error is want of memory.
+    /// Moves the value there. The only error is out of memory.
     pub fn new(alloc: Global, value: T) -> Result<Boxed<T>, AllocError>
         ensures { IfOk result (λ boxed. boxed ≡ value) }
     {

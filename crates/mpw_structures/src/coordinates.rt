@@ -1,4 +1,4 @@
-//! Coordinates, in a text of GDSII Stream or in memory of their own.
+//! Coordinates, in a text of GDSII Stream or in their own allocation.
 
 ghost use Rattle.std.specs.Prelude.{◌≡◌, ◌+◌, ◌*◌, ◌<◌, ◌≤◌, ◌^◌, unsigned_abs, length, IfSome, IsTrue};
 ghost use Rattle.mpw_structures.specs.Coordinates.{scaled, point_from};
@@ -24,7 +24,7 @@ pub fn scale(unit: u16, bytes: &[u8]) -> i64
     i64::from(BigEndian::read_i32(bytes)) * i64::from(unit)
 }
 
-/// A text that points are read off.
+/// A text from which points are read.
 #[derive(Drop)]
 pub(crate) struct Text {
     pub bytes: Arc<Vec<u8>>,
@@ -47,7 +47,7 @@ impl Text {
         }
     }
 
-    /// Whether the text has these points from a byte on, one behind the other.
+    /// Whether the text has exactly these points from a byte on.
     fn has(&self, at: usize, points: &[Point]) -> bool
         requires { self.now.unit ≤ 1000 }
         ensures { IsTrue result → ArePoints self.now at (length points.now) points.now }
@@ -64,7 +64,7 @@ impl Text {
         true
     }
 
-    /// Where these points are, if the text has them from a byte on.
+    /// The position of these points in the text, if it has them from a byte on.
     pub fn place(&self, at: usize, points: &[Point]) -> Option<Place>
         requires { self.now.unit ≤ 1000 }
         ensures { IfSome result (λ place. ArePoints self.now place.at place.count points.now) }
@@ -80,20 +80,20 @@ impl Text {
     }
 }
 
-/// Where points are in a text.
+/// The position of points in a text.
 #[derive(Clone, Copy)]
 pub(crate) struct Place {
-    /// The byte of the first.
+    /// The offset of the first byte.
     pub at: u32,
-    /// How many there are.
+    /// The number of points.
     pub count: u32,
 }
 
-/// Where points are.
+/// Where points are stored.
 #[derive(Drop)]
 pub(crate) enum Coordinates {
-    /// In a text, one behind the other.
+    /// In a text, one after the other.
     Shared(Text),
-    /// In memory of their own.
+    /// In their own allocation.
     Own(Vec<Point>),
 }

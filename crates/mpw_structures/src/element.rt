@@ -1,4 +1,4 @@
-//! The elements that have a shape or place one.
+//! The elements of a structure: shapes and references.
 
 ghost use Rattle.std.specs.Prelude.{◌≡◌, ◌↔◌, IfOk, IsTrue};
 
@@ -9,11 +9,11 @@ use mpw_lists::Same;
 use std::alloc::{AllocError, Global};
 
 /// A polygon by its corners in file order, without the closing point (GDSII Stream, BOUNDARY and
-/// BOX). Other repeats stay. The edge from the last corner to the first is implied.
+/// BOX). Other repeated points stay. The edge from the last corner to the first is implied.
 pub struct Boundary {
-    /// Its layer with its datatype, of a BOX with its BOXTYPE.
+    /// Its layer with its datatype, or with its BOXTYPE for a BOX.
     pub layer: Layer,
-    /// The corners, one at least, in nm.
+    /// The corners, at least one, in nm.
     pub points: Points,
 }
 
@@ -24,17 +24,17 @@ impl Drop for Boundary {
     }
 }
 
-/// A wire along a centre line (GDSII Stream, PATH). Consecutive repeats are taken as one point.
+/// A wire along a centre line (GDSII Stream, PATH). Consecutive equal points are merged.
 pub struct Path {
     /// Its layer with its datatype.
     pub layer: Layer,
-    /// The whole width in nm, even, 0 where none was given.
+    /// The whole width in nm, even; 0 if none was given.
     pub width: i64,
-    /// How far the first segment is lengthened backwards, in nm. It may be negative.
+    /// The extension of the first segment backwards, in nm. It may be negative.
     pub begin: i64,
-    /// How far the last segment is lengthened forwards, in nm. It may be negative.
+    /// The extension of the last segment forwards, in nm. It may be negative.
     pub end: i64,
-    /// The points of the centre line in file order, in nm: two at least, each apart from the one before.
+    /// The points of the centre line in file order, in nm: at least two, each different from the one before.
     pub points: Points,
 }
 
@@ -57,15 +57,15 @@ pub struct Reference {
     pub name: Name,
     /// How each instance is mirrored and turned, about the structure's own origin.
     pub orient: Orient,
-    /// Where the structure's origin comes, for the first column of the first row, in nm.
+    /// The position of the structure's origin in the first column of the first row, in nm.
     pub origin: Point,
-    /// 1 to 32767; 1 where a single structure is placed.
+    /// The number of columns, 1 to 32767; 1 for a single instance.
     pub columns: u16,
-    /// 1 to 32767; 1 where a single structure is placed.
+    /// The number of rows, 1 to 32767; 1 for a single instance.
     pub rows: u16,
-    /// From one column to the next, in nm; no step where a single structure is placed.
+    /// The step from one column to the next, in nm; zero for a single instance.
     pub column_step: Point,
-    /// From one row to the next, in nm; no step where a single structure is placed.
+    /// The step from one row to the next, in nm; zero for a single instance.
     pub row_step: Point,
 }
 
@@ -87,11 +87,11 @@ impl Drop for Reference {
 /// An element of a structure.
 #[derive(Drop)]
 pub enum Element {
-    /// Of a BOUNDARY or a BOX.
+    /// A BOUNDARY or a BOX.
     Boundary(Boundary),
-    /// Of a PATH.
+    /// A PATH.
     Path(Boxed<Path>),
-    /// Of an SREF or an AREF. It covers nothing by itself.
+    /// An SREF or an AREF. It has no shape of its own.
     Reference(Boxed<Reference>),
 }
 
@@ -99,7 +99,7 @@ impl Boundary {
     /// The same boundary, which shares its points.
     ///
     /// # Errors
-    /// Where no more copies can be counted.
+    /// If no more copies can be counted.
     pub fn copy(&self) -> Result<Boundary, AllocError>
         ensures { IfOk result (λ boundary. boundary ≡ self.now) }
     {
@@ -108,8 +108,8 @@ impl Boundary {
         Ok(Boundary { layer, points })
     }
 
-    /// Whether the boundaries have the same layer and the same points, in order. Linear in the points, up to the first
-    /// difference; it takes no memory.
+    /// Whether the boundaries have the same layer and the same points, in order. Cost: linear in the points, up to the first
+    /// difference. Takes no memory.
     pub fn is_same(&self, other: &Boundary) -> bool
         ensures { IsTrue result ↔ (self.now ≡ other.now) }
     {
@@ -121,7 +121,7 @@ impl Path {
     /// The same path, which shares its points.
     ///
     /// # Errors
-    /// Where no more copies can be counted.
+    /// If no more copies can be counted.
     pub fn copy(&self) -> Result<Path, AllocError>
         ensures { IfOk result (λ path. path ≡ self.now) }
     {
@@ -134,8 +134,8 @@ impl Path {
         })
     }
 
-    /// Whether the paths have the same layer, width, ends and points, in order. Linear in the points, up to the first
-    /// difference; it takes no memory.
+    /// Whether the paths have the same layer, width, ends and points, in order. Cost: linear in the points, up to the first
+    /// difference. Takes no memory.
     pub fn is_same(&self, other: &Path) -> bool
         ensures { IsTrue result ↔ (self.now ≡ other.now) }
     {
@@ -148,7 +148,7 @@ impl Path {
 }
 
 impl Reference {
-    /// The same reference. An error is want of memory.
+    /// The same reference. The only error is out of memory.
     pub fn copy(&self) -> Result<Reference, AllocError>
         ensures { IfOk result (λ reference. reference ≡ self.now) }
     {
@@ -163,7 +163,7 @@ impl Reference {
         })
     }
 
-    /// Whether the references place the structure of the same name, turned alike and to the same origin.
+    /// Whether the references place a structure with the same name, in the same orientation and at the same origin.
     fn is_placed_alike(&self, other: &Reference) -> bool
         ensures { IsTrue result ↔ ((self.now.name ≡ other.now.name) × (self.now.orient ≡ other.now.orient) × (self.now.origin ≡ other.now.origin)) }
     {
@@ -180,7 +180,7 @@ impl Reference {
             && self.row_step == other.row_step
     }
 
-    /// Whether the references place the structure of the same name in the same way. It takes no memory.
+    /// Whether the references place a structure with the same name in the same way. Takes no memory.
     pub fn is_same(&self, other: &Reference) -> bool
         ensures { IsTrue result ↔ (self.now ≡ other.now) }
     {
@@ -189,7 +189,7 @@ impl Reference {
 }
 
 impl Element {
-    /// The same element. An error is want of memory, or comes where no more copies can be counted.
+    /// The same element. The only error is out of memory, or that no more copies can be counted.
     pub fn copy(&self, alloc: Global) -> Result<Element, AllocError>
         ensures { IfOk result (λ element. element ≡ self.now) }
     {
@@ -205,7 +205,7 @@ impl Element {
 }
 
 impl Same for Element {
-    /// Whether the elements are the same. Linear in the points, up to the first difference; it takes no memory.
+    /// Whether the elements are the same. Cost: linear in the points, up to the first difference. Takes no memory.
     fn is_same(&self, other: &Element) -> bool {
         match (self, other) {
             (Element::Boundary(a), Element::Boundary(b)) => a.is_same(b),

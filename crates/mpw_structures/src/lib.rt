@@ -1,7 +1,7 @@
 //! Layouts as values: elements, structures and libraries, in nm.
 //!
-//! What reading a text gives, and what shows, walks or checks a layout stands on. How a text is read is no part of it:
-//! `mpw_elements` and `mpw_library` stand above, and nothing that needs the values alone waits for their grammar.
+//! Reading a text produces these values, and all other crates that deal with a layout use them. Reading itself is in
+//! `mpw_elements` and `mpw_library`, so that a crate that needs only the values doesn't depend on the grammar.
 #![tactic(auto)]
 
 mod boxed;

@@ -9,7 +9,7 @@ use std::alloc::{AllocError, Global};
 use std::marker::Model;
 use std::sync::Arc;
 
-/// The structures of a library. Copies share them.
+/// The structures of a library. Copies share memory.
 pub struct Library {
     structures: Arc<Structures>,
 }
@@ -31,7 +31,7 @@ impl Model for Library {
 }
 
 impl Library {
-    /// A library of structures. An error is want of memory.
+    /// A library of structures. The only error is out of memory.
     pub fn new(alloc: Global, structures: Structures) -> Result<Library, AllocError>
         ensures { IfOk result (λ library. library ≡ structures) }
     {
@@ -47,17 +47,17 @@ impl Library {
         self.structures.as_slice()
     }
 
-    /// Where the structure of a name stands, in logarithmic time.
+    /// The index of the structure with a name, in logarithmic time.
     pub fn position(&self, name: &Name) -> Option<usize>
         ensures { result ≡ place_of self.now name.now }
     {
         self.structures.position(name)
     }
 
-    /// The same library, in constant time and without further memory.
+    /// The same library, in constant time and without more memory.
     ///
     /// # Errors
-    /// Where no more copies can be counted.
+    /// If no more copies can be counted.
     pub fn copy(&self) -> Result<Library, AllocError>
         ensures { IfOk result (λ library. library ≡ self.now) }
     {
@@ -66,8 +66,8 @@ impl Library {
         })
     }
 
-    /// Whether the libraries have the same structures, in order, by value. Linear in what the libraries hold, up to the first
-    /// difference; it takes no memory.
+    /// Whether the libraries have the same structures in the same order, by value. Cost: linear in their contents, up to the first
+    /// difference. Takes no memory.
     pub fn is_same(&self, other: &Library) -> bool
         ensures { IsTrue result ↔ (self.now ≡ other.now) }
     {

@@ -1,11 +1,11 @@
-//! A list in a vector of its own, which contracts see as the list of its items.
+//! A list in its own vector.
 
 ghost use Rattle.std.specs.Prelude.{◌≡◌};
 
 use mpw_lists::{Same, are_same};
 use std::marker::Model;
 
-/// Items in file order, which contracts see as that list. One allocation, however many there are.
+/// Items in file order. Contracts see them as a list. One allocation, however many there are.
 pub struct OwnedList<T> {
     pub(crate) items: Vec<T>,
 }
@@ -50,7 +50,7 @@ impl<T: Drop> OwnedList<T> {
 }
 
 impl<T: Same + Drop> Same for OwnedList<T> {
-    /// Whether the lists have the same items, in order. It stops at the first difference, and takes no memory.
+    /// Whether the lists have the same items in the same order. Stops at the first difference, and takes no memory.
     fn is_same(&self, other: &OwnedList<T>) -> bool {
         are_same(self.as_slice(), other.as_slice())
     }

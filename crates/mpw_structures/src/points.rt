@@ -1,4 +1,4 @@
-//! The points of an element, which contracts see as a list.
+//! The points of an element.
 
 ghost use Rattle.std.specs.Prelude.{◌≡◌, ◌↔◌, ◌+◌, ◌*◌, ◌<◌, ◌≤◌, length, drop, slice_index_or, IfOk, IsTrue};
 ghost use Rattle.mpw_structures.specs.Coordinates.{no_point};
@@ -9,13 +9,13 @@ use std::alloc::{AllocError, Global};
 use std::marker::Model;
 use std::sync::Arc;
 
-/// The points of an element in file order, in nm. They stay in the text that they were read off, where it has just
-/// them, which takes 16 bytes whatever their number; or they are in memory of their own.
+/// The points of an element in file order, in nm. If the text from which they were read has exactly these points, they stay in it and
+/// take 16 bytes, whatever their number. Otherwise they are in their own allocation.
 pub struct Points {
     source: Arc<Coordinates>,
     /// Where they begin in a text.
     at: u32,
-    /// How many are taken of a text.
+    /// How many points are in the text.
     count: u32,
 }
 
@@ -43,7 +43,7 @@ impl Model for Points {
 }
 
 impl Points {
-    /// The points of a vector. An error is want of memory.
+    /// The points of a vector. The only error is out of memory.
     pub fn from_vec(alloc: Global, points: Vec<Point>) -> Result<Points, AllocError>
         ensures { IfOk result (λ found. found ≡ points.items) }
     {
@@ -64,7 +64,7 @@ impl Points {
         }
     }
 
-    /// The point with an index, in constant time.
+    /// The point at an index, in constant time.
     pub fn at(&self, index: usize) -> Point
         requires { index < length self.now }
         ensures { result ≡ slice_index_or self.now index no_point }
@@ -86,7 +86,7 @@ impl Points {
         }
     }
 
-    /// The points in a vector. An error is want of memory.
+    /// The points in a vector. The only error is out of memory.
     pub fn to_vec(&self, alloc: Global) -> Result<Vec<Point>, AllocError>
         ensures { IfOk result (λ points. points.items ≡ self.now) }
     {
@@ -98,10 +98,10 @@ impl Points {
         Ok(points)
     }
 
-    /// The same points, in constant time and without further memory.
+    /// The same points, in constant time and without more memory.
     ///
     /// # Errors
-    /// Where no more copies can be counted.
+    /// If no more copies can be counted.
     pub fn copy(&self) -> Result<Points, AllocError>
         ensures { IfOk result (λ points. points ≡ self.now) }
     {
@@ -112,7 +112,7 @@ impl Points {
         })
     }
 
-    /// Whether the lists have the same points, in order. It stops at the first difference, and takes no memory.
+    /// Whether the lists have the same points in the same order. Stops at the first difference, and takes no memory.
     pub fn is_same(&self, other: &Points) -> bool
         ensures { IsTrue result ↔ (self.now ≡ other.now) }
     {
@@ -128,11 +128,11 @@ impl Points {
     }
 }
 
-/// The points of an element from one on, which contracts see as the list of these.
+/// The points of an element from an index on. Contracts see them as a list.
 #[derive(Drop)]
 pub struct PointsView<'a> {
     points: &'a Points,
-    /// How many stand before these.
+    /// How many points come before these.
     from: usize,
     /// How many points the element has.
     count: usize,
@@ -158,7 +158,7 @@ impl<'a> PointsView<'a> {
         self.count - self.from
     }
 
-    /// The point with an index, in constant time.
+    /// The point at an index, in constant time.
     pub fn at(&self, index: usize) -> Point
         requires { index < length self.now }
         ensures { result ≡ slice_index_or self.now index no_point }
@@ -166,7 +166,7 @@ impl<'a> PointsView<'a> {
         self.points.at(self.from + index)
     }
 
-    /// Those behind the first.
+    /// The points after the first.
     pub fn behind(self) -> PointsView<'a>
         requires { 1 ≤ length self }
         ensures { result ≡ drop 1 self.entry }
@@ -179,7 +179,7 @@ impl<'a> PointsView<'a> {
     }
 }
 
-/// A text of GDSII Stream, in which the points of elements may stay. Contracts see its bytes. Copies share them.
+/// A text of GDSII Stream, in which the points of elements can stay. Contracts see its bytes. Copies share memory.
 pub struct SharedText {
     source: Arc<Coordinates>,
 }
@@ -203,10 +203,10 @@ impl Model for SharedText {
 }
 
 impl SharedText {
-    /// A text whose database unit is so many nm.
+    /// A text whose database unit is `unit` nm.
     ///
     /// # Errors
-    /// Want of memory, or where no more copies can be counted.
+    /// Out of memory, or if no more copies can be counted.
     pub fn new(alloc: Global, bytes: &Arc<Vec<u8>>, unit: u16) -> Result<SharedText, AllocError>
         requires { unit ≤ 1000 }
         ensures { IfOk result (λ text. text ≡ bytes.now.value.items) }
@@ -217,11 +217,11 @@ impl SharedText {
         })
     }
 
-    /// These points, which stay in the text where it has just them from a byte on; else in memory of their own. Linear
+    /// These points. They stay in the text if it has exactly these from a byte on; otherwise they are in their own allocation. Cost: linear
     /// in the points.
     ///
     /// # Errors
-    /// Want of memory, or where no more copies can be counted.
+    /// Out of memory, or if no more copies can be counted.
     pub fn points(&self, alloc: Global, at: usize, points: Vec<Point>) -> Result<Points, AllocError>
         ensures { IfOk result (λ found. found ≡ points.items) }
     {

@@ -1,4 +1,4 @@
-//! Where what is read off a text is kept.
+//! Where values are stored that are read from a text.
 
 ghost use Rattle.std.specs.Prelude.{◌≡◌, IfOk};
 
@@ -6,7 +6,7 @@ use crate::points::{Points, SharedText};
 use mpw_geom::Point;
 use std::alloc::{AllocError, Global};
 
-/// Where what is read off a text is kept: in new memory, and points in the text itself, if it is shared.
+/// Where values are stored that are read from a text: in new memory, and points in the text itself if it is shared.
 #[derive(Clone, Copy)]
 pub struct Storage<'a> {
     /// New memory.
@@ -16,10 +16,10 @@ pub struct Storage<'a> {
 }
 
 impl<'a> Storage<'a> {
-    /// Points that were read at a byte of the text.
+    /// The points that were read at a byte of the text.
     ///
     /// # Errors
-    /// Want of memory, or where no more copies of the text can be counted.
+    /// Out of memory, or if no more copies of the text can be counted.
     pub fn points(self, at: usize, points: Vec<Point>) -> Result<Points, AllocError>
         ensures { IfOk result (λ found. found ≡ points.items) }
     {

@@ -1,4 +1,4 @@
-//! The structures of a library, in file order, and found by their names.
+//! The structures of a library, in file order and indexed by name.
 
 ghost use Rattle.std.specs.Prelude.{◌≡◌, ◌↔◌, IsTrue, [], ◌∷◌, ◌++◌, None, OnOk, OnErr, is_some};
 ghost use Rattle.mpw_structures.specs.Places.{place_of};
@@ -11,14 +11,14 @@ use std::alloc::{AllocError, Global};
 use std::collections::BTreeMap;
 use std::marker::Model;
 
-/// The elements of a structure in file order, which `Same` compares by value.
+/// The elements of a structure in file order. `Same` compares them by value.
 pub type Elements = OwnedList<Element>;
 
-/// A structure: a name and what stands in it.
+/// A structure: a name and its elements.
 pub struct Structure {
-    /// By which references of its library find it.
+    /// The name by which references of its library find it.
     pub name: Name,
-    /// What stands in it, in its own coordinates.
+    /// Its elements, in its own coordinates.
     pub elements: Elements,
 }
 
@@ -31,14 +31,14 @@ impl Drop for Structure {
 }
 
 impl Same for Structure {
-    /// Whether the structures have the same name and the same elements, in order. Linear in the elements' points, up to the
-    /// first difference; it takes no memory.
+    /// Whether the structures have the same name and the same elements, in order. Cost: linear in the elements' points, up to the
+    /// first difference. Takes no memory.
     fn is_same(&self, other: &Structure) -> bool {
         self.name == other.name && self.elements.is_same(&other.elements)
     }
 }
 
-/// Structures in file order, each with a name of its own. A name is found in logarithmic time.
+/// Structures in file order, each with a different name. A name is found in logarithmic time.
 pub struct Structures {
     items: Vec<Structure>,
     places: BTreeMap<Name, usize>,
@@ -83,17 +83,17 @@ impl Structures {
         &self.items
     }
 
-    /// Where the structure of a name stands.
+    /// The index of the structure with a name.
     pub fn position(&self, name: &Name) -> Option<usize>
         ensures { result ≡ place_of self.now name.now }
     {
         self.places.get(name).copied()
     }
 
-    /// Adds a structure of a new name at the end. A look-up's cost.
+    /// Adds a structure with a new name at the end. Cost: that of a look-up.
     ///
     /// # Errors
-    /// Where there is no room; nothing is changed then.
+    /// Out of memory. Nothing is changed then.
     pub fn push(&mut self, structure: Structure) -> Result<(), AllocError>
         requires { place_of self.old structure.name ≡ None }
         ensures ok { OnOk result (self.new ≡ self.old ++ structure ∷ []) }
@@ -107,7 +107,7 @@ impl Structures {
         Ok(())
     }
 
-    /// Whether the lists have the same structures, in order. It stops at the first difference, and takes no memory.
+    /// Whether the lists have the same structures in the same order. Stops at the first difference, and takes no memory.
     pub fn is_same(&self, other: &Structures) -> bool
         ensures { IsTrue result ↔ (self.now ≡ other.now) }
     {

@@ -22,7 +22,7 @@ abbrev pub either : (Layer → ℕ → Square → Type 0) → (Layer → ℕ →
     → Type 0
 either P Q layer origin s = P layer origin s ⊎ Q layer origin s
 
--- ---- what is there with something more
+-- ---- old squares with more added
 
 pub none_more : {A P : Type 0} → (P → ⊥) → A ↔ (A ⊎ P)
 none_more none = (λ a. inl a, λ x. elim x [ inl a ↦ a | inr p ↦ absurd (none p) ])

@@ -72,7 +72,7 @@ unfolding hull_of
 kept_first true b rest e = held_first b (hull_of rest)
 kept_first false b rest e = absurd (false≢true e)
 
--- each box with area is held by the least box of those with area
+-- each box with area lies in the least box of those with area
 abbrev HoldsArea : List Box2 → Box2 → Type 0
 HoldsArea kept b = has_area b ≡ true → IsHeld (Some b) (hull_of kept)
 
@@ -211,7 +211,7 @@ boundary_in_box b corners s e h =
 
 -- ---- elements
 
--- a box that holds the square
+-- a box that contains the square
 pub record IsBoxed (o : Option Box2) (s : Square) : Type 0 where
   pub box : Box2
   pub is : o ≡ Some box
@@ -279,7 +279,7 @@ item_boxed item layer origin s h =
           (placed_boxed item.placing e.box h.square e.has);
     }
 
--- the extent of a list has each square that the list shows
+-- the extent of a list contains each square of its shapes
 pub shown_boxed : ExtentsHoldItems → (items : List Item) (layer : Layer) (origin : ℕ) (s : Square)
     → IsShown items layer origin s → IsBoxed (extent_of items) s
 shown_boxed holds items layer origin s h =

@@ -104,7 +104,7 @@ pub record IsBelow (count : Cells → ℕ) (seen : Cells) (n : ℕ) : Type 0 whe
   pub within : n < count seen
   pub numbered : n < 2 ^ 32
 
--- the sides that are counted of a grid as it is kept, up to a point of the grid that is seen
+-- the sides that the code counts for a grid, up to a point of the grid
 pub counted_below : (count : Cells → ℕ) (low : Cells → ℤ) (at : Point → ℤ)
     → ((g : Cells) (p : Point) → 1 ≤ g.side → has_point g.extent p ≡ true
     → sides_between g.side (low g) (at p) < count g) → ((g : Cells) → count g ≤ cells g)

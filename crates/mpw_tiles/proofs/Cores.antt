@@ -1,4 +1,4 @@
--- The cores of a grid as boxes, and how far they reach.
+-- The cores of a grid as boxes, and how far they extend.
 use Rattle.std.proofs.Common.{◌≡◌, ℕ, ◌+◌, ◌*◌, ◌/◌, ◌%◌, ◌^◌, ◌≤◌, ◌<◌, ◌∙◌, sym, ap, subst, arith}
 use Rattle.std.specs.Prelude.{ℤ, pos, ◌+ℤ◌, ◌<ℤ◌}
 use Rattle.std.specs.Int.{int_max}
@@ -28,7 +28,7 @@ row_short g n k row h u =
     let r = h.plane.y1.high in
     omega (arith, ints)
 
--- where a core begins along one axis, reckoned of a grid as it is kept: n sides from its lowest coordinate
+-- where a core begins along one axis, as the code computes it: n sides from its lowest coordinate
 pub record Begins (low : Cells → ℤ) (place : Cells → ℕ → ℕ) (kept seen : Cells) (cell n : ℕ) :
     Type 0 where
   pub short : n * kept.side ≤ 2 ^ 49
@@ -83,7 +83,7 @@ core_is g cell b x y e f p q r s =
     same_box b (core_of g cell) (p ∙ e) (q ∙ f) (r ∙ ap (λ (z : ℤ). z +ℤ pos g.side) e)
     (s ∙ ap (λ (z : ℤ). z +ℤ pos g.side) f)
 
--- a core reaches at most a side past the extent
+-- a core exceeds the extent by at most a side
 pub core_near : (g : Cells) (n k cell m : ℕ) → IsGrid g n k → cell < cells g
     → IsBoxWithin m g.extent → IsBoxWithin (m + 2 ^ 32) (core_of g cell)
 unfolding core_at columns rows

@@ -1,4 +1,4 @@
--- Intervals of one length, one behind another, found by division.
+-- Consecutive intervals of one length, found by division.
 use Rattle.std.proofs.Common.{◌≡◌, ℕ, ◌+◌, ◌*◌, ◌/◌, ◌≤◌, ◌<◌, ℤ, pos, ◌+ℤ◌, ◌-ℤ◌, ◌≤ℤ◌, ◌<ℤ◌, min, arith}
 use Rattle.std.specs.Int.{int_max}
 use Rattle.std.specs.Prelude.{unsigned_abs, ◌↔◌}
@@ -73,7 +73,7 @@ begins_within a b s n h l u =
     let p = begins (unsigned_abs (b -ℤ a)) s n h u in
     omega (arith, ints)
 
--- an interval begins before `high` where it isn't behind the one that has the coordinate before it
+-- an interval begins before `high` if it isn't after the one that has the coordinate before it
 pub begins_before : (a high : ℤ) (s n : ℕ) → 1 ≤ s → a <ℤ high
     → n < sides_between s a (high -ℤ pos 1) + 1 → (a +ℤ pos (n * s)) <ℤ high
 begins_before a high s n h l u =
@@ -87,7 +87,7 @@ before_begins a high s n h l =
     let p = le-div n (unsigned_abs (high -ℤ pos 1 -ℤ a)) s h (omega (arith, ints)) in
     omega arith
 
--- an interval ends behind `low` where it isn't before the one that has it
+-- an interval ends after `low` if it isn't before the one that has it
 pub ends_behind : (a low : ℤ) (s n : ℕ) → 1 ≤ s → a ≤ℤ low → sides_between s a low ≤ n
     → low <ℤ (a +ℤ pos (n * s) +ℤ pos s)
 ends_behind a low s n h l u =
@@ -104,7 +104,7 @@ behind_ends a low s n h l u =
 
 -- ---- the intervals from `first` up to before `end`
 
--- the interval of that number begins before `high` and ends behind `low`
+-- the interval of that number begins before `high` and ends after `low`
 abbrev pub Overlaps : ℤ → ℕ → ℤ → ℤ → ℕ → Type 0
 Overlaps a s low high n = ((a +ℤ pos (n * s)) <ℤ high) × (low <ℤ (a +ℤ pos (n * s) +ℤ pos s))
 

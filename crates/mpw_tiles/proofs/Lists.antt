@@ -157,7 +157,7 @@ no_column g from row tile p = let a = p.0 in let b = p.1 in omega arith
 pub no_row : (g : Cells) (block : Block) (tile : ℕ) → IsInRows g block block.row0 tile → ⊥
 no_row g block tile p = let a = p.2 in let b = p.3 in omega arith
 
--- where the columns, and the rows, are at their end
+-- if the columns, and the rows, are at their end
 pub row_end : (g : Cells) (from column end row tile : ℕ) → end ≤ column → column ≤ max from end
     → IsInRow g from column row tile ↔ IsInRow g from end row tile
 row_end g from column end row tile u v = (

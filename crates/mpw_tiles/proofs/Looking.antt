@@ -1,4 +1,4 @@
--- Snapshots: their extents, their plans, and windows that stand for them.
+-- Snapshots: their extents, their plans, and windows that represent them.
 use Rattle.std.proofs.Common.{◌≡◌, ℕ, ◌+◌, ◌≤◌, ◌<◌, ◌^◌, true, List, [], ◌∷◌, length, get_or, drop, max, Option, Some, sym, subst, ap, ◌∙◌, arith}
 use Rattle.std.specs.Prelude.{IfOk, Result, Ok, Err, ℤ, All, IfSome, fold}
 use Rattle.std.specs.Int.{int_min, int_max}
@@ -31,7 +31,7 @@ use Rattle.mpw_tiles.specs.Plan.{Tiling, greatest_distance, plan_of, tiles, tile
 use Rattle.mpw_tiles.specs.Placed.{WindowsLieInPlane}
 use Rattle.mpw_tiles.specs.Internal.Placed.{nearest_point}
 
--- what is near is not moved to the edge of the plane
+-- what is near is not moved to the border of the plane
 unmoved : (p q : Point) → is_box_near (box_between p q) ≡ true
     → box_between (nearest_point p) (nearest_point q) ≡ box_between p q
 unfolding box_between

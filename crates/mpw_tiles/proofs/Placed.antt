@@ -1,4 +1,4 @@
--- Placed rectangles, as far as they lie in the plane.
+-- Placed rectangles, cut to the plane.
 use Rattle.std.proofs.Common.{◌≡◌, ◌^◌, ℤ, pos, neg_ℤ, ◌≤ℤ◌, ◌<ℤ◌, ◌∙◌, arith}
 use Rattle.std.specs.Int.{int_min, int_max}
 use Rattle.std.proofs.lemmas.Int.{ints, clamps}

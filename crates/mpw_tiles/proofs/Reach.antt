@@ -1,4 +1,4 @@
--- How far windows reach.
+-- How far windows extend.
 use Rattle.std.proofs.Common.{ℕ, ◌+◌, ◌≤◌, ◌<◌, arith}
 use Rattle.std.proofs.lemmas.Int.{ints}
 use Rattle.mpw_geom.specs.Plane.{IsOrdered}

@@ -5,7 +5,7 @@ use Rattle.std.proofs.lemmas.Int.{ints, to_z-of_z}
 use Rattle.mpw_geom.specs.Plane.{IsCoordinate}
 use Rattle.mpw_tiles.specs.Internal.Grid.{IsStretch}
 
--- a coordinate as it is handed on
+-- a coordinate as it is passed on
 abbrev pub handed : ℤ → ℤ
 handed z = to_z w64 (of_z w64 z)
 
@@ -15,7 +15,7 @@ handed_is z h = to_z-of_z w64 z (omega (arith, ints, h.low, h.high))
 pub handed_coordinate : (z : ℤ) → IsCoordinate z → IsCoordinate (handed z)
 handed_coordinate z h = subst IsCoordinate (sym (handed_is z h)) h
 
--- a coordinate less a margin, and one more it
+-- a coordinate minus a margin, and one more than it
 pub below_is : (z : ℤ) (m : ℕ) → IsCoordinate z → m ≤ 2 ^ 32
     → handed (handed z -ℤ to_z w64 m) ≡ z -ℤ pos m
 below_is z m h u = omega (arith, ints, h.low, h.high, u)
@@ -41,7 +41,7 @@ pub record Side (start length : ℤ) : Type 0 where
   pub near : neg_ℤ (pos (2 ^ 50)) ≤ℤ start
   pub within : (start +ℤ length) ≤ℤ pos (2 ^ 50)
 
--- of a core that begins so many nm behind a coordinate
+-- for a core that begins n nm after a coordinate
 pub side_of : (low : ℤ) (n s : ℕ) (start length : ℤ) → IsCoordinate low → start ≡ low +ℤ pos n
     → n ≤ 2 ^ 49 → length ≡ pos s → s < 2 ^ 32 → Side start length
 side_of low n s start length h e u f v =

@@ -167,7 +167,7 @@ boxes_show item boxes shape is same layer origin s = (
   },
 )
 
--- what has no layer shows nothing
+-- what has no layer has no squares
 pub none_shown : (item : Item) → layer_of item.element ≡ None → (layer : Layer) (origin : ℕ)
     (s : Square) → ShowsSquare item layer origin s → ⊥
 none_shown item e layer origin s h = no_layer layer (sym e ∙ h.on_layer)

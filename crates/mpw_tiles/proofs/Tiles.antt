@@ -24,13 +24,13 @@ use Rattle.mpw_tiles.proofs.Cells.{only_cell}
 use Rattle.mpw_tiles.specs.Plan.{Tiling, greatest_distance, plan_of, tile_core, tile_window}
 use Rattle.mpw_tiles.specs.Laws.{EachWindowDecidesRows, LieIn, IsOnlyTile}
 
--- ---- where a pair step stands
+-- ---- where a pair step lies
 
 -- a square of the row at the coordinate or before it
 abbrev HasBeside : Squares → ℤ → ℤ → Type 0
 HasBeside a x j = (a x j ≡ true) ⊎ (a (x -ℤ pos 1) j ≡ true)
 
--- the first edge of a pair has a square of either layer beside it
+-- the first edge of a pair has a square of either layer next to it
 beside : (check : Check) (a b : Squares) (side : ℕ) (x1 x2 j : ℤ) → IsPair check a b side x1 x2 j
     → HasBeside a x1 j ⊎ HasBeside b x1 j
 beside (Width _) a b side x1 x2 j p = inl (inl p.1.0)

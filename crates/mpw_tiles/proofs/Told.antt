@@ -1,4 +1,4 @@
--- What the window of a tile tells of the layout.
+-- What the window of a tile says about the layout.
 use Rattle.std.proofs.Common.{◌≡◌, ℕ, ◌+◌, ◌≤◌, Bool, true, false, List, [], get_or, Option, Some, None, refl, sym, subst, arith}
 use Rattle.std.specs.Prelude.{ℤ, pos, ◌-ℤ◌, ◌≤ℤ◌, if◌then◌else◌, nat_le}
 use Rattle.std.proofs.lemmas.Int.{ints}
@@ -52,7 +52,7 @@ list_shown s plan windows tile r e stand near u c =
           (r, c, record { on_layer = refl; of_origin = refl; has = n.second });
     }
 
--- ---- squares that meet the box of a run
+-- ---- squares that touch the box of a run
 
 -- the square is at most one nm from the box
 record IsNext (b : Box2) (s : Square) : Type 0 where

@@ -1,4 +1,4 @@
--- A grid of half-open cores over a closed extent: square cells of one side, from the extent's lower left corner on. Lengths are in nm.
+-- A grid of half-open cores over a closed extent: square cells with one side length, from the extent's lower left corner on. Lengths are in nm.
 use Rattle.std.specs.Prelude.{◌≡◌, ◌≤◌, ◌<◌, ◌^◌, ℕ, ◌+◌, ◌*◌, ◌/◌, ◌%◌, ℤ, pos, neg_ℤ, ◌+ℤ◌, ◌-ℤ◌, ◌≤ℤ◌, unsigned_abs, true}
 use Rattle.mpw_geom.specs.declared.plane.Box2.{Box2}
 use Rattle.mpw_geom.specs.declared.plane.Point.{Point}
@@ -43,7 +43,7 @@ row_of g cell = cell / columns g
 abbrev pub core_of : Cells → ℕ → Box2
 core_of g cell = core_at g (column_of g cell) (row_of g cell)
 
--- A window is its core, wider by the margin on each side.
+-- A window is its core, extended by the margin on each side.
 abbrev pub window_at : Cells → ℕ → (column row : ℕ) → Box2
 window_at g margin column row = widened (core_at g column row) margin
 
@@ -79,7 +79,7 @@ pub record IsInBlock (block : Block) (column row : ℕ) : Type 0 where
   pub bottom : block.row0 ≤ row
   pub top : row < block.row1
 
--- The box reaches no further left and down than -n, and no further right and up than n. Of an ordered box so both corners lie from -n
+-- The box lies right of and above -n, and left of and below n, inclusively. For an ordered box this says that both corners lie from -n
 -- to n.
 pub record IsBoxWithin (n : ℕ) (b : Box2) : Type 0 where
   pub left : neg_ℤ (pos n) ≤ℤ b.x0
@@ -87,7 +87,7 @@ pub record IsBoxWithin (n : ℕ) (b : Box2) : Type 0 where
   pub bottom : neg_ℤ (pos n) ≤ℤ b.y0
   pub top : b.y1 ≤ℤ pos n
 
--- What is true of a grid: these are its columns and rows, and its cells are few enough to be numbered.
+-- The properties of a grid: these are its columns and rows, and its cells are few enough to be numbered.
 pub record IsGrid (g : Cells) (counted_columns counted_rows : ℕ) : Type 0 where
   pub plane : IsBoxInPlane g.extent
   pub ordered : IsOrdered g.extent

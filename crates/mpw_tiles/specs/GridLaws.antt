@@ -16,7 +16,7 @@ CellsAreNumbered =
     → (row * columns g + column < cells g) × ((row * columns g + column) % columns g ≡ column)
     × ((row * columns g + column) / columns g ≡ row)
 
--- A window reaches no further past its grid's extent than a side and the margin.
+-- A window exceeds its grid's extent by at most a side plus the margin.
 abbrev pub WindowsReachNoFurther : Type 0
 WindowsReachNoFurther =
     (g : Cells) (margin cell m : ℕ) → 1 ≤ g.side → IsOrdered g.extent → cell < cells g

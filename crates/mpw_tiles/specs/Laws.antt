@@ -44,7 +44,7 @@ EachStepHasOneTile =
     → IsStepOn rule a b axis side x1 x2 j
     → (tile : ℕ) × IsOnlyTile plan rule a b axis side x1 x2 j tile
 
--- What a tile's core finds of a rule of the deck depends on the squares of its window alone.
+-- What a tile's core finds for a rule of the deck depends only on the squares of its window.
 abbrev pub EachWindowDecides : Type 0
 EachWindowDecides =
     (extent : Box2) (deck : Deck) (rule : Rule) (tile : ℕ) (a b a' b' : Squares)
@@ -54,7 +54,7 @@ EachWindowDecides =
     → (p : Piece) → IsPiece rule a b (tile_core (plan_of extent deck) tile) p
     ↔ IsPiece rule a' b' (tile_core (plan_of extent deck) tile) p
 
--- So it is row by row: which pair steps lie in a tile's core depends on the squares of its window alone.
+-- The same row by row: which pair steps lie in a tile's core depends only on the squares of its window.
 abbrev pub EachWindowDecidesRows : Type 0
 EachWindowDecidesRows =
     (extent : Box2) (deck : Deck) (rule : Rule) (tile : ℕ) (a b a' b' : Squares)
@@ -78,7 +78,7 @@ pub record IsInBox (box : Option Box2) (s : Square) : Type 0 where
   pub is : box ≡ Some corners
   pub has : has_square corners s ≡ true
 
--- A shape's squares, where it is placed, lie in its placed box; those of a list lie in the least box that holds the boxes of the list.
+-- The squares of a placed shape lie in its placed box; those of a list lie in the least box that contains the boxes of the list.
 abbrev pub SquaresLieInBoxes : Type 0
 SquaresLieInBoxes = (item : Item) (layer : Layer) (origin : ℕ) (s : Square)
     → ShowsSquare item layer origin s → IsInBox (item_box item) s
@@ -87,13 +87,13 @@ abbrev pub SquaresLieInExtents : Type 0
 SquaresLieInExtents = (items : List Item) (layer : Layer) (origin : ℕ) (s : Square)
     → IsShown items layer origin s → IsInBox (extent_of items) s
 
--- So do the squares of a layer.
+-- The same for the squares of a layer.
 abbrev pub LayersLieInExtents : Type 0
 LayersLieInExtents =
     (items : List Item) (extent : Box2) (layer : Layer) (a : Squares)
     → extent_of items ≡ Some extent → AreShownOn items layer a → LieIn extent a
 
--- The squares that roots show lie in the plane.
+-- The squares of roots lie in the plane.
 abbrev pub SquaresLieInPlane : Type 0
 SquaresLieInPlane =
     (ss : List Submission) (roots : List Root) (layer : Layer) (origin : ℕ) (s : Square)
@@ -130,7 +130,7 @@ WindowsListWhatIsShown =
     → tile < tiles plan → Contains (slice_index_or windows tile []) r
     → ListsWhatIsShown (shown snapshot) (tile_window plan tile) r
 
--- A closed unit square that meets the closed box of a run inside a tile's core lies in the tile's window.
+-- A closed unit square that touches the closed box of a run inside a tile's core lies in the tile's window.
 abbrev pub MetSquaresLieInWindows : Type 0
 MetSquaresLieInWindows =
     (extent : Box2) (deck : Deck) (rule : Rule) (tile : ℕ) (a b : Squares) (p : Piece) (s : Square)
@@ -139,7 +139,7 @@ MetSquaresLieInWindows =
     → Meet (closed_square s) (piece_box p)
     → has_square (tile_window (plan_of extent deck) tile) s ≡ true
 
--- Which origins meet the box of a run that a tile's core finds, its window alone tells.
+-- The window of a tile determines which origins touch the box of a run that its core finds.
 abbrev pub WindowsTellMet : Type 0
 WindowsTellMet =
     (snapshot : Snapshot) (plan : Tiling) (windows : List (List Rectangle)) (rule : Rule) (tile : ℕ)

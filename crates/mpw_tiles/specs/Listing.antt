@@ -23,14 +23,14 @@ abbrev pub HasListed : List Rectangle → ℕ → Square → Type 0
 HasListed listed origin s =
     (r : Rectangle) × Contains listed r × (r.origin ≡ origin) × (has_square r.area s ≡ true)
 
--- A window shows just these squares in its box: by layer and origin, a listed rectangle has a square of the box exactly where it is
+-- A window has exactly these squares in its box: by layer and origin, a listed rectangle has a square of the box exactly if it is
 -- one of them.
 pub record IsWindow (Has : Layer → ℕ → Square → Type 0) (box : Box2) (window : List Rectangle) :
     Type 0 where
   pub squares : (s : Square) (layer : Layer) (origin : ℕ) → has_square box s ≡ true
       → IsListed window layer origin s ↔ Has layer origin s
 
--- There is a window for each tile, which shows just these squares there.
+-- There is a window for each tile, which has exactly these squares there.
 pub record AreWindowsOf (plan : Tiling) (Has : Layer → ℕ → Square → Type 0)
     (windows : List (List Rectangle)) : Type 0 where
   pub count : length windows ≡ tiles plan

@@ -1,4 +1,4 @@
--- Placed shapes and their rectangles, as far as they lie in the plane.
+-- Placed shapes and their rectangles, cut to the plane.
 use Rattle.std.specs.Prelude.{◌≡◌, ◌<◌, ℕ, true, Some, ◌^◌, ℤ, pos, ◌≤ℤ◌, ◌<ℤ◌, neg_ℤ}
 use Rattle.std.specs.Int.{int_min, int_max}
 use Rattle.mpw_geom.specs.declared.plane.Box2.{Box2}
@@ -32,7 +32,7 @@ pub record IsShapeOf (item : Item) (shape : PlacedShape) : Type 0 where
   pub of_origin : shape.origin ≡ item.origin
   pub placing : shape.placing ≡ item.placing
 
--- The rectangle is of the shape's layer and origin, and has just the placed unit squares of the box, as far as they lie in the
+-- The rectangle has the shape's layer and origin, and exactly the placed unit squares of the box, as far as they lie in the
 -- plane.
 pub record IsRectangleOf (shape : PlacedShape) (b : Box2) (rectangle : Rectangle) : Type 0 where
   pub on_layer : rectangle.layer ≡ shape.layer

@@ -1,4 +1,4 @@
--- The tiles of a run: a grid over the layout's extent, with the deck's side, and windows as wide as its greatest distance asks.
+-- The tiles of a run: a grid over the layout's extent, with the deck's side, and windows as wide as its greatest distance requires.
 use Rattle.std.specs.Prelude.{◌≤◌, ◌^◌, ℕ, ◌+◌, max, List, fold}
 use Rattle.mpw_geom.specs.declared.plane.Box2.{Box2}
 use Rattle.mpw_deck.specs.declared.rule.Rule.{Rule}
@@ -30,7 +30,7 @@ tile_core plan tile = core_of plan.grid tile
 abbrev pub tile_window : Tiling → ℕ → Box2
 tile_window plan tile = window_of plan.grid plan.margin tile
 
--- What is true of a plan.
+-- The properties of a plan.
 pub record IsPlan (plan : Tiling) : Type 0 where
   pub few : tiles plan ≤ 4096
   pub short : plan.margin ≤ 2 ^ 32

@@ -9,13 +9,13 @@ use Rattle.mpw_structures.specs.declared.element.Element.TheVariants as elements
 use Rattle.mpw_shapes.specs.Element.{element_has}
 use Rattle.mpw_hier.specs.Items.{Item}
 
--- The layer of a shape; a reference has none.
+-- The layer of a shape; none for a reference.
 abbrev pub layer_of : Element → Option Layer
 layer_of (elements.Boundary b) = Some b.layer
 layer_of (elements.Path p) = Some p.layer
 layer_of (elements.Reference r) = None
 
--- The shape is of that layer and origin, and has the unit square where it is placed: the placing takes one of the element's to it.
+-- The shape has that layer and origin, and has the unit square when it is placed: the placing takes one of the element's squares to it.
 pub record ShowsSquare (item : Item) (layer : Layer) (origin : ℕ) (s : Square) : Type 0 where
   pub on_layer : layer_of item.element ≡ Some layer
   pub of_origin : item.origin ≡ origin

@@ -1,4 +1,4 @@
--- What a run looks at, and the windows that stand for it.
+-- What a run checks, and the windows that represent it.
 use Rattle.std.specs.Prelude.{◌≡◌, ◌≤◌, ◌^◌, List, [], length, All, Option, Some, None, nat_le, if◌then◌else◌}
 use Rattle.mpw_geom.specs.declared.plane.Box2.{Box2}
 use Rattle.mpw_deck.specs.Decks.{Deck, IsDeck}
@@ -15,25 +15,25 @@ use Rattle.mpw_tiles.specs.Listing.{AreWindowsOf, ListNear}
 use Rattle.mpw_tiles.specs.Plan.{Tiling, plan_of, tiles}
 use Rattle.mpw_tiles.specs.Shown.{IsShown}
 
--- A deck, placed submissions in order, and the shelf that they are on.
+-- A deck, placed submissions in order, and the shelf that has them.
 pub record Snapshot : Type 0 where
   pub deck : Deck
   pub roots : List Root
   pub shelf : List Submission
 
--- There are at most 4096 roots, each fits the shelf, and together they show at most 2^40 shapes.
+-- There are at most 4096 roots, each fits the shelf, and together they have at most 2^40 flat shapes.
 pub record AreRoots (shelf : List Submission) (roots : List Root) : Type 0 where
   pub few : length roots ≤ 4096
   pub fit : All (IsRoot shelf) roots
   pub small : roots_count shelf roots ≤ 2 ^ 40
 
--- What is true of a snapshot.
+-- The properties of a snapshot.
 pub record IsSnapshot (s : Snapshot) : Type 0 where
   pub deck : IsDeck s.deck
   pub shelf : IsShelf s.shelf
   pub roots : AreRoots s.shelf s.roots
 
--- The shapes that its roots show, and the least box that holds them.
+-- The flat shapes of its roots, and the least box that contains them.
 abbrev pub shown : Snapshot → List Item
 shown s = flat_roots s.shelf s.roots
 
@@ -48,7 +48,7 @@ abbrev pub plan_over : Deck → Option Box2 → Option Tiling
 plan_over deck None = None
 plan_over deck (Some extent) = small_plan (plan_of extent deck)
 
--- The plan of the tiles over all shapes; none without shapes, or where there would be more than 4096 tiles.
+-- The plan of the tiles over all shapes; none without shapes, or if there would be more than 4096 tiles.
 abbrev pub plan_for : Snapshot → Option Tiling
 plan_for s = plan_over s.deck (shown_extent s)
 
@@ -56,7 +56,7 @@ abbrev pub AreWindowsFor : Option Tiling → List Item → List (List Rectangle)
 AreWindowsFor None items windows = windows ≡ []
 AreWindowsFor (Some plan) items windows = AreWindowsOf plan (IsShown items) windows
 
--- The windows stand for the snapshot: those of its plan show just the squares that the shapes of its roots have. Without a plan there
+-- The windows represent the snapshot: those of its plan have exactly the squares of its roots' shapes. Without a plan there
 -- are none.
 abbrev pub StandFor : Snapshot → List (List Rectangle) → Type 0
 StandFor s windows = AreWindowsFor (plan_for s) (shown s) windows

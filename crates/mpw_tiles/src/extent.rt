@@ -1,4 +1,4 @@
-//! The extent of placed submissions: the least box that holds the boxes of all shapes that they show.
+//! Computes the extent of placed submissions: the least box that contains the boxes of all their flat shapes.
 
 ghost use Rattle.std.specs.Prelude.{◌≡◌, true, All, IfSome};
 ghost use Rattle.mpw_geom.specs.Plane.{IsOrdered};
@@ -11,7 +11,7 @@ use mpw_geom::Box2;
 use mpw_hier::{Shelf, extents_are_least_boxes, hull};
 use mpw_walk::Root;
 
-/// The extent of a submission where it is placed; none where it shows nothing.
+/// The extent of a placed submission; `None` if it has no shapes.
 fn root_extent(shelf: &Shelf, root: &Root) -> Option<Box2>
     requires { IsRoot shelf.now root.now }
     ensures extent { result ≡ root_extent shelf.now root.now }
@@ -22,7 +22,7 @@ fn root_extent(shelf: &Shelf, root: &Root) -> Option<Box2>
     Some(placed_area(&root.placing, &extent))
 }
 
-/// The extent of placed submissions, in nm; none where they show nothing. Linear in their number; takes no memory.
+/// The extent of placed submissions, in nm; `None` if they have no shapes. Cost: linear in their number; takes no memory.
 pub(crate) fn roots_extent(shelf: &Shelf, roots: &[Root]) -> Option<Box2>
     requires { All (IsRoot shelf.now) roots.now }
     ensures extent { result ≡ roots_extent shelf.now roots.now }

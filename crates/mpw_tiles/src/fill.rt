@@ -1,6 +1,6 @@
-//! Sorting rectangles into the windows of the tiles that they meet.
+//! Sorts rectangles into the windows of the tiles that they touch.
 //!
-//! The tiles are found by division, so a rectangle costs constant time and the lists that it goes into.
+//! The tiles are found by division, so a rectangle takes constant time and its entries in the lists.
 
 ghost use Rattle.std.specs.Prelude.{◌≡◌, ◌≤◌, ◌<◌, [], length, All, OnOk, IfOk};
 ghost use Rattle.mpw_geom.specs.Plane.{IsBoxInPlane};
@@ -54,7 +54,7 @@ fn list_in_block(
     Ok(())
 }
 
-/// Adds the rectangle to the lists of the tiles whose windows share a square with it. An error is want of
+/// Adds the rectangle to the lists of the tiles whose windows share a square with it. The only error is out of
 /// memory.
 pub(crate) fn list_rectangle(
     lists: &mut Vec<Listed>,
@@ -74,7 +74,7 @@ pub(crate) fn list_rectangle(
     Ok(())
 }
 
-/// So many empty lists. An error is want of memory.
+/// `count` empty lists. The only error is out of memory.
 pub(crate) fn empty_lists(alloc: Global, count: u32) -> Result<Vec<Listed>, AllocError>
     ensures count { IfOk result (λ v. length v.items ≡ count) }
     ensures empty { IfOk result (λ v. All (λ w. w ≡ []) v.items) }
@@ -86,7 +86,7 @@ pub(crate) fn empty_lists(alloc: Global, count: u32) -> Result<Vec<Listed>, Allo
     Ok(lists)
 }
 
-/// Adds the rectangles to the lists of the windows that they share squares with. An error is want of memory.
+/// Adds the rectangles to the lists of the windows with which they share squares. The only error is out of memory.
 fn list_all(
     lists: &mut Vec<Listed>,
     plan: &Plan,
@@ -102,12 +102,12 @@ fn list_all(
     Ok(())
 }
 
-/// The windows of the plan's tiles over placed rectangles, one a tile, in order. Each rectangle is listed in the
-/// windows with which it shares a unit square, found by division: linear in the tiles, the rectangles and what
-/// is listed.
+/// The windows of the plan's tiles over placed rectangles, one for each tile, in order. Each rectangle is listed in the
+/// windows with which it shares a unit square, found by division. Cost: linear in the tiles, the rectangles and the
+/// entries of the lists.
 ///
 /// # Errors
-/// Where there is no memory.
+/// Out of memory.
 pub fn windows_of(
     alloc: Global,
     plan: &Plan,

@@ -24,7 +24,7 @@ use crate::span::{sides_between, span};
 use mpw_geom::{Box2, Point};
 use std::marker::Model;
 
-/// Square cells of one side that cover a closed extent, from its lower left corner on. Contracts see the
+/// Square cells with one side length that cover a closed extent, from its lower left corner on. Contracts see the
 /// extent and the side.
 #[derive(Drop)]
 pub struct Grid {
@@ -49,16 +49,16 @@ impl Model for Grid {
 pub struct Block {
     /// The first column, from 0.
     pub column0: u32,
-    /// The column behind the last one.
+    /// The column after the last one.
     pub column1: u32,
     /// The first row, from 0.
     pub row0: u32,
-    /// The row behind the last one.
+    /// The row after the last one.
     pub row1: u32,
 }
 
 impl Grid {
-    /// The grid of cells of that side, in nm. None exactly where it has more than `most` cells. Takes no
+    /// The grid of cells with that side, in nm. `None` exactly if it has more than `most` cells. Takes no
     /// memory.
     pub fn of(extent: Box2, side: u32, most: u32) -> Option<Grid>
         requires plane { IsBoxInPlane extent }
@@ -133,7 +133,7 @@ impl Grid {
         }
     }
 
-    /// Where the core of a cell begins from left to right.
+    /// The x coordinate at which the core of a cell begins.
     fn left_of(&self, cell: u32) -> i64
         requires { cell < cells self.now }
         ensures place { result ≡ self.now.extent.x0 +ℤ pos (column_of self.now cell * self.now.side) }
@@ -142,7 +142,7 @@ impl Grid {
         self.extent.x0 + distance(cell % self.columns, self.side)
     }
 
-    /// Where the core of a cell begins from bottom to top.
+    /// The y coordinate at which the core of a cell begins.
     fn bottom_of(&self, cell: u32) -> i64
         requires { cell < cells self.now }
         ensures place { result ≡ self.now.extent.y0 +ℤ pos (row_of self.now cell * self.now.side) }
@@ -151,7 +151,7 @@ impl Grid {
         self.extent.y0 + distance(cell / self.columns, self.side)
     }
 
-    /// The window of a cell: its core, wider by the margin on each side. Takes no memory.
+    /// The window of a cell: its core, extended by the margin on each side. Takes no memory.
     pub fn window(&self, cell: u32, margin: u64) -> Box2
         requires cell { cell < cells self.now }
         requires margin { margin ≤ 2 ^ 32 }
@@ -239,7 +239,7 @@ fn row_count(extent: &Box2, side: u32) -> u64
     sides_between(side, extent.y0, extent.y1) + 1
 }
 
-/// The length of so many sides, in nm.
+/// The length of `count` sides, in nm.
 fn distance(count: u32, side: u32) -> i64
     requires { count * side ≤ 2 ^ 50 }
     ensures { result ≡ pos (count * side) }

@@ -1,4 +1,4 @@
-//! Laws of the definitions alone: the contract of each function is the law. It calls at most the laws on which that one rests.
+//! Laws about the definitions. Each function does nothing but call the laws that it needs; its contract is the law.
 
 ghost use Rattle.mpw_tiles.specs.Laws.{
   EachStepHasOneTile,
@@ -25,15 +25,15 @@ pub fn each_step_has_one_tile()
     ensures { EachStepHasOneTile }
 {}
 
-/// What a tile's core finds of a rule of the deck depends on the squares of its window alone, and so do the pair steps of
+/// What a tile's core finds for a rule of the deck depends only on the squares of its window. So do the pair steps of
 /// each row.
 pub fn each_window_decides()
     ensures runs { EachWindowDecides }
     ensures rows { EachWindowDecidesRows }
 {}
 
-/// The squares of a shape lie in its placed box, those of a flat list in its extent, by layer too, and those of roots in the
-/// plane: so no placed rectangle that has squares of them is cut short.
+/// The squares of a shape lie in its placed box. Those of a flat list lie in its extent, by layer too. Those of roots lie in the
+/// plane, so no placed rectangle with such squares is cut off.
 pub fn squares_lie_in_boxes()
     ensures boxes { SquaresLieInBoxes }
     ensures extents { SquaresLieInExtents }
@@ -53,20 +53,21 @@ pub fn plans_lie_in_plane()
     roots_show_what_their_submissions_do();
 }
 
-/// Of windows that stand for a snapshot: in its window, what is listed for a tile has the squares of the shapes on each
+/// If windows represent a snapshot, then in its window a tile's list has the squares of the shapes on each
 /// layer.
 pub fn windows_show_layers()
     ensures { WindowsShowLayers }
 {}
 
-/// Of windows that stand for a snapshot and list nothing that has no square of its window, as those of [`cut`](crate::cut): each
-/// rectangle that is listed for a tile has a unit square of the tile's window that a shape of its layer and origin has. So a window tells nothing of a submission that shows nothing in it.
+/// Let windows represent a snapshot, and let each listed rectangle have a square of its window, as in the windows of [`cut`](crate::cut). Then each
+/// rectangle in a tile's list has a unit square of the tile's window that a shape with its layer and origin has. So a window reveals nothing of a
+/// submission without shapes in it.
 pub fn windows_list_what_is_shown()
     ensures { WindowsListWhatIsShown }
 {}
 
-/// Which origins have a closed square that meets the closed box of a run that a tile's core finds depends on the squares of
-/// its window alone: each such square lies in the window, and so the rectangles that are listed for the tile tell it.
+/// Which origins have a closed square that touches the closed box of a run of a tile's core depends only on the squares of
+/// the tile's window: each such square lies in the window. So the tile's list of rectangles determines them.
 pub fn each_window_tells_met()
     ensures squares { MetSquaresLieInWindows }
     ensures origins { WindowsTellMet }

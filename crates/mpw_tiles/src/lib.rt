@@ -1,16 +1,16 @@
-//! Tiles of a run: the grid over the layout, and the window of each tile.
+//! The tiles of a run: the grid over the layout, and the window of each tile.
 //!
-//! A [`Grid`] covers a closed extent with square cells of one side, half-open cores: each point of the extent lies in exactly one.
-//! A cell's window is its core, widened on each side by a margin; [`Grid::meeting`] finds by division the cells whose windows
-//! share a square with a box, so that boxes are sorted into windows in constant time and what they are listed in.
+//! A [`Grid`] covers a closed extent with square cells of one side. Their cores are half-open: each point of the extent lies in exactly one.
+//! A cell's window is its core, extended on each side by a margin. [`Grid::meeting`] finds by division the cells whose windows share a
+//! square with a box. So sorting a box into windows takes constant time and its entries in the lists.
 //!
 //! A [`Plan`] is such a grid over the layout's extent. Each pair step of a rule belongs to exactly one core. What a core finds
 //! depends on the squares of its window, which is wider by the deck's greatest distance plus 1 on each side. [`windows_of`]
-//! sorts placed rectangles into the windows that they meet.
+//! sorts placed rectangles into the windows that they touch.
 //!
-//! A [`Snapshot`] is what a run looks at: a deck, placed submissions and the shelf that they are on. Its plan is over the
-//! shapes that they show, and [`cut`] makes the windows that stand for it: by layer and origin they have the squares of
-//! the shapes, and they list nothing that has no square of its window.
+//! A [`Snapshot`] is what a run checks: a deck, placed submissions and the shelf that has them. Its plan is over
+//! their shapes. [`cut`] makes the windows that represent it: by layer and origin they have the squares of the
+//! shapes, and each listed rectangle has a square of its window.
 #![tactic(auto)]
 
 mod extent;

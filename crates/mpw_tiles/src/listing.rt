@@ -1,7 +1,7 @@
-//! Rectangles, and the lists of them that windows are.
+//! Rectangles, and windows as lists of them.
 //!
-//! While rectangles are sorted into tiles each tile has a [`Listed`], which grows. When all are listed each becomes a
-//! [`Window`], which is shared by its copies.
+//! While rectangles are sorted into tiles, each tile has a growing [`Listed`]. At the end each becomes a
+//! [`Window`], which its copies share.
 
 ghost use Rattle.std.specs.Prelude.{◌≡◌, ◌↔◌, ◌<◌, [], ◌∷◌, ◌++◌, length, IfOk, OnOk, IsTrue};
 ghost use Rattle.mpw_tiles.specs.Internal.Listing.{Lists};
@@ -11,7 +11,7 @@ use mpw_lists::{Same, SharedList};
 use std::alloc::{AllocError, Global};
 use std::marker::Model;
 
-/// A rectangle of a shape where it is placed: its squares in nm, its layer, and the number of the submission
+/// A placed rectangle of a shape: its squares in nm, its layer, and the number of the submission
 /// from which the shape comes.
 #[derive(Clone, Copy, PartialEq, Eq)]
 pub struct Rectangle {
@@ -46,7 +46,7 @@ impl Same for Rectangle {
     }
 }
 
-/// The rectangles of a tile so far, which contracts see as a list.
+/// The rectangles of a tile so far. Contracts see them as a list.
 pub(crate) struct Listed {
     items: Vec<Rectangle>,
 }
@@ -68,7 +68,7 @@ impl Model for Listed {
 }
 
 impl Listed {
-    /// The list without rectangles. It takes no memory.
+    /// The empty list. Takes no memory.
     pub(crate) fn new(alloc: Global) -> Listed
         ensures { result ≡ [] }
     {
@@ -77,7 +77,7 @@ impl Listed {
         }
     }
 
-    /// Adds a rectangle at the end. An error is want of memory.
+    /// Adds a rectangle at the end. The only error is out of memory.
     fn push(&mut self, rectangle: Rectangle) -> Result<(), AllocError>
         ensures ok { OnOk result (self.new ≡ self.old ++ rectangle ∷ []) }
     {
@@ -94,7 +94,7 @@ impl Listed {
     }
 }
 
-/// Adds a rectangle to the list of a tile. An error is want of memory.
+/// Adds a rectangle to the list of a tile. The only error is out of memory.
 pub(crate) fn list_at(
     lists: &mut Vec<Listed>,
     tile: usize,
@@ -107,13 +107,13 @@ pub(crate) fn list_at(
     Ok(())
 }
 
-/// The rectangles of a tile's window, which contracts see as a list. Copies share them.
+/// The rectangles of a tile's window. Contracts see them as a list. Copies share memory.
 pub type Window = SharedList<Rectangle>;
 
-/// Windows by tile, which contracts see as the list of their lists. Copies share them.
+/// Windows by tile. Contracts see them as the list of their lists. Copies share memory.
 pub type Windows = SharedList<Window>;
 
-/// The windows of these lists, in their order. An error is want of memory.
+/// The windows of these lists, in their order. The only error is out of memory.
 pub(crate) fn windows_from(alloc: Global, lists: Vec<Listed>) -> Result<Windows, AllocError>
     ensures { IfOk result (λ windows. windows ≡ lists.items) }
 {

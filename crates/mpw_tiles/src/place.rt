@@ -1,4 +1,4 @@
-//! Shapes and rectangles where they are placed.
+//! Places shapes and rectangles.
 
 ghost use Rattle.std.specs.Prelude.{◌≡◌, true, ◌+ℤ◌, neg_ℤ, IfNone, IfSome, None};
 ghost use Rattle.mpw_hier.specs.Boxes.{placed_box, is_box_near};
@@ -14,19 +14,19 @@ use mpw_geom::{Box2, Layer, Orient, Placing, Point};
 use mpw_structures::Element;
 use mpw_walk::Placed;
 
-/// What the rectangles of a shape have in common: its layer, the number of the submission from which it comes, and how it is
-/// placed.
+/// What the rectangles of a shape have in common: its layer, the number of the submission from which it comes, and its
+/// placing.
 #[derive(Clone, Copy)]
 pub struct PlacedShape {
     /// The layer of the shape, with its datatype.
     pub layer: Layer,
     /// The number of the submission from which it comes, from 0.
     pub origin: u32,
-    /// From the coordinates of the shape's structure to those in which the rectangles lie.
+    /// The placing from the coordinates of the shape's structure to those of the rectangles.
     pub placing: Placing,
 }
 
-/// The layer of a shape; a reference has none.
+/// The layer of a shape; `None` for a reference.
 fn layer_of(element: &Element) -> Option<Layer>
     ensures { result ≡ layer_of element.now }
 {
@@ -38,7 +38,7 @@ fn layer_of(element: &Element) -> Option<Layer>
 }
 
 impl PlacedShape {
-    /// What the rectangles of a shape that a walk gave have in common; none for a reference. Takes no memory.
+    /// What the rectangles of a shape of a walk have in common; `None` for a reference. Takes no memory.
     pub fn of(placed: &Placed<'_>) -> Option<PlacedShape>
         ensures some { IfSome result (IsShapeOf (item_of placed.now)) }
         ensures none { IfNone result (layer_of placed.now.element.now ≡ None) }
@@ -51,7 +51,7 @@ impl PlacedShape {
         })
     }
 
-    /// The rectangle of one of the shape's boxes, as far as it lies in the plane of coordinates from -2^48 to 2^48. Takes no memory.
+    /// The rectangle of one of the shape's boxes, cut to the plane of coordinates from -2^48 to 2^48. Takes no memory.
     pub fn rectangle(&self, b: &Box2) -> Rectangle
         requires { IsOrdered b.now }
         ensures { IsRectangleOf self.now b.now result }
@@ -64,7 +64,7 @@ impl PlacedShape {
     }
 }
 
-/// The farthest coordinate of the plane, in nm.
+/// The greatest absolute coordinate of the plane, in nm.
 const MAX_COORDINATE: i64 = 1 << 48;
 
 /// The sum, or the nearest coordinate of the plane.
@@ -85,7 +85,7 @@ fn minus(z: i64, by: i64) -> i64
         .min(MAX_COORDINATE)
 }
 
-/// The coordinates to which the placing takes the point, or the nearest ones of the plane.
+/// The image of the point under the placing, or the nearest coordinates of the plane.
 #[tactic(auto, using(mpw_geom::proofs::Turns::negations), unfolding(mpw_geom::specs::Placing::placed_point, mpw_geom::specs::Placing::oriented_point))]
 fn placed_coordinates(placing: &Placing, p: &Point) -> (i64, i64)
     ensures x { result.0 ≡ nearest (placed_point placing.now p.now).x }
@@ -104,7 +104,7 @@ fn placed_coordinates(placing: &Placing, p: &Point) -> (i64, i64)
     }
 }
 
-/// Where the placing takes the point, or the nearest point of the plane.
+/// The image of the point under the placing, or the nearest point of the plane.
 fn placed_point(placing: &Placing, p: &Point) -> Point
     ensures { result ≡ nearest_point (placed_point placing.now p.now) }
 {
@@ -112,7 +112,7 @@ fn placed_point(placing: &Placing, p: &Point) -> Point
     Point { x, y }
 }
 
-/// Where the placing takes the rectangle, as far as it lies within -2^48 to 2^48 nm: just there, where that is within -2^30 to
+/// The image of the rectangle under the placing, cut to -2^48 to 2^48 nm. It is exact if it lies within -2^30 to
 /// 2^30. Takes no memory.
 pub(crate) fn placed_area(placing: &Placing, b: &Box2) -> Box2
     requires { IsOrdered b.now }

@@ -36,7 +36,7 @@ impl Model for Plan {
     ghost invariant = { λ p. IsPlan (record { grid = p.grid; margin = p.margin }) };
 }
 
-/// The greatest distance of the rules, in nm; 0 without rules. Linear in the rules; takes no memory.
+/// The greatest distance of the rules, in nm; 0 without rules. Cost: linear in the rules; takes no memory.
 pub fn greatest_distance(rules: &[Rule]) -> u32
     ensures { result ≡ greatest_distance rules.now }
 {
@@ -48,12 +48,12 @@ pub fn greatest_distance(rules: &[Rule]) -> u32
 }
 
 impl Plan {
-    /// The tiles over the closed extent, from its lower left corner on, with the deck's side: so many columns
-    /// that its greatest x lies in a core, and rows likewise. A window is wider than its core by the deck's
-    /// greatest distance plus 1 on each side. Linear in the rules; takes no memory.
+    /// The tiles over the closed extent, from its lower left corner on, with the deck's side. There are as many columns as it
+    /// takes for the extent's greatest x to lie in a core, and rows likewise. A window is wider than its core by the deck's
+    /// greatest distance plus 1 on each side. Cost: linear in the rules; takes no memory.
     ///
     /// # Errors
-    /// Exactly where there would be more than 4096 tiles.
+    /// Exactly if there would be more than 4096 tiles.
     pub fn of(extent: Box2, deck: &Deck) -> Result<Plan, TooManyTiles>
         requires plane { IsBoxInPlane extent }
         requires ordered { IsOrdered extent }

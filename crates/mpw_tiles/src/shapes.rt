@@ -1,4 +1,4 @@
-//! Listing shapes: the rectangles of each, placed, go into the lists of the windows with which they share squares.
+//! Lists shapes: the rectangles of each, placed, go into the lists of the windows with which they share squares.
 
 ghost use Rattle.std.specs.Prelude.{◌≡◌, length, All, OnOk};
 ghost use Rattle.mpw_structures.specs.Element.{IsElement};
@@ -19,7 +19,7 @@ use mpw_shapes::rectangles;
 use mpw_walk::{Placed, Walk};
 use std::alloc::{AllocError, Global};
 
-/// Lists the rectangles of a shape's boxes. An error is want of memory.
+/// Lists the rectangles of a shape's boxes. The only error is out of memory.
 fn list_boxes(
     lists: &mut Vec<Listed>,
     plan: &Plan,
@@ -38,7 +38,7 @@ fn list_boxes(
     Ok(())
 }
 
-/// Lists the rectangles of a shape. An error is want of memory.
+/// Lists the rectangles of a shape. The only error is out of memory.
 fn list_shape(
     alloc: Global,
     lists: &mut Vec<Listed>,
@@ -58,7 +58,7 @@ fn list_shape(
     Ok(())
 }
 
-/// Lists the rectangles of the shapes that the walk still gives. An error is want of memory.
+/// Lists the rectangles of the remaining shapes of the walk. The only error is out of memory.
 pub(crate) fn list_shapes(
     alloc: Global,
     lists: &mut Vec<Listed>,

@@ -1,6 +1,6 @@
-//! What a run looks at: a deck, placed submissions and the shelf that they are on, as they stood when it began.
+//! What a run checks: a deck, placed submissions and the shelf that has them, as they were when it began.
 //!
-//! [`cut`] makes of it the windows of its tiles, from which the tiles are checked.
+//! [`cut`] makes the windows of its tiles, from which the tiles are checked.
 
 ghost use Rattle.std.specs.Prelude.{◌≡◌, ◌≤◌, ◌↔◌, [], IfOk, IfSome, IsTrue, All, true, length};
 ghost use Rattle.mpw_hier.specs.Boxes.{is_box_near};
@@ -26,10 +26,10 @@ use std::marker::Model;
 /// The most roots of a snapshot.
 pub const MAX_ROOTS: usize = 4096;
 
-/// The most shapes of all roots of a snapshot together: as many as one submission of a shelf may show.
+/// The most shapes of all roots of a snapshot together: as many as one submission of a shelf may have.
 pub const MAX_SHAPES: u64 = mpw_hier::MAX_SHAPES;
 
-/// How many shapes the roots show.
+/// How many flat shapes the roots have.
 fn shape_count(shelf: &Shelf, roots: &[Root]) -> u64
     requires { length roots.now ≤ 4096 }
     ensures { result ≡ roots_count shelf.now roots.now }
@@ -41,8 +41,8 @@ fn shape_count(shelf: &Shelf, roots: &[Root]) -> u64
     count
 }
 
-/// Whether the roots can be those of a snapshot: at most 4096, each fits the shelf, and together they show at most 2^40
-/// shapes. Linear in the roots; takes no memory.
+/// Whether the roots can be those of a snapshot: at most 4096, each fits the shelf, and together they have at most 2^40
+/// flat shapes. Cost: linear in the roots; takes no memory.
 pub fn are_roots(shelf: &Shelf, roots: &[Root]) -> bool
     ensures { IsTrue result ↔ AreRoots shelf.now roots.now }
 {
@@ -55,8 +55,8 @@ pub fn are_roots(shelf: &Shelf, roots: &[Root]) -> bool
     shape_count(shelf, roots) <= MAX_SHAPES
 }
 
-/// A deck, roots in order, and a shelf: contracts see the three values. There are at most 4096 roots, each fits the shelf,
-/// and together they show at most 2^40 shapes. Copies share all three.
+/// A deck, roots in order, and a shelf. Contracts see the three values. There are at most 4096 roots, each fits the shelf,
+/// and together they have at most 2^40 flat shapes. Copies share all three.
 pub struct Snapshot {
     deck: Deck,
     roots: SharedList<Root>,
@@ -122,7 +122,7 @@ impl Snapshot {
     /// The snapshot of these. Constant time.
     ///
     /// # Errors
-    /// Where there is no memory for the count of its copies.
+    /// Out of memory (for the count of its copies).
     pub fn new(
         alloc: Global,
         deck: Deck,
@@ -152,7 +152,7 @@ impl Snapshot {
         self.roots.as_slice()
     }
 
-    /// Whether these are its roots, in order, by value. It stops at the first difference, and takes no memory.
+    /// Whether these are its roots, in order, by value. Stops at the first difference, and takes no memory.
     pub fn has_roots(&self, roots: &[Root]) -> bool
         ensures { IsTrue result ↔ (roots.now ≡ self.now.roots) }
     {
@@ -166,17 +166,17 @@ impl Snapshot {
         &self.shelf
     }
 
-    /// Each snapshot keeps the limits. A law: the function does nothing.
+    /// A law; the function does nothing. Each snapshot meets the limits.
     pub fn is_snapshot(&self)
         ensures { IsSnapshot self.now }
     {
         let _deck = &self.deck;
     }
 
-    /// The same snapshot, in constant time and without further memory: its parts are shared.
+    /// The same snapshot, in constant time and without more memory: its parts are shared.
     ///
     /// # Errors
-    /// Where no more copies can be counted.
+    /// If no more copies can be counted.
     pub fn copy(&self, alloc: Global) -> Result<Snapshot, AllocError>
         ensures { IfOk result (λ s. s ≡ self.now) }
     {
@@ -186,8 +186,8 @@ impl Snapshot {
         Ok(Snapshot { deck, roots, shelf })
     }
 
-    /// Whether the snapshots have equal decks, roots and shelves. It stops at the first difference, costs at most what they
-    /// hold, and takes no memory.
+    /// Whether the snapshots have equal decks, roots and shelves. Stops at the first difference, costs at most the size of
+    /// both, and takes no memory.
     pub fn is_same(&self, other: &Snapshot) -> bool
         ensures { IsTrue result ↔ (self.now ≡ other.now) }
     {
@@ -196,8 +196,8 @@ impl Snapshot {
             && self.shelf.is_same(&other.shelf)
     }
 
-    /// The least box that holds the boxes of all shapes that the roots show, in nm, within -2^30 to 2^30; none without
-    /// shapes. Linear in the roots; takes no memory.
+    /// The least box that contains the boxes of all flat shapes of the roots, in nm, within -2^30 to 2^30; `None` without
+    /// shapes. Cost: linear in the roots; takes no memory.
     pub fn extent(&self) -> Option<Box2>
         ensures extent { result ≡ shown_extent self.now }
         ensures near { IfSome result (λ b. is_box_near b ≡ true) }
@@ -208,7 +208,7 @@ impl Snapshot {
         roots_extent(&self.shelf, self.roots.as_slice())
     }
 
-    /// The plan of the tiles over that extent; none without shapes, or where there would be more than 4096 tiles. Linear in
+    /// The plan of the tiles over that extent; `None` without shapes, or if there would be more than 4096 tiles. Cost: linear in
     /// the roots and the rules; takes no memory.
     pub fn plan(&self) -> Option<Plan>
         ensures plan { result ≡ plan_for self.now }
@@ -221,15 +221,15 @@ impl Snapshot {
     }
 }
 
-/// The windows of the snapshot's tiles, one a tile, in order; none where it shows no shape, or where there would be more
-/// than 4096 tiles. They stand for the snapshot: by layer and origin, a listed rectangle has a unit square of the tile's
-/// window exactly where a shape that the roots show has it, where it is placed.
+/// The windows of the snapshot's tiles, one for each tile, in order; none if it has no shapes, or if there would be more
+/// than 4096 tiles. They represent the snapshot: by layer and origin, a listed rectangle has a unit square of the tile's
+/// window exactly if a placed shape of the roots has it.
 ///
-/// The shapes are gone over once. Each one's rectangles are placed and listed in the windows with which they share a square,
-/// found by division: what the walk, the rectangles and the entries of the lists cost, and memory for the entries.
+/// The shapes are visited once. The rectangles of each are placed and listed in the windows with which they share a square,
+/// found by division. Cost: that of the walk, the rectangles and the entries of the lists, with memory for the entries.
 ///
 /// # Errors
-/// Where there is no memory.
+/// Out of memory.
 pub fn cut(alloc: Global, snapshot: &Snapshot) -> Result<Windows, AllocError>
     ensures windows { IfOk result (StandFor snapshot.now) }
     ensures near { IfOk result (ListNearby snapshot.now) }

@@ -1,4 +1,4 @@
-//! One direction of a grid: intervals of one length, one behind another.
+//! One direction of a grid: consecutive intervals of one length.
 
 ghost use Rattle.std.specs.Prelude.{◌≡◌, ◌↔◌, ◌≤◌, ◌<◌, min, ℕ, ◌*◌, pos, ◌+ℤ◌, ◌<ℤ◌};
 ghost use Rattle.mpw_geom.specs.Plane.{IsCoordinate};
@@ -13,14 +13,14 @@ pub(crate) fn sides_between(side: u32, from: i64, to: i64) -> u64
     to.abs_diff(from) / u64::from(side)
 }
 
-/// So many intervals, but no more than `count`.
+/// `intervals`, but at most `count`.
 fn up_to(intervals: u64, count: u32) -> u32
     ensures { result ≡ min intervals count }
 {
     intervals.min(u64::from(count)) as u32
 }
 
-/// The first of `count` intervals that ends behind `low`, and the first that doesn't begin before `high`. The
+/// The first of `count` intervals that ends after `low`, and the first that doesn't begin before `high`. The
 /// first interval begins at `origin`, and each is `side` long.
 pub(crate) fn span(origin: i64, side: u32, count: u32, low: i64, high: i64) -> (u32, u32)
     requires side { 1 ≤ side }

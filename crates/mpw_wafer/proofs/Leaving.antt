@@ -1,4 +1,4 @@
--- What a request keeps of the placings.
+-- What a request leaves of the placements.
 use Rattle.std.proofs.Common.{◌≡◌, ℕ, List, Result, Ok, Err, refl}
 use Rattle.mpw_geom.specs.declared.placing.Placing.{Placing}
 use Rattle.mpw_deck.specs.Decks.{Deck}
@@ -14,7 +14,7 @@ use Rattle.mpw_wafer.specs.Laws.{ChangesKeepPlacings}
 use Rattle.mpw_wafer.specs.Wafers.{place_row, unplace_row, deck_row, placed_outcome, unplaced_outcome, decked_outcome}
 use Rattle.mpw_wafer.proofs.Parts.{placed_ok, unplaced_ok}
 
--- ---- placings
+-- ---- placements
 
 place_kept : PlacingKeeps → (policy : Policy) (shelf : List Submission) (wafer : Wafer)
     (connection : ℕ)

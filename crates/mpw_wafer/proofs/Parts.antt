@@ -1,4 +1,4 @@
--- The parts of a row over the wafer.
+-- The parts of a decision table of the wafer.
 use Rattle.std.proofs.Common.{◌≡◌, ℕ, List, Result, Ok, Err, ap}
 use Rattle.mpw_replies.proofs.RowParts.{passed}
 use Rattle.mpw_geom.specs.declared.placing.Placing.{Placing}

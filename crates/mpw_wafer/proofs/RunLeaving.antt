@@ -1,4 +1,4 @@
--- How many runs a request leaves counted, and that it hands nothing out.
+-- A request counts at most one run, and hands out nothing.
 use Rattle.std.proofs.Common.{◌≤◌, ℕ, ◌+◌, List, Result, Ok, Err, arith}
 use Rattle.mpw_requests.specs.declared.run.RunRequest.TheVariants as ask
 use Rattle.mpw_replies.specs.Listing.{Listed}

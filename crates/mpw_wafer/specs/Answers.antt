@@ -1,10 +1,10 @@
--- What functions of the rows over the wafer answer.
+-- The answers of the functions of the wafer's decision tables.
 use Rattle.std.specs.Prelude.{◌≡◌, Option, None, Some, is_some}
 use Rattle.mpw_wafer.specs.declared.answer.WaferAnswer.{WaferAnswer}
 use Rattle.mpw_placings.specs.declared.wafer.Wafer.{Wafer}
 use Rattle.mpw_wafer.specs.Wafers.{Outcome}
 
--- The wafer behind an answer: the next one, or the one before.
+-- The wafer after an answer: the new one, or the one before.
 abbrev pub wafer_after : Wafer → Option Wafer → Wafer
 wafer_after wafer None = wafer
 wafer_after wafer (Some next) = next

@@ -1,4 +1,4 @@
--- The requests over the wafer: each with its tests in order, and what it gives where all pass.
+-- The requests of the wafer: each with its tests in order, and its result if all pass.
 use Rattle.std.specs.Prelude.{ℕ, Bool, true, false, List, [], ◌∷◌, map, Option, None, Some, Result, Ok, Err}
 use Rattle.mpw_geom.specs.declared.placing.Placing.{Placing}
 use Rattle.mpw_deck.specs.Decks.{Deck}
@@ -29,9 +29,10 @@ use Rattle.mpw_replies.specs.declared.row.Ending.{Ending}
 use Rattle.mpw_replies.specs.declared.row.Ending.TheVariants as ending
 use Rattle.mpw_placings.specs.declared.wafer.Wafer.{Wafer}
 
--- ---- rows
+-- ---- decision tables
 
--- The code of a test that a placing doesn't pass. The rows of placings never tell want of memory.
+-- The code of a test that a placement doesn't pass. The decision tables of placements never give out of
+-- memory.
 abbrev pub code_of : PlacingFault → Code
 code_of fault.NoCell = code.NoCell
 code_of fault.Known = code.Known
@@ -45,14 +46,14 @@ abbrev pub by_table : Result (List Placement) PlacingFault → Result (List Plac
 by_table (Ok ps) = Ok ps
 by_table (Err fault) = Err (ending.Refused (code_of fault))
 
--- The row of `place`: the placings with the present submission of the cell under that label.
+-- The decision table of `place`: the placements with the present submission of the cell under that label.
 unfoldable pub place_row : Policy → List Submission → List Placement → ℕ → Name → Name → Placing
     → Result (List Placement) Ending
 place_row policy shelf ps connection cell label placing = do
   entered ← permitted policy connection operation.Place (object.Cell cell)
   by_table (table.placings_with shelf ps cell label placing)
 
--- The row of `unplace`: the placings without the one of that cell and label.
+-- The decision table of `unplace`: the placements without the one of that cell and label.
 unfoldable pub unplace_row : Policy → List Placement → ℕ → Name → Name
     → Result (List Placement) Ending
 unplace_row policy ps connection cell label = do
@@ -63,15 +64,15 @@ abbrev pub by_text : Result Deck DeckFault → Result Deck Ending
 by_text (Ok deck) = Ok deck
 by_text (Err fault) = Err (ending.Refused (code.Deck fault))
 
--- The row of `deck`: the deck that a text spells.
+-- The decision table of `deck`: the deck in a text.
 unfoldable pub deck_row : Policy → ℕ → List ℕ → Result Deck Ending
 deck_row policy connection text = do
   entered ← permitted policy connection operation.Deck object.Desk
   by_text (deck_of text)
 
--- ---- what comes of a request
+-- ---- the outcome of a request
 
--- A reply with the wafer that it leaves, and whether that is a change, which has to be kept.
+-- A reply with the wafer after it, and whether that is a change, which must be stored.
 pub record Outcome : Type 0 where
   pub reply : Reply
   pub wafer : Wafer
@@ -88,7 +89,7 @@ abbrev pub version_lines : Option ℕ → List Line
 version_lines None = []
 version_lines (Some version) = line.Version version ∷ []
 
--- What is placed goes last, and its version is told.
+-- A placement is added at the end, and the reply has its version.
 abbrev pub placed_outcome : List Submission → Wafer → Name → Name → Result (List Placement) Ending
     → Outcome
 placed_outcome shelf wafer cell label (Ok ps) =
@@ -99,12 +100,12 @@ abbrev pub unplaced_outcome : Wafer → Result (List Placement) Ending → Outco
 unplaced_outcome wafer (Ok ps) = acceptance [] (record wafer { placings = ps })
 unplaced_outcome wafer (Err ending) = no_change ending wafer
 
--- A deck comes in the place of the one before.
+-- A deck replaces the one before.
 abbrev pub decked_outcome : Wafer → Result Deck Ending → Outcome
 decked_outcome wafer (Ok deck) = acceptance [] (record wafer { deck = Some deck })
 decked_outcome wafer (Err ending) = no_change ending wafer
 
--- Each request by its row.
+-- Each request by its decision table.
 abbrev pub outcome_of : Policy → List Submission → Wafer → ℕ → WaferRequest → Outcome
 outcome_of policy shelf wafer connection (ask.Place cell label placing) =
     placed_outcome shelf wafer cell label

@@ -1,4 +1,4 @@
-//! The answers to requests over the wafer.
+//! The answers to requests of the wafer.
 ghost use Rattle.std.specs.Prelude.{◌≡◌, List, Result, Option, None, IfOk, map};
 ghost use Rattle.mpw_deck.specs.Decks.{Deck as DeckTold};
 ghost use Rattle.mpw_placings.specs.declared.placement.Placement.{Placement};
@@ -18,23 +18,23 @@ use mpw_replies::{Fault, Line, Lines, Reply};
 use mpw_requests::WaferRequest;
 use std::alloc::{AllocError, Global};
 
-/// The reply to a request over the wafer, and the wafer that it leaves where that is another.
+/// The reply to a request of the wafer, and the new wafer if it changes.
 #[derive(Drop)]
 pub struct WaferAnswer {
-    /// What the request is answered.
+    /// The reply to the request.
     pub reply: Reply,
-    /// The wafer with the change; none where it stays as it is.
+    /// The wafer with the change, or none if it is unchanged.
     pub next: Option<Wafer>,
 }
 
-/// A reply that leaves the wafer.
+/// A reply that leaves the wafer unchanged.
 fn no_change(reply: Reply) -> WaferAnswer
     ensures { (result.reply ≡ reply) × (result.next ≡ None) }
 {
     WaferAnswer { reply, next: None }
 }
 
-/// The line of a version, where there is one.
+/// The line of a version, if there is one.
 fn version_line(alloc: Global, version: Option<u32>) -> Result<Lines, AllocError>
     ensures { IfOk result (λ lines. lines ≡ map stored (version_lines version)) }
 {
@@ -44,7 +44,7 @@ fn version_line(alloc: Global, version: Option<u32>) -> Result<Lines, AllocError
     }
 }
 
-/// The answer to what places.
+/// The answer to a request that places a cell.
 fn placing(
     alloc: Global,
     shelf: &Shelf,
@@ -69,7 +69,7 @@ fn placing(
     }
 }
 
-/// The answer to what takes a placing away.
+/// The answer to a request that removes a placement.
 fn removal(wafer: &Wafer, made: Result<Placings, Fault>) -> Result<WaferAnswer, AllocError>
     ensures { (row : Result (List Placement) AnyEnding) → Answers (λ placings. placings) made row → IfOk result (λ answer. Gives wafer.now (unplaced_outcome wafer.now row) answer) }
 {
@@ -85,7 +85,7 @@ fn removal(wafer: &Wafer, made: Result<Placings, Fault>) -> Result<WaferAnswer, 
     }
 }
 
-/// The answer to what brings a deck.
+/// The answer to a request that uploads a deck.
 fn checking(wafer: &Wafer, made: Result<Deck, Fault>) -> Result<WaferAnswer, AllocError>
     ensures { (row : Result DeckTold AnyEnding) → Answers (λ deck. deck) made row → IfOk result (λ answer. Gives wafer.now (decked_outcome wafer.now row) answer) }
 {
@@ -104,10 +104,10 @@ fn checking(wafer: &Wafer, made: Result<Deck, Fault>) -> Result<WaferAnswer, All
     }
 }
 
-/// The answer to a request over the wafer: linear in the placings, or constant time for a deck that was read.
+/// The answer to a request of the wafer. Linear in the placements, or constant time for a deck that was read.
 ///
 /// # Errors
-/// Where there is no room for it.
+/// Out of memory.
 pub fn answer_request(
     alloc: Global,
     policy: &Policy,

@@ -1,6 +1,6 @@
-//! The requests over the wafer: `place`, `unplace` and `deck`; and those over its checking run, in [`run`].
+//! The requests of the wafer: `place`, `unplace` and `deck`; and those of its checking run, in [`run`].
 //!
-//! [`answer_request`] gives the reply to a request over the wafer, and the wafer that it leaves, made aside from the desk's own.
+//! [`answer_request`] gives the reply to a request of the wafer, and the new wafer. It doesn't change the desk's own.
 #![tactic(auto)]
 
 mod answer;

@@ -1,6 +1,6 @@
-//! The rows of `place`, `unplace` and `deck`.
+//! The decision tables of `place`, `unplace` and `deck`.
 //!
-//! Each is a function that gives its value, or what ends the row, or tells want of memory.
+//! Each is a function. It returns its value, or the test that failed, or out of memory.
 ghost use Rattle.std.specs.Prelude.{◌≡◌};
 ghost use Rattle.mpw_wafer.specs.Internal.Answers.{fault_of};
 ghost use Rattle.mpw_wafer.specs.Wafers as row;
@@ -16,7 +16,7 @@ use mpw_rbac::Policy;
 use mpw_replies::{Code, Fault};
 use std::alloc::Global;
 
-/// Why a placing is refused, as what ends a row.
+/// The fault of a decision table for a refused placement.
 fn fault_of(fault: PlacingFault) -> Fault
     ensures { result ≡ fault_of fault }
 {
@@ -31,7 +31,7 @@ fn fault_of(fault: PlacingFault) -> Fault
     }
 }
 
-/// The placings with the cell's present submission under that label. Linear in the placings.
+/// The placements with the cell's present submission under that label. Linear in the placements.
 #[tactic(auto, unfolding(crate::specs::Wafers::place_row))]
 pub(crate) fn place(
     alloc: Global,
@@ -57,7 +57,7 @@ pub(crate) fn place(
     }
 }
 
-/// The placings without that of the cell under that label. Linear in the placings.
+/// The placements without that of the cell under that label. Linear in the placements.
 #[tactic(auto, unfolding(crate::specs::Wafers::unplace_row))]
 pub(crate) fn unplace(
     alloc: Global,
@@ -81,7 +81,7 @@ pub(crate) fn unplace(
     }
 }
 
-/// The deck that a text spells: in constant time, where it was read already.
+/// The deck in a text. Constant time if it was read already.
 #[tactic(auto, unfolding(crate::specs::Wafers::deck_row))]
 pub(crate) fn deck(
     alloc: Global,

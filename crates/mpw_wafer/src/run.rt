@@ -1,7 +1,7 @@
-//! The requests over the checking run: `run`, `cancel`, `status` and `markers`.
+//! The requests of the checking run: `run`, `cancel`, `status` and `markers`.
 //!
-//! [`answer_request`] gives the reply to such a request, and what it changes in the run: a new run that was prepared, or that
-//! the run is left. It changes nothing itself.
+//! [`answer_request`] gives the reply to such a request, and the change of the run: a new run that was prepared, or its cancellation. It
+//! changes nothing itself.
 
 mod answer;
 mod begin;

@@ -1,4 +1,4 @@
--- The least of some names, one more each turn.
+-- The first of some names in alphabetical order, one more each turn.
 use Rattle.std.proofs.Common.{ℕ, ◌+◌, ◌<◌, List, [], ◌∷◌, ◌++◌, length, take, get_or, append-nil, Option, None, Some}
 use Rattle.std.specs.List.{filter_map, cons_option}
 use Rattle.std.proofs.lemmas.List.{take_more}

@@ -12,7 +12,7 @@ pub enum WaiverFault {
     /// The marker has no waiver.
     #[error("the marker has no waiver")]
     NoWaiver,
-    /// The user submitted a version that the marker meets: the least name of a cell of such a version.
+    /// The user submitted a version that the marker touches. The name is the first, in alphabetical order, of the cells of such versions.
     #[error("the user submitted what the marker meets")]
     Submitter(Name),
     /// The user asked for the waiver.

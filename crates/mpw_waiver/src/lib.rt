@@ -1,9 +1,8 @@
 //! Waivers of a finished run's markers: who asked for one, and who signed it.
 //!
-//! A waiver is signed by one who neither asked for it nor submitted what its marker meets. [`Waivers`] keeps a place
-//! for each marker of the run's book. A request is tested first, by [`Waivers::may_ask`] or [`Waivers::may_sign`];
-//! then [`Waivers::ask`] or [`Waivers::sign`] moves its user in, which takes no memory and can't fail. The room for
-//! all of it is taken by [`Waivers::new`].
+//! The signer of a waiver neither asked for it nor submitted what its marker touches. [`Waivers`] has an entry for each marker of the run's
+//! book. A request is tested first, by [`Waivers::may_ask`] or [`Waivers::may_sign`]. Then [`Waivers::ask`] or [`Waivers::sign`] enters its
+//! user, which takes no memory and can't fail. [`Waivers::new`] takes the memory for all of it.
 #![tactic(auto)]
 
 mod fault;

@@ -1,4 +1,4 @@
-//! Which of a marker's cells a user submitted.
+//! The cells of the touched submissions that a user submitted.
 
 ghost use Rattle.std.specs.Prelude.{◌≡◌, slice_get};
 ghost use Rattle.std.specs.Option.{option_copied};
@@ -9,7 +9,7 @@ use mpw_geom::Name;
 use mpw_hier::Shelf;
 use std::cmp::Ordering;
 
-/// The lesser of two names, of those that are there.
+/// The first of two names in alphabetical order, of those that there are.
 fn lesser<'a>(first: Option<&'a Name>, second: Option<&'a Name>) -> Option<&'a Name>
     ensures { option_copied result ≡ lesser (option_copied first.entry) (option_copied second.entry) }
 {
@@ -23,7 +23,7 @@ fn lesser<'a>(first: Option<&'a Name>, second: Option<&'a Name>) -> Option<&'a N
     }
 }
 
-/// The cell of the submission of that number, where the user submitted it.
+/// The cell of the submission of that number, if the user submitted it.
 fn own_cell<'a>(shelf: &'a Shelf, number: u32, user: &Name) -> Option<&'a Name>
     ensures { option_copied result ≡ own_cell user.now (slice_get shelf.now number) }
 {
@@ -35,8 +35,8 @@ fn own_cell<'a>(shelf: &'a Shelf, number: u32, user: &Name) -> Option<&'a Name>
     }
 }
 
-/// The least name of a cell of which the user submitted one of the met submissions. One pass over their numbers, which
-/// compares names; it takes no memory.
+/// The first name, in alphabetical order, of a cell of which the user submitted a touched submission. One pass over the numbers, which
+/// compares names. It takes no memory.
 #[tactic(auto, unfolding(crate::specs::Signing::least_own_cell))]
 pub(crate) fn least_own_cell<'a>(shelf: &'a Shelf, met: &[u32], user: &Name) -> Option<&'a Name>
     ensures { option_copied result ≡ least_own_cell shelf.now met.now user.now }

@@ -4,7 +4,7 @@ ghost use Rattle.std.specs.Prelude.{◌≡◌, is_some};
 
 use mpw_geom::Name;
 
-/// What was asked for a marker: that it may stay.
+/// A request that a marker may stay.
 pub struct Waiver {
     /// The user who asked.
     pub asker: Name,

@@ -13,8 +13,7 @@ use mpw_hier::Shelf;
 use std::alloc::{AllocError, Global};
 use std::marker::Model;
 
-/// For each marker of a book, in order, its waiver, if one was asked for, which contracts see as that list. A marker's
-/// place in the book is its place here.
+/// For each marker of a book, in order, its waiver, if one was asked for. Contracts see that list. A marker has the same index here as in the book.
 pub struct Waivers {
     places: Vec<Option<Waiver>>,
 }
@@ -36,10 +35,10 @@ impl Model for Waivers {
 }
 
 impl Waivers {
-    /// No waiver of any of that many markers. One allocation, and later calls take no further memory.
+    /// No waiver, for `size` markers. One allocation. Later calls take no further memory.
     ///
     /// # Errors
-    /// Where there is no room for it.
+    /// Out of memory.
     pub fn new(alloc: Global, size: usize) -> Result<Waivers, AllocError>
         ensures { IfOk result (λ waivers. waivers ≡ none_asked size) }
     {
@@ -59,14 +58,14 @@ impl Waivers {
         }
     }
 
-    /// How many markers there are.
+    /// The number of markers.
     pub fn len(&self) -> usize
         ensures { result ≡ length self.now }
     {
         self.places.len()
     }
 
-    /// The waiver of the marker at a place, if there is one. Constant time.
+    /// The waiver of the marker at an index, if there is one. Constant time.
     pub fn waiver_at(&self, place: usize) -> Option<&Waiver>
         ensures { option_copied result ≡ waiver_at self.now place }
     {
@@ -76,7 +75,7 @@ impl Waivers {
         }
     }
 
-    /// How many markers have no signed waiver. Linear in the markers.
+    /// The number of markers without a signed waiver. Linear in the markers.
     #[tactic(auto, unfolding(crate::specs::Waivers::unsigned))]
     pub fn count_unsigned(&self) -> usize
         ensures { result ≡ unsigned self.now }
@@ -87,10 +86,10 @@ impl Waivers {
             .count()
     }
 
-    /// Whether a waiver of the marker at a place can be asked for. Constant time.
+    /// Whether a waiver of the marker at an index can be asked for. Constant time.
     ///
     /// # Errors
-    /// `Known` where it has one.
+    /// `Known` if it has one.
     pub fn may_ask(&self, place: usize) -> Result<(), WaiverFault>
         ensures { result ≡ ask_test (waiver_at self.now place) }
     {
@@ -100,13 +99,13 @@ impl Waivers {
         }
     }
 
-    /// Whether the user may sign the waiver of the marker at a place, which meets the submissions of these numbers.
-    /// Linear in the numbers, with comparisons of names.
+    /// Whether the user may sign the waiver of the marker at an index, which touches the submissions of these numbers. Linear in the
+    /// numbers, with comparisons of names.
     ///
     /// # Errors
-    /// Within, in this order: `NoWaiver` where the marker has no waiver, `Known` where it is signed, `Submitter` where
-    /// the user submitted one of the met submissions, with the least name of the cell of such a one, `Asker` where
-    /// the user asked for the waiver. Without, where no more copies of that name can be counted.
+    /// The inner result, in this order: `NoWaiver` if the marker has no waiver, `Known` if it is signed, `Submitter` if the user submitted
+    /// a touched submission, with the first name, in alphabetical order, of such a cell, `Asker` if the user asked for the waiver. The
+    /// outer result: no more copies of that name can be counted.
     pub fn may_sign(
         &self,
         place: usize,
@@ -131,8 +130,8 @@ impl Waivers {
         Ok(Ok(()))
     }
 
-    /// Keeps that the user asked for a waiver of the marker at a place, in the place of the one before, if there was
-    /// one: [`Waivers::may_ask`] tells. A place outside the book changes nothing. Constant time; it takes no memory.
+    /// Enters that the user asked for a waiver of the marker at an index. It replaces an earlier waiver, if there is one:
+    /// [`Waivers::may_ask`] tests that. An index outside the book changes nothing. Constant time; it takes no memory.
     pub fn ask(&mut self, place: usize, asker: Name)
         ensures { self.new ≡ with_asker self.old place asker }
     {
@@ -144,15 +143,15 @@ impl Waivers {
         }
     }
 
-    /// No marker has a place any more, as where the run that they are of is left. It takes no memory.
+    /// Removes the entries of all markers, for example because their run is cancelled. It takes no memory.
     pub fn clear(&mut self)
         ensures { self.new ≡ [] }
     {
         self.places.clear();
     }
 
-    /// Keeps that the user signed the waiver of the marker at a place: [`Waivers::may_sign`] tells whether it may be so.
-    /// Where there is no waiver nothing changes. Constant time; it takes no memory.
+    /// Enters that the user signed the waiver of the marker at an index: [`Waivers::may_sign`] tests whether that is allowed. If there is
+    /// no waiver, nothing changes. Constant time; it takes no memory.
     pub fn sign(&mut self, place: usize, signer: Name)
         ensures { self.new ≡ with_signer self.old place signer }
     {
@@ -162,7 +161,7 @@ impl Waivers {
     }
 }
 
-/// Keeps that the user signed the waiver, if there is one.
+/// Enters that the user signed the waiver, if there is one.
 fn set_signer(waiver: &mut Option<Waiver>, signer: Name)
     ensures { waiver.new ≡ signed_by signer waiver.old }
 {
@@ -171,7 +170,7 @@ fn set_signer(waiver: &mut Option<Waiver>, signer: Name)
     }
 }
 
-/// Whether there is a waiver that is signed.
+/// Whether there is a signed waiver.
 fn is_signed(waiver: &Option<Waiver>) -> bool
     ensures { result ≡ is_signed waiver.now }
 {

@@ -1,4 +1,4 @@
--- The instances of an array, and how far they are.
+-- The instances of an array, and their displacements.
 use Rattle.std.proofs.Common.{◌≡◌, ◌<◌, ℕ, suc, ℤ, pos, negsuc, neg_ℤ, ◌*◌, ◌+ℤ◌, ◌*ℤ◌, refl, ap, subst, ◌∙◌, arith, w64, FitsSigned, to_z, of_z}
 use Rattle.std.proofs.lemmas.Int.{ints, to_z-of_z}
 use Rattle.mpw_geom.specs.declared.plane.Point.{Point}

@@ -1,4 +1,4 @@
--- Where the box of a flat list is near, each of its shapes is close; and a placing that takes a close shape to a close one is short.
+-- If the box of a flat list is near, each of its shapes is close; and a placing that takes a close shape to a close one is short.
 use Rattle.std.proofs.Common.{◌≡◌, ℕ, zero, suc, Bool, true, false, if◌then◌else◌, ℤ, neg_ℤ, ◌+ℤ◌, List, [], ◌∷◌, map, Option, Some, None, refl, sym, ap, subst, ◌∙◌, arith}
 use Rattle.std.specs.Prelude.{option_map, All, IfSome}
 use Rattle.std.proofs.lemmas.Int.{ints, clamps}
@@ -207,7 +207,7 @@ items_close items d near =
         λ k d' lt. let h = covers box some k d' lt in
         record { corner = h.corner; is = h.is; close = close_in box _ near h.covered }
 
--- the flat list of an extent that is near where it is placed
+-- the flat list of an extent whose image is near
 placed_in : (t : Placing) (box : Box2) (p : Point) → PointIn box p
     → PointIn (placed_box t box) (placed_point t p)
 unfolding placed_box
@@ -239,7 +239,7 @@ placed_close t items d near =
               (close_in (placed_box t box) _ near (placed_in t box _ h.covered));
         }
 
--- ---- a near box that is near where it is placed
+-- ---- a near box whose image is near
 
 pub near_corners : (b : Box2) → is_box_near b ≡ true → IsClosePoint (record { x = b.x0; y = b.y0 })
     × IsClosePoint (record { x = b.x1; y = b.y1 })

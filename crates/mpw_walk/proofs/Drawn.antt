@@ -1,4 +1,4 @@
--- Each shape of a flat list has a box, where all libraries are as reading gives them.
+-- Each shape of a flat list has a box, if all libraries are as reading gives them.
 use Rattle.std.proofs.Common.{◌≡◌, ◌≤◌, ℕ, zero, suc, true, List, [], ◌∷◌, ◌++◌, length, get_or, map, Option, Some, None, refl, ap, arith}
 use Rattle.std.specs.Prelude.{All}
 use Rattle.std.specs.List.{flat_map}

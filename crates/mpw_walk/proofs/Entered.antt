@@ -1,4 +1,4 @@
--- What a structure shows that is entered at its front.
+-- The content of a structure that is entered at its front.
 use Rattle.std.proofs.Common.{◌≡◌, ℕ, ◌*◌, ◌<◌, ◌≤◌, List, [], ◌∷◌, ◌++◌, length, map, take, Option, Some, None, refl, sym, ap, subst, ◌∙◌, arith}
 use Rattle.std.specs.Prelude.{slice_get}
 use Rattle.std.specs.List.{flat_map}
@@ -101,7 +101,7 @@ module _ (ss : List Submission) (n : ℕ) (s : Submission) (is : slice_get ss n 
       (law.own ss n s structure node name
       (own_name nodes k node structure name w at here place)).items
 
-  -- its size, by any name of its place
+  -- its size, by any name of its index
   pub own_size : NamesAreWalked → (nodes : List Node) (k : ℕ) (node : Node) (name : List ℕ)
       → AreNodesOf before levels s nodes → slice_get nodes k ≡ Some node
       → place_of s.library name ≡ Some node.structure

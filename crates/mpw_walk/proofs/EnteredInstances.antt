@@ -1,4 +1,4 @@
--- A step that enters an instance, or passes over it.
+-- A step that enters an instance, or skips it.
 use Rattle.std.proofs.Common.{◌≡◌, ◌+◌, ◌<◌, ◌≤◌, Bool, true, false, List, [], ◌∷◌, ◌++◌, length, map, take, Option, sym, ap, subst, ◌∙◌, arith, append_assoc}
 use Rattle.std.specs.Prelude.{All, option_map}
 use Rattle.std.proofs.lemmas.Option.{slice_get_within}
@@ -39,7 +39,7 @@ use Rattle.mpw_walk.proofs.Targets.{next_shows}
 use Rattle.mpw_walk.proofs.FrameStacks.{left_more, IsEach, each_front, each_push}
 use Rattle.mpw_walk.proofs.Steps.{Comes, ahead, passes, enters, last_frame, last_low}
 
--- how the next instance of a frame is placed, and its placed extent
+-- the placing of the next instance of a frame, and its placed extent
 abbrev pub next_placing : Frame → Reference → Placing
 next_placing f r = placed_again f.placing (instance r f.row f.column)
 
@@ -48,7 +48,7 @@ extent_there ss f r =
     option_map (placed_box (next_placing f r))
     (extent_of (given (named_turns ss f.submission r.name)))
 
--- the turns that the instance shows, placed
+-- the turns of the instance's content, placed
 abbrev shown_there : List Submission → Frame → Reference → List Turn
 shown_there ss f r = map (placed_turn (next_placing f r)) (named_turns ss f.submission r.name)
 
@@ -115,7 +115,7 @@ module _ (law : NamesAreWalked) (v : Way) (f : Frame) (w : IsWay v (v.frames.ite
       at_array : IsAt law.extents v.shelf.now v.window target r f
       at_array = record { frame = last_frame v f w; next = x; over = over; some = some_turns }
 
-      -- what misses the window is passed over
+      -- what misses the window is skipped
       passes_over : (h : Frame) → Passes v.shelf.now v.window f h → (stack : Stack)
           → stack.items ≡ v.frames.items ++ h ∷ []
           → Comes steps.On v (v.frames.items ++ f ∷ []) (record v { frames = stack })
@@ -244,7 +244,7 @@ module _ (law : NamesAreWalked) (v : Way) (f : Frame) (w : IsWay v (v.frames.ite
               length-append v.frames.items (f ∷ []),
             ))
 
-        -- an instance that misses the window is passed over, with all that it shows, and with those that a step by division leaves out
+        -- an instance that misses the window is skipped, with all its content, and with those that a step by division leaves out
         pub misses_instances : is_in v.window (option_map (placed_box p) g.node.now.size.extent)
             ≡ false → (h : Frame)
             → Skips f r (option_map (placed_box p) g.node.now.size.extent) v.window h

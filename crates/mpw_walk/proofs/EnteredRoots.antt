@@ -1,4 +1,4 @@
--- A step that enters a root, or passes over it.
+-- A step that enters a root, or skips it.
 use Rattle.std.proofs.Common.{◌≡◌, ℕ, zero, suc, ◌+◌, ◌<◌, ◌≤◌, Bool, true, false, List, [], ◌∷◌, ◌++◌, length, map, take, Option, Some, refl, sym, ap, subst, ◌∙◌, arith}
 use Rattle.std.specs.Prelude.{slice_get, All, option_map}
 use Rattle.std.specs.List.{flat_map}
@@ -40,7 +40,7 @@ within_some [] k h = absurd (omega (arith, h))
 within_some (x ∷ xs) zero h = (x, refl)
 within_some (x ∷ xs) (suc k) h = within_some xs k (omega (arith, h))
 
--- the turns of the roots behind the next, and the placed extent of a root
+-- the turns of the roots after the next, and the placed extent of a root
 abbrev behind_root : Way → List Turn
 behind_root v = left_of v.shelf.now v.roots.now (v.root + 1) []
 
@@ -48,7 +48,7 @@ abbrev extent_there : List Submission → Root → Option Box2
 extent_there ss r =
     option_map (placed_box r.placing) (extent_of (given (turns_of ss r.submission)))
 
--- what a root shows, placed
+-- the content of a root, placed
 abbrev shown_there : List Submission → Root → List Turn
 shown_there ss r = map (placed_turn r.placing) (turns_of ss r.submission)
 
@@ -97,7 +97,7 @@ module _ (law : NamesAreWalked) (v : Way) (w : IsWay v []) (empty : v.frames.ite
         ap given turns_are
         ∙ (named_give v.shelf.now r.submission of.0 of.1 of.0.top).items_given
 
-    -- it shows nothing
+    -- it has no shapes
     pub passes_root : g.node.now.size.count ≡ 0 → Comes steps.On v [] (record v { root = v.root + 1 })
     passes_root none_shown =
         let none : top_list ≡ [] =
@@ -108,7 +108,7 @@ module _ (law : NamesAreWalked) (v : Way) (w : IsWay v []) (empty : v.frames.ite
         (root_left ∙ ap (λ ts. entered ts r.placing ++ behind_root v) empty_turns) refl
         (omega (arith, root_within))
 
-    -- it shows something
+    -- it has shapes
     module _ (some : 0 < g.node.now.size.count) where
       some_items : 0 < length top_list
       some_items = omega (arith, here.size.count, some)
@@ -177,7 +177,7 @@ module _ (law : NamesAreWalked) (v : Way) (w : IsWay v []) (empty : v.frames.ite
           (missed_left ∙ ap (λ turns. enter (extent_there v.shelf.now r) ∷ turns) (sym left))
           (told true met) (omega (arith, root_within))
 
-      -- a root that misses the window is passed over, with all that it shows
+      -- a root that misses the window is skipped, with all its content
       pub misses_root : is_in v.window (option_map (placed_box r.placing) g.node.now.size.extent)
           ≡ false → Comes steps.On v [] (record v { root = v.root + 1 })
       misses_root missed =

@@ -20,7 +20,7 @@ abbrev dot : Element
 dot =
     elements.Boundary (record { layer = record { layer = 1; datatype = 0 }; points = at 0 0 ∷ [] })
 
--- an array of so many columns and rows of a name
+-- an array of a name, with its columns and rows
 abbrev array : ℕ → ℕ → List ℕ → Element
 array columns rows name = elements.Reference (record {
   name = name;
@@ -35,7 +35,7 @@ array columns rows name = elements.Reference (record {
 abbrev one : ℕ → List Element → Structure
 one name elements = record { name = name ∷ []; elements = elements }
 
--- submission 0 shows a dot; submission 1 an empty cell, an array of submission 0 in two columns and three rows, and a dot
+-- submission 0 has a dot; submission 1 an empty cell, an array of submission 0 in two columns and three rows, and a dot
 abbrev shelf : List Submission
 shelf =
     record {
@@ -63,7 +63,7 @@ roots = record { submission = 1; placing = record { orient = R90; by = at 1000 0
 abbrev shown_at : Item → ℕ × Point
 shown_at i = (i.origin, i.placing.by)
 
--- its own dot comes first, and then the array row by row, the column running fastest, each turned and moved
+-- its own dot comes first, and then the array row by row, with the column running fastest, each turned and displaced
 pub seven_items : map shown_at (flat_roots shelf roots) ≡ (1, at 1000 0) ∷ (0, at 1000 0)
     ∷ (0, at 1000 10) ∷ (0, at 900 0) ∷ (0, at 900 10) ∷ (0, at 800 0) ∷ (0, at 800 10) ∷ []
 unfolding flat_roots flats from_first by_levels instances placed_again placed_point oriented_point

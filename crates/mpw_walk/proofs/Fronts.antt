@@ -1,4 +1,4 @@
--- The frame of a node before any of its turns.
+-- The frame of a node before its first turn.
 use Rattle.std.proofs.Common.{◌≡◌, ◌<◌, ℕ, List, length, get_or, take, Option, Some, None, refl, sym, ap, subst, ◌∙◌, arith}
 use Rattle.std.specs.Prelude.{slice_get, All, IfSome, is_some, nat_lt, true, false, ◌≤◌}
 use Rattle.std.proofs.lemmas.Bool.Decides.{nat_tests}
@@ -71,7 +71,7 @@ front_is ss number nodes place f w structure at named near number_is nodes_are e
       column = column;
     }
 
--- the same structure, at other places within its elements and arrays, or placed elsewhere
+-- the same structure, at another position within its elements and arrays, or with another placing
 pub frame_at : (ss : List Submission) (f : Frame) → IsFrame ss f
     → (shape child row column : ℕ) (placing : Placing)
     → ((c : Child) (r : Reference) → slice_get f.node.now.children.items child ≡ Some c
@@ -92,7 +92,7 @@ frame_at ss f q shape child row column placing within near = record {
   near = near;
 }
 
--- what `get` gives
+-- the result of `get`
 pub got : {X : Type 0} (xs : List X) (k : ℕ) (o : Option (Bor X)) (x : Bor X) → o ≡ Some x
     → IfSome o (λ (y : Bor X). y.now ≡ get_or xs k y.now) → k < length xs
     → slice_get xs k ≡ Some x.now

@@ -99,7 +99,7 @@ grows_with : (ns : List ℕ) (n m : ℕ) → n ≤ m → fold max n ns ≤ fold 
 grows_with [] n m h = h
 grows_with (k ∷ ns) n m h = grows_with ns (max n k) (max m k) (omega arith)
 
--- what holds of the references of elements by their heights, a bound of which holds for each
+-- what holds for the references of elements by their heights, each of which is bounded
 pub references_few : (k : ℕ) (es : List Element) (turns : List ℕ → List Turn)
     (items : List ℕ → List Item) (levels : List ℕ → ℕ)
     → ((name : List ℕ) → length (turns name) ≤ levels name * length (items name))

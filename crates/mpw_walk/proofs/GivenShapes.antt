@@ -1,4 +1,4 @@
--- A step that gives a frame's next shape, or passes over it.
+-- A step that gives a frame's next shape, or skips it.
 use Rattle.std.proofs.Common.{◌≡◌, ◌+◌, ◌<◌, true, false, [], ◌∷◌, ◌++◌, length, Some, refl, sym, ap, subst, ◌∙◌, arith}
 use Rattle.std.specs.Prelude.{slice_get, slice_index}
 use Rattle.std.proofs.lemmas.List.{length-append}
@@ -28,13 +28,13 @@ use Rattle.mpw_walk.proofs.Taken.{taken_out}
 use Rattle.mpw_walk.proofs.FrameStacks.{left_more, IsEach, each_front, each_push}
 use Rattle.mpw_walk.proofs.Steps.{Comes, ahead, passes, gives, last_frame, last_low}
 
--- the frame behind its next shape
+-- the frame after its next shape
 abbrev pub behind_shape : Frame → Frame
 behind_shape f = record f { shape = f.shape + 1 }
 
 module _ (law : NamesAreWalked) (v : Way) (f : Frame) (w : IsWay v (v.frames.items ++ f ∷ []))
     (h : f.shape < length f.node.now.shapes) (placed : Placed) (shape : IsShape f placed) where
-  -- what its test asks for
+  -- the precondition of its test
   pub given_near : IsExtentNear (element_box placed.element.now)
   given_near =
       shape_near law v.shelf.now f (last_frame v f w) placed.element.now h shape.element
@@ -92,7 +92,7 @@ module _ (law : NamesAreWalked) (v : Way) (f : Frame) (w : IsWay v (v.frames.ite
         gives v (v.frames.items ++ f ∷ []) w v.root (v.frames.items ++ behind_shape f ∷ []) w.begun
         behind_each stack is placed given_placeable given_left met
 
-    -- a shape that misses the window is passed over
+    -- a shape that misses the window is skipped
     pub passes_shape : is_taken v.window (give (item_of placed)) ≡ false
         → Comes steps.On v (v.frames.items ++ f ∷ []) (record v { frames = stack })
     passes_shape missed =

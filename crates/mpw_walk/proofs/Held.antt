@@ -27,7 +27,7 @@ use Rattle.mpw_walk.proofs.Related.{Related, none, related_at, numbers_related, 
 
 -- ---- items in a row
 
--- a box is the extent of some of the items, one behind another
+-- a box is the extent of some consecutive items
 pub record IsPart (box : Option Box2) (items : List Item) : Type 0 where
   pub before : List Item
   pub shown : List Item
@@ -170,7 +170,7 @@ module _ (placed : ExtentsArePlaced) where
 
   -- ---- submissions
 
-  -- the first of three lists, as lemmas on what is shown have it
+  -- the first of three lists, in the form that lemmas about contents need
   abbrev AreHeld : List Turn → List Turn → List Turn → Type 0
   AreHeld a b c = Holds a
 

@@ -1,4 +1,4 @@
--- What every shelf keeps to.
+-- The properties of every shelf.
 use Rattle.std.proofs.Common.{ℕ, ◌≤◌, ◌^◌, List, get_or}
 use Rattle.std.proofs.lemmas.Option.{slice_get-get_or}
 use Rattle.mpw_hier.specs.declared.submission.Submission.{Submission}

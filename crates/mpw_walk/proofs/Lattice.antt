@@ -1,4 +1,4 @@
--- Where the instances of an array stand as a frame is placed: in steps of one length along their columns and their rows.
+-- The positions of the instances of an array as a frame is placed: at equal steps along their columns and their rows.
 use Rattle.std.proofs.Common.{◌≡◌, ℕ, ◌+◌, suc, ℤ, pos, negsuc, ◌+ℤ◌, ◌-ℤ◌, ◌*ℤ◌, neg_ℤ, refl, sym, ap, ◌∙◌, arith}
 use lib.IntN.{neg_ℤ-+ℤ}
 use Rattle.std.specs.Int.{int_min, int_max}
@@ -25,7 +25,7 @@ more_steps a b (negsuc c) = let e = add-mul a b (suc c) in omega (arith, ints, e
 
 -- ---- points
 
--- steps go with an orientation
+-- steps commute with an orientation
 module _ (n : ℕ) where
   once : (a s : ℤ) → neg_ℤ (a +ℤ (pos n *ℤ s)) ≡ neg_ℤ a +ℤ (pos n *ℤ neg_ℤ s)
   once a s = neg_ℤ-+ℤ a (pos n *ℤ s) ∙ ap (λ z. neg_ℤ a +ℤ z) (sym (back_steps n s))

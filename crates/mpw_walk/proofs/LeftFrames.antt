@@ -1,4 +1,4 @@
--- A step that leaves a frame behind its last turn.
+-- A step that leaves a frame after its last turn.
 use Rattle.std.proofs.Common.{◌≡◌, ◌≤◌, [], ◌∷◌, ◌++◌, length, None, refl, ap, ◌∙◌, arith}
 use Rattle.std.specs.Prelude.{slice_get}
 use Rattle.std.proofs.lemmas.List.{length-append}

@@ -1,4 +1,4 @@
--- The turn that enters an instance carries its placed extent, and where that misses a window no turn behind it meets it.
+-- The turn that enters an instance has its placed extent. If that misses a window, no turn after it touches the window.
 use Rattle.std.proofs.Common.{◌≡◌, ◌<◌, false, List, [], ◌∷◌, length, map, Some, refl, ap, ◌∙◌, arith}
 use Rattle.std.specs.Prelude.{option_map}
 use Rattle.mpw_geom.specs.declared.plane.Box2.{Box2}

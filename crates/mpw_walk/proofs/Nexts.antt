@@ -1,4 +1,4 @@
--- The next turn of a frame, and the frame behind it.
+-- The next turn of a frame, and the frame after it.
 use Rattle.std.proofs.Common.{◌≡◌, ℕ, zero, suc, ◌+◌, ◌<◌, ◌≤◌, Bool, true, false, List, [], ◌∷◌, ◌++◌, length, get_or, map, take, drop, Some, None, refl, sym, ap, subst, ◌∙◌, arith, append_assoc, nat_lt, if◌then◌else◌}
 use Rattle.std.specs.Prelude.{slice_get, slice_index, All, option_map}
 use Rattle.std.specs.List.{flat_map}
@@ -89,7 +89,7 @@ shape_next ss f e h is =
 
 -- ---- children
 
--- behind an instance the frame is at the next column, the next row, or the next child
+-- after an instance the frame is at the next column, the next row, or the next child
 pub behind_cases : (f : Frame) (r : Reference) (P : Frame → Type 0)
     → (f.column + 1 < r.columns → P (record f { column = f.column + 1 }))
     → (r.columns ≤ f.column + 1 → f.row + 1 < r.rows → P (record f { row = f.row + 1; column = 0 }))
@@ -215,7 +215,7 @@ frame_over ss f h none =
     shapes_over ss f h ∙ rw (drop_all f.child f.node.now.children.items
     (none_past f.node.now.children.items f.child none)) refl
 
--- an instance is entered that shows something
+-- an instance that has shapes is entered
 pub instance_next : (again : BoxesArePlacedAgain) (ss : List Submission) (f : Frame)
     (q : IsFrame ss f) (target : Target) (r : Reference) → IsNext f target r
     → length f.node.now.shapes ≤ f.shape

@@ -1,4 +1,4 @@
--- What a walk within a window passes over: one instance that misses it, columns of a row, or rows.
+-- What a walk within a window skips: one instance that misses it, columns of a row, or rows.
 use Rattle.std.proofs.Common.{◌≡◌, ℕ, zero, suc, ◌+◌, ◌-◌, ◌<◌, ◌≤◌, Bool, true, false, List, [], ◌∷◌, ◌++◌, length, map, Option, Some, None, inl, inr, refl, sym, ap, subst, ◌∙◌, arith, append_assoc, nat_lt, if◌then◌else◌}
 use Rattle.std.specs.Prelude.{option_map}
 use Rattle.std.proofs.lemmas.Bool.Decides.{nat_tests}
@@ -22,7 +22,7 @@ use Rattle.mpw_walk.proofs.Lattice.{there, columns_on, rows_on}
 use Rattle.mpw_walk.proofs.Nexts.{behind_frame, behind_cases, instance_next}
 use Rattle.mpw_walk.proofs.Taken.{taken_out, missed_taken, taken_append}
 
--- the extent of the instance of a row and a column, placed
+-- the extent of the instance in a row and a column, placed
 abbrev pub extent_at : List Submission → Frame → Reference → (row column : ℕ) → Option Box2
 extent_at ss f r row column =
     option_map (placed_box (placed_again f.placing (instance r row column)))
@@ -50,12 +50,12 @@ passes_on ss window f g h a b = record {
   low = b.low ∙ a.low;
 }
 
--- ---- what frames at one child are behind
+-- ---- what frames at one child come after
 
 not_less : (n m : ℕ) → m ≤ n → nat_lt n m ≡ false
 not_less n m le = grind (arith, nat_tests)
 
--- the last column is passed over with the row
+-- the last column is skipped with the row
 row_end : (f : Frame) (r : Reference) (n : ℕ) → r.columns ≤ f.column + n
     → behind_columns f r n ≡ behind_rows f r 1
 row_end f r n le =
@@ -112,7 +112,7 @@ module _ (law : ExtentsAreWalked) (ss : List Submission) (window : Option Box2) 
             (λ _. refl) (λ _ _. refl) (λ _ _. refl);
       }
 
-  -- a frame at another place of the array
+  -- a frame at another position of the array
   at_place : (f : Frame) → IsAt f → (row column : ℕ)
       → IsFrame ss (record f { row = row; column = column })
       → IsAt (record f { row = row; column = column })
@@ -123,7 +123,7 @@ module _ (law : ExtentsAreWalked) (ss : List Submission) (window : Option Box2) 
     some = a.some;
   }
 
-  -- with the columns behind the first one
+  -- with the columns after the first one
   more_columns : (n : ℕ) (f : Frame) → IsAt f → Passes ss window f (behind_instance f r)
       → ((g : Frame) → IsAt g → ((k : ℕ) → k ≤ n → MissedAt g g.row (g.column + k))
       → Passes ss window g (behind_columns g r (n + 1)))
@@ -174,7 +174,7 @@ module _ (law : ExtentsAreWalked) (ss : List Submission) (window : Option Box2) 
       subst (Passes ss window f) (row_end f r (many + 1) (omega (arith, place.1)))
       (pass_columns many f a (λ k le. missed (f.column + k)))
 
-  -- with the rows behind the first one
+  -- with the rows after the first one
   more_rows : (n : ℕ) (f : Frame) → IsAt f → Passes ss window f (behind_rows f r 1)
       → ((g : Frame) → IsAt g → ((k column : ℕ) → k ≤ n → MissedAt g (g.row + k) column)
       → Passes ss window g (behind_rows g r (n + 1)))

@@ -1,4 +1,4 @@
--- Placings one behind another, and what they place.
+-- Placings in sequence, and what they place.
 use Rattle.std.proofs.Common.{◌≡◌, pos, negsuc, ◌+ℤ◌, refl, sym, ap, ◌∙◌, arith, List, [], ◌∷◌, map, Option, Some, None, if◌then◌else◌}
 use Rattle.std.specs.Prelude.{int_lt, option_map}
 use Rattle.std.proofs.lemmas.Int.{ints}
@@ -17,7 +17,7 @@ use Rattle.mpw_walk.specs.Turns.{Turn, enter, give, placed_turn}
 
 -- ---- orientations
 
--- an orientation is known by where it takes one point
+-- an orientation is determined by its image of one point
 abbrev probe : Point
 probe = record { x = pos 1; y = pos 2 }
 
@@ -80,7 +80,7 @@ then_is inner outer result by points =
         ∙ ap (λ (d : Point). moved_point d
         (oriented_point (by_orient mirrored turned outer.orient inner.orient) p)) (sym by)
 
--- where a shape stands that is placed by its structure's placing alone
+-- the position of a shape that is placed by its structure's placing alone
 abbrev pub here : Placing
 here = record { orient = R0; by = record { x = pos 0; y = pos 0 } }
 

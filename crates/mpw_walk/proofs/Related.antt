@@ -1,4 +1,4 @@
--- Three things that a structure shows stay related from its targets up, and from the first submission on.
+-- Three properties of a structure stay related from its targets up, and from the first submission on.
 use Rattle.std.proofs.Common.{◌≡◌, ℕ, zero, suc, List, [], ◌∷◌, ◌++◌, length, get_or, Option, Some, None, refl, ap}
 use Rattle.mpw_structures.specs.declared.structures.Structure.{Structure}
 use Rattle.mpw_hier.specs.declared.submission.Submission.{Submission}
@@ -6,7 +6,7 @@ use Rattle.mpw_hier.specs.Structures.{structure_of}
 use Rattle.mpw_hier.specs.Levels.{at_structure, by_levels}
 use Rattle.mpw_hier.specs.Values.{from_first, at_number}
 
--- lists of one length whose elements are related place by place
+-- lists of one length whose elements are related index by index
 pub data Related {A B C : Type 0} (R : A → B → C → Type 0) : List A → List B → List C → Type 0 where
   none : Related R [] [] []
   more : {a : A} {b : B} {c : C} {xs : List A} {ys : List B} {zs : List C} → R a b c

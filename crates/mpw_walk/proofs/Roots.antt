@@ -1,4 +1,4 @@
--- What roots show, by what their submissions show.
+-- The content of roots, by the content of their submissions.
 use Rattle.std.proofs.Common.{◌≡◌, ℕ, ◌<◌, List, [], ◌∷◌, ◌++◌, length, map, Option, Some, None, refl, sym, ap, subst, ◌∙◌, arith, append-nil}
 use Rattle.std.specs.Prelude.{All, IfSome, option_map, true, ◌↔◌}
 use Rattle.std.specs.List.{flat_map}
@@ -23,7 +23,7 @@ use Rattle.mpw_walk.specs.Walk.{IsRoot}
 use Rattle.mpw_walk.specs.Roots.{root_at_origin, roots_extent, roots_count}
 use Rattle.mpw_walk.proofs.Placings.{same_placing, here}
 
--- ---- where a submission was drawn
+-- ---- the position where a submission was drawn
 
 here_placed : (t : Placing) → placed_again here t ≡ t
 unfolding placed_again placed_point oriented_point
@@ -60,7 +60,7 @@ unmoved_fits limits placed ss shelf number lt =
           (limits ss shelf number).near);
     }
 
--- ---- where shapes come from
+-- ---- the origins of shapes
 
 pub roots_origins : ShapesAreOfEarlier → (ss : List Submission) (roots : List Root)
     → All (λ (i : Item). i.origin < length ss) (flat_roots ss roots)
@@ -97,7 +97,7 @@ roots_stay stay ss later (root ∷ roots) h =
     let one = (stay ss later root.submission (All-head (IsRoot ss) root roots h).present).shapes in
     rw (one, roots_stay stay ss later roots (All-tail (IsRoot ss) root roots h)) refl
 
--- ---- how much roots show
+-- ---- the size of roots
 
 pub roots_reach : ExtentsAreJoined → ExtentsArePlaced → (ss : List Submission) (roots : List Root)
     → extent_of (flat_roots ss roots) ≡ roots_extent ss roots

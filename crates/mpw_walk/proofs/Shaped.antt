@@ -1,4 +1,4 @@
--- A flat list has boundaries and paths alone.
+-- A flat list consists of boundaries and paths.
 use Rattle.std.proofs.Common.{◌≡◌, ℕ, true, List, [], ◌∷◌, length, map, refl}
 use Rattle.std.specs.Prelude.{All}
 use Rattle.std.proofs.lemmas.List.Elements.{All-nil, All-cons, All-append, All-map}
@@ -19,7 +19,7 @@ use Rattle.mpw_walk.proofs.Related.{Related, none, related_at, numbers_related, 
 abbrev IsOfShape : Item → Type 0
 IsOfShape i = is_shape i.element ≡ true
 
--- the first of three lists, as lemmas on what is shown have it
+-- the first of three lists, in the form that lemmas about contents need
 abbrev AreOfShapes : List Item → List Item → List Item → Type 0
 AreOfShapes xs ys zs = All IsOfShape xs
 

@@ -1,4 +1,4 @@
--- The turns of a structure by the places of its shapes, and by its children.
+-- The turns of a structure by the indices of its shapes, and by its children.
 use Rattle.std.proofs.Common.{◌≡◌, ℕ, zero, suc, ◌+◌, ◌-◌, ◌<◌, ◌≤◌, true, List, [], ◌∷◌, ◌++◌, length, map, Some, refl, sym, ap, subst, ◌∙◌, arith, append_assoc}
 use Rattle.std.specs.Prelude.{slice_get}
 use Rattle.std.specs.List.{flat_map, range_with_len}
@@ -175,7 +175,7 @@ instances_front r h =
     let e : r.rows - 0 ≡ r.rows = omega arith in
     row_front r 0 h ∙ ap (λ n. flat_map (row_of r) (range_with_len 0 n)) e
 
--- behind an instance: the next column, the next row, or none
+-- after an instance: the next column, the next row, or none
 pub next_column : (r : Reference) (row column : ℕ) → column < r.columns
     → instances_from r row column ≡ instance r row column ∷ instances_from r row (column + 1)
 next_column r row column h = ap (λ ts. ts ++ rows_from r (row + 1)) (columns_more r row column h)

@@ -1,4 +1,4 @@
--- What a frame at its front shows: the turns of a name and their size.
+-- The content of a frame at its front: the turns of a name and their size.
 use Rattle.std.proofs.Common.{◌≡◌, ℕ, ◌-◌, ◌<◌, List, ◌++◌, length, take, drop, Some, None, refl, sym, ap, subst, ◌∙◌, arith}
 use Rattle.std.specs.Prelude.{slice_get}
 use Rattle.std.proofs.lemmas.Option.{slice_get_within}
@@ -85,7 +85,7 @@ outer_turns law ss n s is name m t missing bound lt at =
     (record { is = is; outside = missing; bound = bound; earlier = lt; to_is = at })
     ∙ sym (named_is ss m t at t.top)
 
--- what a name shows that is bound to an earlier submission
+-- the content of a name that is bound to an earlier submission
 pub outer_shows : (law : NamesAreWalked) (ss : List Submission) (n : ℕ) (s : Submission)
     → slice_get ss n ≡ Some s → (name : List ℕ) (m : ℕ) (t : Submission)
     → IsOuter s (length (flats (take n ss))) name m → slice_get ss m ≡ Some t → (g : Frame)
@@ -117,7 +117,7 @@ pub top_turns : (law : NamesAreWalked) (ss : List Submission) (n : ℕ) (s : Sub
 unfolding all_turns
 top_turns law ss n s is = law.top_turns_are ss n s is ∙ sym (named_is ss n s is s.top)
 
--- the same, placed elsewhere
+-- the same, with another placing
 pub placed_shows : (ss : List Submission) (n : ℕ) (s : Submission) (name : List ℕ) (g : Frame)
     (p : Placing) → Shows ss n s name g → IsWithin p.by
     → Shows ss n s name (record g { placing = p })

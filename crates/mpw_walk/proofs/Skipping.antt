@@ -1,4 +1,4 @@
--- Steps that are shorter than a gap, and the boxes of an array that so miss a window.
+-- Steps that are shorter than a gap, and the boxes of an array that therefore miss a window.
 use Rattle.std.proofs.Common.{◌≡◌, ℕ, zero, suc, ◌+◌, ◌-◌, ◌*◌, ◌/◌, ◌<◌, ◌≤◌, max, Bool, true, false, ◌&&◌, ◌⊎◌, inl, inr, ℤ, pos, negsuc, neg_ℤ, ◌+ℤ◌, ◌-ℤ◌, ◌*ℤ◌, ◌<ℤ◌, refl, ap, subst, ◌∙◌, arith}
 use Rattle.std.specs.Prelude.{int_le, unsigned_abs}
 use Rattle.std.specs.Int.{int_min, int_max}

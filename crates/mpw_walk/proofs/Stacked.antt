@@ -1,4 +1,4 @@
--- A stack whose frames stand in the first places of an array.
+-- A stack whose frames are in the first places of an array.
 use Rattle.std.proofs.Common.{◌≡◌, ◌<◌, ◌+◌, ◌++◌, ℕ, suc, true, true≢false, List, [], ◌∷◌, length, take, Option, Some, None, refl, sym, subst, ap, ◌∙◌, arith}
 use Rattle.std.specs.Prelude.{is_some, slice_set}
 use Rattle.std.specs.List.{AllPass, flat_map}
@@ -19,7 +19,7 @@ as_many {X} (None ∷ places) all = absurd (true≢false (sym (all 0 None (omega
 -- A stack with fewer frames than places.
 module _ (stack : Stack) (places : List (Option Frame)) (taken : ℕ) (ok : AreFrames places taken)
     (is : stack_of places taken ≡ stack) (few : length stack.items < 64) where
-  -- The place behind those that are taken is one of the array.
+  -- The place after those in use is one of the array.
   pub is_place : taken < length places
   is_place =
       let same : length (stack_of places taken).items ≡ length stack.items =
@@ -28,7 +28,7 @@ module _ (stack : Stack) (places : List (Option Frame)) (taken : ℕ) (ok : AreF
       as_many (take taken places) ok.2 ∙ length-take-le taken places (omega (arith, ok.0, ok.1)) in
       omega (arith, few, same, many, ok.0)
 
-  -- A frame put there stands behind the others.
+  -- A frame put there comes after the others.
   pub put_behind : (frame : Frame)
       → (stack_of (slice_set places taken (Some frame)) (taken + 1)).items
       ≡ stack.items ++ frame ∷ []
@@ -38,7 +38,7 @@ module _ (stack : Stack) (places : List (Option Frame)) (taken : ℕ) (ok : AreF
       ∙ flat_map-append (option_to_list {X = Frame}) (take taken places) (Some frame ∷ [])
       ∙ ap (λ (s : Stack). s.items ++ frame ∷ []) is
 
-  -- Then again each place that is taken holds a frame.
+  -- Then again each place in use has a frame.
   pub all_with : (frame : Frame) → AreFrames (slice_set places taken (Some frame)) (taken + 1)
   all_with frame = (
     length-set places taken (Some frame) ∙ ok.0,

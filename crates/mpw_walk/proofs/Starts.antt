@@ -33,7 +33,7 @@ pub start_taken : (window : Option Box2) (ss : List Submission) (roots : List Ro
     → left_in window ss roots 0 [] ≡ taken window (roots_turns ss roots)
 start_taken window ss roots = ap (taken window) (start_left ss roots)
 
--- all turns are taken without a window, and with one those that meet it
+-- all turns are taken without a window; with one, those that touch it
 pub all_given : (ss : List Submission) (roots : List Root)
     → given (taken None (roots_turns ss roots)) ≡ flat_roots ss roots
 all_given ss roots = ap given (taken_all (roots_turns ss roots)) ∙ roots_given ss roots
@@ -133,7 +133,7 @@ none_given [] e = refl
 none_given (enter x ∷ turns) e = none_given turns e
 none_given (give i ∷ turns) e = absurd cc
 
--- nothing is to come, and what went before gave nothing
+-- nothing is left, and what went before gave nothing
 pub record IsEnd (a c : Walked) : Type 0 where
   pub none : given a.left ≡ []
   pub behind : c.left ≡ behind_first a.left

@@ -1,4 +1,4 @@
--- What a step does to a way: it passes over the turns in front, or takes the first of them.
+-- The effect of a step: it skips the turns in front, or takes the first of them.
 use Rattle.std.proofs.Common.{◌≡◌, ℕ, suc, ◌+◌, ◌-◌, ◌*◌, ◌<◌, ◌≤◌, ◌^◌, true, List, [], ◌∷◌, ◌++◌, length, Option, sym, ap, subst, ◌∙◌, arith}
 use Rattle.std.specs.Prelude.{All}
 use Rattle.std.proofs.lemmas.List.{length-append}
@@ -24,16 +24,16 @@ use Rattle.mpw_walk.proofs.Reach.{all_right}
 use Rattle.mpw_walk.proofs.Taken.{taken_in, taken_append}
 use Rattle.mpw_walk.proofs.FrameStacks.{IsEach, each_last}
 
--- the way behind a step, and what the step did
+-- the path after a step, and the result of the step
 pub record Comes (step : Step) (v : Way) (frames : List Frame) (n : Way) : Type 0 where
   pub way : IsWay n n.frames.items
   pub does : Does step v frames n
 
--- all turns to come of a way with these frames
+-- all remaining turns of a path with these frames
 abbrev pub ahead : Way → List Frame → List Turn
 ahead v frames = left_of v.shelf.now v.roots.now v.root frames
 
--- the same way at another root, with other frames
+-- the same path at another root, with other frames
 abbrev pub gone : Way → ℕ → List Frame → Way
 gone v root frames = record v { root = root; frames = record { items = frames } }
 

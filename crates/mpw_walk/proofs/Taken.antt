@@ -19,7 +19,7 @@ use Rattle.mpw_walk.specs.Window.{do_meet, is_met, turn_box, items_met, turns_me
 use Rattle.mpw_walk.proofs.Given.{given_placed}
 use Rattle.mpw_walk.proofs.Held.{IsTurnIn, Holds, holds_placed, turns_held}
 
--- ---- boxes that meet
+-- ---- boxes that touch
 
 abbrev Meet : Box2 → Box2 → Type 0
 Meet a b = (p : Point) × IsTrue (has_point a p) × IsTrue (has_point b p)
@@ -107,7 +107,7 @@ none_taken w outer missed (turn ∷ turns) h =
     taken_out (Some w) turn turns (missed_within w (turn_box turn) outer inside missed)
     ∙ none_taken w outer missed turns (All-tail (IsTurnIn outer) turn turns h)
 
--- what an instance shows that isn't entered
+-- the content of an instance that isn't entered
 pub missed_taken : (law : ExtentsAreWalked) (window : Option Box2) (t : Placing)
     (turns : List Turn) → Holds turns
     → is_taken window (enter (option_map (placed_box t) (extent_of (given turns)))) ≡ false
@@ -120,7 +120,7 @@ missed_taken law (Some w) t turns h missed =
     none_taken w (extent_of (given there)) (ap (is_met w) whole ∙ missed) there
     (turns_held law there (holds_placed law.placed t turns h))
 
--- the turns that meet a window give the shapes that do
+-- the turns that touch a window give the shapes that do
 pub given_met : (w : Box2) (turns : List Turn)
     → given (turns_met w turns) ≡ items_met w (given turns)
 given_met w [] = refl

@@ -1,4 +1,4 @@
--- What a frame places next: a node that stands before, or the top of an earlier submission.
+-- What a frame places next: an earlier node, or the top of an earlier submission.
 use Rattle.std.proofs.Common.{◌≡◌, ℕ, ◌-◌, ◌<◌, ◌≤◌, List, length, take, Option, Some, sym, ap, subst, ◌∙◌, arith}
 use Rattle.std.specs.Prelude.{slice_get, IfSome}
 use Rattle.std.specs.Borrow.{Bor}
@@ -51,7 +51,7 @@ next_target ss f q target r x =
     subst (λ t. IsTarget q.submission (length (flats (take f.submission ss)))
     (take q.place f.nodes.now) r.name t) x.target_is at
 
--- a node that stands before
+-- an earlier node
 pub own_is : (ss : List Submission) (f : Frame) (q : IsFrame ss f) (target : Target) (r : Reference)
     (x : IsNext f target r) (place : ℕ) → target ≡ targets.Own place
     → IsOwn q.submission (take q.place f.nodes.now) r.name place

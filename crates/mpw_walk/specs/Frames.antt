@@ -1,4 +1,4 @@
--- A structure that a walk has entered, and the turns that are still to come of it.
+-- A structure that a walk has entered, and its remaining turns.
 use Rattle.std.specs.Prelude.{◌≡◌, ◌≤ℤ◌, ◌<◌, ◌^◌, ◌+◌, ◌-◌, ℕ, ℤ, pos, List, [], ◌∷◌, ◌++◌, map, drop, take, slice_get, Option, Some, None, neg_ℤ}
 use Rattle.std.specs.List.{flat_map, range_with_len}
 use Rattle.mpw_geom.specs.declared.plane.Point.{Point}
@@ -16,9 +16,9 @@ use Rattle.mpw_hier.specs.Values.{flats, heights}
 use Rattle.mpw_walk.specs.declared.frame.Frame.{Frame}
 use Rattle.mpw_walk.specs.Turns.{Turn, give, placed_turn, placed_turns, entered, structure_turns, all_turns}
 
--- ---- what is to come
+-- ---- what remains
 
--- The turns of a structure of the submission of a number.
+-- The turns of a structure of the submission with a number.
 abbrev pub turns_at : List Submission → ℕ → Option Submission → List ℕ → List Turn
 turns_at ss number None name = []
 turns_at ss number (Some s) name = structure_turns (all_turns (take number ss)) s name
@@ -26,7 +26,7 @@ turns_at ss number (Some s) name = structure_turns (all_turns (take number ss)) 
 unfoldable pub named_turns : List Submission → ℕ → List ℕ → List Turn
 named_turns ss number name = turns_at ss number (slice_get ss number) name
 
--- Shapes, by their places among the elements.
+-- Shapes, by their indices among the elements.
 abbrev pub shape_turns : ℕ → Option Element → List Turn
 shape_turns number None = []
 shape_turns number (Some e) =
@@ -70,7 +70,7 @@ turns_of_children below es row column (c ∷ cs) =
     instance_turns below row column (slice_get es c.element)
     ++ flat_map (λ (c : Child). reference_turns below (slice_get es c.element)) cs
 
--- What is still to come of a frame's structure, in the structure's own coordinates, and as it is placed.
+-- What remains of a frame's structure, in the structure's own coordinates, and as it is placed.
 unfoldable pub turns_within : List Submission → Frame → List Turn
 turns_within ss f =
     turns_of_shapes f.submission f.elements.now (drop f.shape f.node.now.shapes)
@@ -82,7 +82,7 @@ turns_to_come ss f = map (placed_turn f.placing) (turns_within ss f)
 
 -- ---- frames
 
--- A displacement of 2^31 nm at most.
+-- A displacement of at most 2^31 nm.
 pub record IsShort (z : ℤ) : Type 0 where
   pub low : neg_ℤ (pos (2 ^ 31)) ≤ℤ z
   pub high : z ≤ℤ pos (2 ^ 31)
@@ -91,7 +91,7 @@ pub record IsWithin (p : Point) : Type 0 where
   pub x : IsShort p.x
   pub y : IsShort p.y
 
--- A structure of a submission on the shelf, and places within its elements and arrays.
+-- A structure of a submission on the shelf, and a position within its elements and arrays.
 pub record IsFrame (ss : List Submission) (f : Frame) : Type 0 where
   pub submission : Submission
   pub is : slice_get ss f.submission ≡ Some submission

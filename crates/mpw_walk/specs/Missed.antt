@@ -1,4 +1,4 @@
--- What a walk within a window passes over: an instance whose placed extent misses the window shows nothing that meets it.
+-- What a walk within a window skips: if an instance's placed extent misses the window, none of its content touches the window.
 use Rattle.std.specs.Prelude.{◌≡◌, ◌<◌, ℕ, false, List, [], ◌∷◌, length, map, option_map}
 use Rattle.mpw_geom.specs.declared.plane.Box2.{Box2}
 use Rattle.mpw_geom.specs.declared.placing.Placing.{Placing}
@@ -10,7 +10,7 @@ use Rattle.mpw_walk.specs.Roots.{root_extent}
 use Rattle.mpw_walk.specs.Turns.{enter, placed_turn, entered, structure_turns, all_turns, turns_of, root_turns}
 use Rattle.mpw_walk.specs.Window.{is_met, turns_met}
 
--- The turn that enters a root, or an instance of a structure, carries the extent of what it shows, placed.
+-- The turn that enters a root, or an instance of a structure, has the extent of its content, placed.
 abbrev pub RootsCarryTheirExtents : Type 0
 RootsCarryTheirExtents =
     (ss : List Submission) (root : Root) → 0 < count ss root.submission
@@ -25,7 +25,7 @@ InstancesCarryTheirExtents =
     ≡ enter (option_map (placed_box t) (extent_of (structure_items (flats ss) s name)))
     ∷ map (placed_turn t) (structure_turns (all_turns ss) s name)
 
--- Where it misses the window, no turn of what is shown meets it.
+-- If it misses the window, no turn of its content touches the window.
 abbrev pub MissedRootsShowNothing : Type 0
 MissedRootsShowNothing =
     (window : Box2) (ss : List Submission) (root : Root)

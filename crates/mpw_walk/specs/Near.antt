@@ -1,4 +1,4 @@
--- How far shapes are, each by a corner of its box.
+-- The positions of shapes, each by a corner of its box.
 use Rattle.std.specs.Prelude.{◌≡◌, ◌≤ℤ◌, ◌^◌, ℤ, pos, neg_ℤ, Option, Some, option_map}
 use Rattle.mpw_geom.specs.declared.plane.Point.{Point}
 use Rattle.mpw_geom.specs.Placing.{placed_point}
@@ -19,7 +19,7 @@ pub record IsClosePoint (p : Point) : Type 0 where
 abbrev pub corner_of : Element → Option Point
 corner_of e = option_map (λ b. record { x = b.x0; y = b.y0 }) (element_box e)
 
--- A shape has a box, and its corner is close where it is placed.
+-- A shape has a box, and the image of its corner is close.
 pub record IsCloseItem (i : Item) : Type 0 where
   pub corner : Point
   pub is : corner_of i.element ≡ Some corner

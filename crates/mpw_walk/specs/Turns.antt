@@ -1,4 +1,4 @@
--- The turns of a walk over placed submissions: one to enter each instance that shows something, with its placed extent, and one
+-- The turns of a walk over placed submissions: one to enter each instance that has shapes, with its placed extent, and one
 -- for each shape.
 use Rattle.std.specs.Prelude.{ℕ, List, [], ◌∷◌, ◌++◌, map, length, slice_index_or, Option, option_map}
 use Rattle.std.specs.List.{flat_map}
@@ -14,14 +14,14 @@ use Rattle.mpw_hier.specs.Levels.{by_levels, levels_of}
 use Rattle.mpw_hier.specs.Values.{bound_number, at_number, from_first, flat}
 use Rattle.mpw_walk.specs.declared.root.Root.{Root}
 
--- A turn enters an instance, which carries the extent of what it shows, or gives a shape.
+-- A turn enters an instance, with the extent of its content, or gives a shape.
 pub data Turn : Type 0 where
   enter : Option Box2 → Turn
   give : Item → Turn
 
 -- ---- roots
 
--- The flat lists of placed submissions, one behind another.
+-- The flat lists of placed submissions, one after another.
 abbrev pub flat_root : List Submission → Root → List Item
 flat_root ss root = map (placed_item root.placing) (flat ss root.submission)
 
@@ -44,8 +44,8 @@ abbrev pub placed_turn : Placing → Turn → Turn
 placed_turn t (enter extent) = enter (option_map (placed_box t) extent)
 placed_turn t (give item) = give (placed_item t item)
 
--- An instance is entered, with the least box that holds what it shows, and then come the turns of that, all placed. What shows
--- nothing has none.
+-- An instance is entered, with the least box that contains its content, and then come the turns of that, all placed. What has no
+-- shapes has no turns.
 abbrev pub entered : List Turn → Placing → List Turn
 entered [] t = []
 entered (turn ∷ turns) t =
@@ -59,7 +59,7 @@ abbrev pub shown_turns : ℕ → Structure → (List ℕ → List Turn) → List
 shown_turns number s below = map give (own_items number s.elements)
     ++ flat_map (λ r. placed_turns r (below r.name)) (references s.elements)
 
--- The turns of a structure of a submission behind others with these turns, and of its top.
+-- The turns of a structure of a submission after others with these turns, and of its top.
 abbrev pub structure_turns : List (List Turn) → Submission → List ℕ → List Turn
 structure_turns before s name =
     by_levels (shown_turns (length before)) []
@@ -72,11 +72,11 @@ submission_turns before s = structure_turns before s s.top
 unfoldable pub all_turns : List Submission → List (List Turn)
 all_turns ss = from_first submission_turns [] ss
 
--- The turns of the submission of a number.
+-- The turns of the submission with a number.
 abbrev pub turns_of : List Submission → ℕ → List Turn
 turns_of ss number = slice_index_or (all_turns ss) number []
 
--- Roots are entered one behind another, as instances are.
+-- Roots are entered one after another, as instances are.
 abbrev pub root_turns : List Submission → Root → List Turn
 root_turns ss root = entered (turns_of ss root.submission) root.placing
 
@@ -85,7 +85,7 @@ roots_turns ss roots = flat_map (root_turns ss) roots
 
 -- ---- a walk
 
--- A walk, by the number of its turns so far and the turns to come.
+-- A walk, by the number of its turns so far and its remaining turns.
 pub record Walked : Type 0 where
   pub turns : ℕ
   pub left : List Turn

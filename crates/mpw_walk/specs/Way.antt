@@ -1,4 +1,4 @@
--- The way of a walk: the structures that it has entered, the turns to come of them, and what is true on the way.
+-- The path of a walk: the structures that it has entered, their remaining turns, and the invariant of the path.
 use Rattle.std.specs.Prelude.{◌≡◌, ◌≤◌, ◌<◌, ◌+◌, ◌^◌, ℕ, List, ◌++◌, length, drop, slice_get, fold, All, Option, Some}
 use Rattle.mpw_geom.specs.declared.plane.Box2.{Box2}
 use Rattle.mpw_geom.specs.Plane.{IsInPlane}
@@ -19,7 +19,7 @@ use Rattle.mpw_walk.specs.Frames.{turns_to_come, IsFrame}
 abbrev pub AreRead : List Submission → Type 0
 AreRead ss = All (λ (s : Submission). IsLibrary s.library) ss
 
--- The turns to come of frames, the last one's first, and then those of the roots to come: all of them, and those that a walk takes.
+-- The remaining turns of frames, the last one's first, and then those of the remaining roots: all of them, and those that a walk takes.
 unfoldable pub left_of : List Submission → List Root → ℕ → List Frame → List Turn
 left_of ss roots root frames =
     fold (λ turns f. turns_to_come ss f ++ turns) (roots_turns ss (drop root roots)) frames
@@ -31,11 +31,11 @@ abbrev pub walked : Way → List Frame → Walked
 walked w frames =
     record { turns = w.turns; left = left_in w.window w.shelf.now w.roots.now w.root frames }
 
--- The turns to come of a way.
+-- The remaining turns of a path.
 abbrev pub left : Way → List Turn
 left w = left_in w.window w.shelf.now w.roots.now w.root w.frames.items
 
--- Frames on the way down, each with fewer levels than the one before, so many turns from the beginning.
+-- Frames on the path, each with fewer levels than the one before, and the number of turns since the beginning.
 pub record IsOnWay (window : Option Box2) (ss : List Submission) (roots : List Root)
     (root turns : ℕ) (frames : List Frame) : Type 0 where
   pub read : AreRead ss
@@ -56,7 +56,7 @@ abbrev pub item_of : Placed → Item
 item_of placed =
     record { origin = placed.origin; placing = placed.placing; element = placed.element.now }
 
--- A shape that can be placed: an element as reading gives it, and a displacement that a caller may hand in.
+-- A shape that can be placed: an element as reading gives it, and a displacement that a caller may pass.
 pub record IsPlaceable (placed : Placed) : Type 0 where
   pub element : IsElement placed.element.now
   pub displacement : IsInPlane placed.placing.by

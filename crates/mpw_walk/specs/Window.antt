@@ -1,4 +1,4 @@
--- What of a walk meets a window: the turns and the shapes whose boxes share a point with it.
+-- What of a walk touches a window: the turns and the shapes whose boxes share a point with it.
 use Rattle.std.specs.Prelude.{Bool, true, false, ◌&&◌, int_le, List, filter, Option, Some, None}
 use Rattle.std.specs.Int.{int_min, int_max}
 use Rattle.mpw_geom.specs.declared.plane.Box2.{Box2}
@@ -11,7 +11,7 @@ unfoldable pub do_meet : Box2 → Box2 → Bool
 do_meet a b =
     int_le (int_max a.x0 b.x0) (int_min a.x1 b.x1) && int_le (int_max a.y0 b.y0) (int_min a.y1 b.y1)
 
--- A box meets the window. What has no box doesn't.
+-- A box touches the window. What has no box doesn't.
 abbrev pub is_met : Box2 → Option Box2 → Bool
 is_met window None = false
 is_met window (Some box) = do_meet box window
@@ -21,14 +21,14 @@ abbrev pub turn_box : Turn → Option Box2
 turn_box (enter extent) = extent
 turn_box (give item) = item_box item
 
--- The shapes, and the turns, whose boxes meet the window, in order.
+-- The shapes, and the turns, whose boxes touch the window, in order.
 abbrev pub items_met : Box2 → List Item → List Item
 items_met window items = filter (λ i. is_met window (item_box i)) items
 
 abbrev pub turns_met : Box2 → List Turn → List Turn
 turns_met window turns = filter (λ turn. is_met window (turn_box turn)) turns
 
--- The turns that a walk takes: with a window those whose boxes meet it, and all without one.
+-- The turns that a walk takes: with a window those whose boxes touch it, and all without one.
 abbrev pub is_in : Option Box2 → Option Box2 → Bool
 is_in None box = true
 is_in (Some window) box = is_met window box

@@ -1,4 +1,4 @@
-//! Which roots a walk may have.
+//! Decides which roots a walk may have.
 
 ghost use Rattle.std.specs.Prelude.{◌≡◌, ◌<◌, ◌↔◌, ◌∷◌, [], length, All, IsTrue, true};
 ghost use Rattle.mpw_hier.specs.Boxes.{is_box_near, placed_box};
@@ -16,7 +16,7 @@ use mpw_hier::{Shelf, is_box_near};
 /// The longest displacement along an axis, in nm.
 const LONGEST: i64 = 1 << 31;
 
-/// Where a submission was drawn.
+/// The placing of a submission where it was drawn.
 const UNMOVED: Placing = Placing {
     orient: Orient::R0,
     by: Point { x: 0, y: 0 },
@@ -29,7 +29,7 @@ fn is_short(by: Point) -> bool
     -LONGEST <= by.x && by.x <= LONGEST && -LONGEST <= by.y && by.y <= LONGEST
 }
 
-/// Where the placing takes a near box.
+/// The image of a near box under a placing.
 pub fn placed_box(placing: Placing, b: Box2) -> Box2
     requires near { is_box_near b ≡ true }
     requires short { IsWithin placing.by }
@@ -40,7 +40,7 @@ pub fn placed_box(placing: Placing, b: Box2) -> Box2
     Box2::between(p, q)
 }
 
-/// Whether a near box is near where it is placed.
+/// Whether the image of a near box is near.
 fn is_placed_near(placing: Placing, b: Box2) -> bool
     requires { is_box_near b ≡ true }
     ensures { result ≡ is_box_near (placed_box placing b) }
@@ -49,7 +49,7 @@ fn is_placed_near(placing: Placing, b: Box2) -> bool
 }
 
 impl Root {
-    /// The submission of a number on the shelf where it was drawn, neither turned nor moved: a root of any walk over the shelf.
+    /// The submission with a number on the shelf where it was drawn, neither turned nor displaced. It is a root of any walk over the shelf.
     pub fn at_origin(shelf: &Shelf, submission: u32) -> Root
         requires { submission < length shelf.now }
         ensures is { result ≡ root_at_origin submission }
@@ -64,8 +64,8 @@ impl Root {
         }
     }
 
-    /// Whether the submission is on the shelf, and shows nothing beyond -2^30 to 2^30 nm where it is
-    /// placed. Takes no memory.
+    /// Whether the submission is on the shelf, and its placed content lies within -2^30 to 2^30 nm.
+    /// Takes no memory.
     pub fn fits(&self, shelf: &Shelf) -> bool
         ensures { IsTrue result ↔ IsRoot shelf.now self.now }
     {

@@ -24,22 +24,22 @@ const HERE: Placing = Placing {
     by: Point { x: 0, y: 0 },
 };
 
-/// A structure that a walk has entered, and how far it has come there.
+/// A structure that a walk has entered, and the walk's position in it.
 #[derive(Clone, Copy)]
 pub struct Frame<'a> {
     /// The submission, by number, and its nodes.
     pub submission: u32,
-    /// The nodes of that submission, each behind those that it places, the top last.
+    /// The nodes of that submission, each after those that it places. The top is last.
     pub nodes: &'a [Node],
     /// The structure's node and its elements.
     pub node: &'a Node,
-    /// The elements of the structure in file order, references too.
+    /// The elements of the structure in file order, including references.
     pub elements: &'a [Element],
-    /// How the structure is placed.
+    /// The placing of the structure.
     pub placing: Placing,
     /// The next shape of the node.
     pub shape: usize,
-    /// The next child of the node, and the next of its instances.
+    /// The child of the node whose instances come next.
     pub child: usize,
     /// The next instance's row, from 0.
     pub row: u16,
@@ -47,7 +47,7 @@ pub struct Frame<'a> {
     pub column: u16,
 }
 
-/// The coordinate that lies so many steps behind another.
+/// The coordinate `count` steps after another.
 fn coordinate_after(from: i64, count: u16, step: i64) -> i64
     requires from { IsShort from }
     requires to { IsShort (from +ℤ (pos count *ℤ step)) }
@@ -56,7 +56,7 @@ fn coordinate_after(from: i64, count: u16, step: i64) -> i64
     from + i64::from(count) * step
 }
 
-/// The point that lies so many steps behind another.
+/// The point `count` steps after another.
 fn point_after(point: Point, count: u16, step: Point) -> Point
     requires from { IsWithin point }
     requires to { IsWithin (stepped point count step) }
@@ -68,7 +68,7 @@ fn point_after(point: Point, count: u16, step: Point) -> Point
     }
 }
 
-/// How the instance of a row and a column is placed.
+/// The placing of the instance in a row and a column.
 pub fn instance(reference: &Reference, row: u16, column: u16) -> Placing
     requires row { row < reference.now.rows }
     requires column { column < reference.now.columns }
@@ -83,7 +83,7 @@ pub fn instance(reference: &Reference, row: u16, column: u16) -> Placing
 }
 
 impl<'a> Frame<'a> {
-    /// The structure of a node before any of its turns, in its own coordinates.
+    /// The structure of a node before its first turn, in its own coordinates.
     fn front(shelf: &'a Shelf, submission: u32, nodes: &'a [Node], place: usize) -> Frame<'a>
         requires nodes { AreNodes shelf.now submission nodes.now }
         requires place { place < length nodes.now }
@@ -106,7 +106,7 @@ impl<'a> Frame<'a> {
         }
     }
 
-    /// The top of a submission before any of its turns, in its own coordinates.
+    /// The top of a submission before its first turn, in its own coordinates.
     pub fn top(shelf: &'a Shelf, submission: u32) -> Frame<'a>
         requires { submission < length shelf.now }
         ensures shows { ShowsName shelf.now submission (λ s. s.top) result }
@@ -117,7 +117,7 @@ impl<'a> Frame<'a> {
         Frame::front(shelf, submission, nodes, nodes.len() - 1)
     }
 
-    /// What the frame places next, before any of its turns, in its own coordinates.
+    /// What the frame places next, before its first turn, in its own coordinates.
     pub fn target(&self, shelf: &'a Shelf, target: Target, reference: &Reference) -> Frame<'a>
         requires frame { IsFrame shelf.now self.now }
         requires next { IsNext self.now target reference.now }
@@ -143,7 +143,7 @@ impl<'a> Frame<'a> {
         }
     }
 
-    /// The reference whose instances come next, and what it places; none behind the last.
+    /// The reference whose instances come next, and what it places. `None` after the last.
     pub fn reference(&self) -> Option<(Target, &'a Reference)>
         requires { HasReference self.now }
         ensures some { IfSome result (λ next. IsNext self.now next.0 next.1.now) }
@@ -156,7 +156,7 @@ impl<'a> Frame<'a> {
         }
     }
 
-    /// The frame behind the next instance, which is one of the reference.
+    /// The frame after the next instance, which is one of the reference.
     pub fn behind_instance(&self, reference: &Reference) -> Frame<'a>
         requires child { self.now.child < length self.now.node.now.children.items }
         requires row { self.now.row < reference.now.rows }
@@ -166,7 +166,7 @@ impl<'a> Frame<'a> {
         self.behind_columns(reference, 1)
     }
 
-    /// The frame behind so many rows, from that of the next instance on.
+    /// The frame after `rows` rows, beginning with that of the next instance.
     fn behind_rows(&self, reference: &Reference, rows: u16) -> Frame<'a>
         requires child { self.now.child < length self.now.node.now.children.items }
         requires rows { self.now.row + rows ≤ reference.now.rows }
@@ -189,7 +189,7 @@ impl<'a> Frame<'a> {
         }
     }
 
-    /// The frame behind so many columns of a row, from that of the next instance on.
+    /// The frame after `columns` columns of a row, beginning with that of the next instance.
     fn behind_columns(&self, reference: &Reference, columns: u16) -> Frame<'a>
         requires child { self.now.child < length self.now.node.now.children.items }
         requires row { self.now.row < reference.now.rows }
@@ -204,8 +204,8 @@ impl<'a> Frame<'a> {
         self.behind_rows(reference, 1)
     }
 
-    /// The frame behind the next instance, whose box misses the window, and behind those after it that miss the window as well, as
-    /// far as division tells: rows, where columns lead along one axis alone, else columns of the row.
+    /// The frame after the next instance, whose box misses the window, and after the following ones that miss the window too, as
+    /// far as a division finds them: rows if the columns lead along one axis only, else columns of the row.
     fn behind_box(&self, reference: &Reference, there: Box2, window: Box2) -> Frame<'a>
         requires child { self.now.child < length self.now.node.now.children.items }
         requires row { self.now.row < reference.now.rows }
@@ -224,7 +224,7 @@ impl<'a> Frame<'a> {
         self.behind_columns(reference, columns.max(1))
     }
 
-    /// The frame behind the next instance, which misses the window, and behind those after it that division tells miss it as well.
+    /// The frame after the next instance, which misses the window, and after the following ones that miss it by division.
     pub fn behind_missed(
         &self,
         reference: &Reference,

@@ -1,4 +1,4 @@
-//! The structures that a walk has entered, one a level, in a stack of fixed size. It takes no memory.
+//! The structures that a walk has entered, one for each level, in a stack of fixed size. Takes no memory.
 
 ghost use Rattle.std.specs.Prelude.{◌≡◌, ◌<◌, [], ◌∷◌, ◌++◌, length, IfNone};
 ghost use Rattle.std.specs.Option.{option_to_list};
@@ -9,10 +9,10 @@ use std::marker::Model;
 /// The greatest number of levels.
 const MAX_LEVELS: usize = 64;
 
-/// At most 64 frames, the last entered last.
+/// At most 64 frames. The last one was entered last.
 #[derive(Drop)]
 pub struct Frames<'a> {
-    /// The first places, as many as are taken, hold a frame each.
+    /// The first places, as many as are in use, have a frame each.
     places: [Option<Frame<'a>>; MAX_LEVELS],
     taken: usize,
 }
@@ -38,19 +38,19 @@ impl<'a> Frames<'a> {
         }
     }
 
-    /// Puts a frame behind the others.
+    /// Adds a frame after the others.
     pub fn push(&mut self, frame: Frame<'a>)
         requires { length self.old.items < 64 }
         ensures { self.new.items ≡ self.old.items ++ frame.entry ∷ [] }
     {
         let place = self.taken;
-        // An array of what refers to memory is reached into by a slice of it.
+        // An array whose elements refer to memory is accessed by a slice of it.
         let places = &mut self.places[..];
         places[place] = Some(frame);
         self.taken = place + 1;
     }
 
-    /// Takes the last frame.
+    /// Removes the last frame and returns it.
     pub fn pop(&mut self) -> Option<Frame<'a>>
         ensures items { self.old.items ≡ self.new.items ++ option_to_list result }
         ensures none { IfNone result (self.old.items ≡ []) }

@@ -1,4 +1,4 @@
-//! Laws of the definitions alone. Each function calls at most the laws that its own rests on: its contract is the law.
+//! Laws about the definitions. Each function does nothing but call the laws that it needs; its contract is the law.
 
 ghost use Rattle.std.specs.Prelude.{◌≡◌, ◌≤◌, ◌<◌, ◌+◌, ◌*◌, ◌++◌, ◌∷◌, ◌↔◌, [], true, IsTrue, ℕ, List, length, map, All};
 ghost use Rattle.mpw_geom.specs.Plane.{has_point};
@@ -26,7 +26,7 @@ use mpw_hier::{
 };
 use std::marker::Model;
 
-/// The turns of roots give their flat lists in order. A root has at most as many turns as it has
+/// The turns of roots give their flat lists in order. A root has at most as many turns as its number of
 /// shapes times one more than its levels.
 #[tactic(auto, using(crate::proofs::Given::roots_given, crate::proofs::Given::root_few))]
 pub fn turns_give_flat_lists()
@@ -34,13 +34,13 @@ pub fn turns_give_flat_lists()
     ensures few { (ss : List Submission) (root : Root) → length (root_turns ss root) ≤ (height ss root.submission + 1) * length (flat_root ss root) }
 {}
 
-/// Roots that are placed again show the same shapes, each placed again.
+/// Roots that are placed again have the same shapes, each placed again.
 #[tactic(auto, using(crate::proofs::Given::roots_again))]
 pub fn roots_are_placed_again()
     ensures { (t : Placing) (ss : List Submission) (roots : List Root) → flat_roots ss (map (placed_root t) roots) ≡ map (placed_item t) (flat_roots ss roots) }
 {}
 
-/// A submission that is not moved is a root of any shelf that has it, and shows its own flat list.
+/// A submission that is not displaced is a root of any shelf that has it, and has its own flat list.
 pub fn roots_at_origin_show_their_submission()
     ensures fits { (ss : List Submission) → IsShelf ss → (number : ℕ) → number < length ss → IsRoot ss (root_at_origin number) }
     ensures shapes { (ss : List Submission) (number : ℕ) → flat_roots ss (root_at_origin number ∷ []) ≡ flat ss number }
@@ -49,21 +49,21 @@ pub fn roots_at_origin_show_their_submission()
     extents_are_least_boxes();
 }
 
-/// Each shape that roots show comes from a submission on the shelf.
+/// Each shape of roots comes from a submission on the shelf.
 pub fn shapes_come_from_the_shelf()
     ensures { (ss : List Submission) (roots : List Root) → All (λ (i : Item). i.origin < length ss) (flat_roots ss roots) }
 {
     shelves_have_their_numbers();
 }
 
-/// Each shape that roots show, and each that a submission shows, is a boundary or a path: arrays and other references are taken
-/// apart.
+/// Each shape of roots, and each of a submission, is a boundary or a path: arrays and other references are
+/// resolved.
 pub fn shapes_are_no_references()
     ensures roots { (ss : List Submission) (roots : List Root) → All (λ (i : Item). is_shape i.element ≡ true) (flat_roots ss roots) }
     ensures submissions { (ss : List Submission) (number : ℕ) → All (λ (i : Item). is_shape i.element ≡ true) (flat ss number) }
 {}
 
-/// What was a root stays one when other submissions come, and shows the same; what was on the shelf and no root becomes none.
+/// What was a root stays one when other submissions come, with the same content. A submission on the shelf that was no root becomes none.
 pub fn roots_stay_roots()
     ensures roots { (ss later : List Submission) (root : Root) → root.submission < length ss → IsRoot ss root ↔ IsRoot (ss ++ later) root }
     ensures shapes { (ss later : List Submission) (roots : List Root) → All (IsRoot ss) roots → flat_roots (ss ++ later) roots ≡ flat_roots ss roots }
@@ -71,8 +71,8 @@ pub fn roots_stay_roots()
     earlier_submissions_stay();
 }
 
-/// The extent of roots is the least box that holds their placed extents, and they show as many shapes as their submissions
-/// together.
+/// The extent of roots is the least box that contains their placed extents. Their number of shapes is the sum of those of their
+/// submissions.
 pub fn roots_show_what_their_submissions_do()
     ensures extent { (ss : List Submission) (roots : List Root) → extent_of (flat_roots ss roots) ≡ roots_extent ss roots }
     ensures count { (ss : List Submission) (roots : List Root) → length (flat_roots ss roots) ≡ roots_count ss roots }
@@ -80,9 +80,9 @@ pub fn roots_show_what_their_submissions_do()
     extents_are_least_boxes();
 }
 
-/// A box meets a window where they share a point. The turn that enters an instance carries its placed extent, and where that
-/// misses a window, so do all turns of what the instance shows: the turns that meet a window are those of the instances that a walk
-/// within it enters, and of the shapes that it gives.
+/// A box touches a window if they share a point. The turn that enters an instance has its placed extent. If that misses a window, so
+/// do all turns of the instance's content. So the turns that touch a window are those of the instances that a walk within it enters,
+/// and of the shapes that it gives.
 pub fn missed_instances_show_nothing_met()
     ensures points { (a b : Box2) → (do_meet a b ≡ true) ↔ ((p : Point) × IsTrue (has_point a p) × IsTrue (has_point b p)) }
     ensures carried_by_roots { RootsCarryTheirExtents }
@@ -93,7 +93,7 @@ pub fn missed_instances_show_nothing_met()
     extents_are_walked();
 }
 
-/// Extents are least boxes, and are placed with what they hold.
+/// Extents are least boxes, and are placed with their content.
 pub fn extents_are_walked()
     ensures { ExtentsAreWalked }
 {
@@ -101,7 +101,7 @@ pub fn extents_are_walked()
     boxes_are_placed();
 }
 
-/// A turn, which laws of lists of any kind are called with. There is no value of it.
+/// A turn, for which laws of lists of any kind are called. No value of this type exists.
 #[derive(Drop)]
 struct Turning;
 
@@ -114,7 +114,7 @@ impl Model for Turning {
     ghost view = { λ _. enter None };
 }
 
-/// What a name shows to a submission, and the turns of that, is what its structure does, or the top of the submission to which it
+/// The content of a name for a submission, and its turns, are those of its structure, or of the top of the submission to which it
 /// is bound. Extents are least boxes.
 pub fn names_are_walked()
     ensures { NamesAreWalked }

@@ -1,9 +1,9 @@
-//! The flat lists of submissions on a shelf, one shape at a time.
+//! Walks over the flat lists of submissions on a shelf, one shape at a time.
 //!
-//! [`Walk`] goes through placed submissions and gives each shape that they show with its origin and
-//! its placing. It goes down the hierarchy with a stack of its own of one frame a level, which is of
-//! fixed size. A walk within a window ([`Walk::within`]) gives the shapes whose boxes meet the window, and
-//! goes down into the instances whose placed extents do. Those of an array are found by division (`skip`).
+//! [`Walk`] visits placed submissions and gives each flat shape with its origin and its placing. It
+//! goes down the hierarchy with its own stack of fixed size, one frame for each level. A walk within a
+//! window ([`Walk::within`]) gives the shapes whose boxes touch the window, and enters only the
+//! instances whose placed extents do. In an array, a division finds them (`skip`).
 #![tactic(auto)]
 
 mod fit;

@@ -3,22 +3,22 @@
 use mpw_geom::Placing;
 use mpw_structures::Element;
 
-/// A submission, by number, and how it is placed.
+/// A submission, by number, and its placing.
 #[derive(Clone, Copy)]
 pub struct Root {
     /// Its number on the shelf, from 0.
     pub submission: u32,
-    /// From the coordinates of its top to those in which a walk gives its items.
+    /// The placing from the coordinates of its top to those of the shapes that a walk gives.
     pub placing: Placing,
 }
 
-/// A shape of the submission `origin`, by number, and how it is placed.
+/// A shape of the submission `origin`, and its placing.
 #[derive(Clone, Copy)]
 pub struct Placed<'a> {
     /// The number of the submission from which the shape comes, from 0.
     pub origin: u32,
-    /// From the coordinates of the shape's structure to those in which the walk gives it.
+    /// The placing from the coordinates of the shape's structure to those of the walk.
     pub placing: Placing,
-    /// The shape as its library has it: not placed yet.
+    /// The shape as its library has it, not placed.
     pub element: &'a Element,
 }

@@ -1,7 +1,7 @@
-//! How many instances of an array miss a window one after another, found by division. Nothing here takes memory.
+//! Counts the consecutive instances of an array that miss a window, by division. Nothing here takes memory.
 //!
-//! An array's boxes stand in steps of one length, so along an axis those that miss the window in front of it, or behind it, are told by
-//! the gap and the step.
+//! The boxes of an array are at equal steps. So along an axis the gap and the step determine how many miss the window before it or
+//! after it.
 
 ghost use Rattle.std.specs.Prelude.{◌≡◌, ◌≤◌, ◌<◌, ℕ, pos, ◌*ℤ◌, ◌<ℤ◌, false};
 ghost use Rattle.mpw_geom.specs.Plane.{IsCoordinate, IsInPlane};
@@ -18,7 +18,7 @@ pub struct Span {
     pub high: i64,
 }
 
-/// How many numbers of steps are shorter than a gap, from none on, of so many at most.
+/// How many k from 0 on, at most `most`, have k steps shorter than a gap.
 fn steps_short(gap: u64, step: i64, most: u16) -> u16
     requires { 1 ≤ gap }
     ensures few { result ≤ most }
@@ -35,7 +35,7 @@ fn steps_short(gap: u64, step: i64, most: u16) -> u16
     }
 }
 
-/// How many intervals share no number with a window, each a step behind the one before, from one on, of so many at most.
+/// How many consecutive intervals, from the given one on, share no number with a window, if each is a step from the one before: at most `most`.
 fn spans_missed(there: Span, window: Span, step: i64, most: u16) -> u16
     requires { IsCoordinate step }
     ensures few { result ≤ most }
@@ -68,7 +68,7 @@ fn span_y(b: Box2) -> Span
     }
 }
 
-/// How many boxes of a row miss a window, from one on, of so many at most.
+/// How many consecutive boxes of a row, from the given one on, miss a window: at most `most`.
 pub fn columns_missed(there: Box2, window: Box2, across: Point, most: u16) -> u16
     requires { IsInPlane across }
     ensures few { result ≤ most }
@@ -79,7 +79,7 @@ pub fn columns_missed(there: Box2, window: Box2, across: Point, most: u16) -> u1
     x.max(y)
 }
 
-/// How many rows share no number with a window along an axis, in each column: none where columns lead along it.
+/// How many consecutive rows share no number with a window along an axis, in every column: 0 if columns lead along that axis.
 fn rows_along(there: Span, window: Span, across: i64, up: i64, most: u16) -> u16
     requires { IsCoordinate up }
     ensures few { result ≤ most }
@@ -93,7 +93,7 @@ fn rows_along(there: Span, window: Span, across: i64, up: i64, most: u16) -> u16
     }
 }
 
-/// How many rows miss a window in each column, from that of a box on, of so many at most: none where columns lead along both axes.
+/// How many consecutive rows, from that of the given box on, miss a window in every column: at most `most`, and 0 if columns lead along both axes.
 pub fn rows_missed(there: Box2, window: Box2, across: Point, up: Point, most: u16) -> u16
     requires { IsInPlane up }
     ensures few { result ≤ most }

@@ -1,7 +1,7 @@
 //! A walk over placed submissions.
 //!
-//! To contracts it is the number of its turns so far and the turns to come, which give the flat lists of
-//! the roots, or the shapes of these that meet a window.
+//! Contracts see it as the number of its turns so far and its remaining turns. These give the flat lists of
+//! the roots, or the shapes of these that touch a window.
 
 ghost use Rattle.std.specs.Prelude.{◌≡◌, ◌≤◌, ◌+◌, ◌^◌, [], ◌∷◌, length, IfSome, IfNone, All};
 ghost use Rattle.mpw_walk.specs.Turns.{given, behind_first, flat_roots, roots_turns};
@@ -16,7 +16,7 @@ use mpw_geom::Box2;
 use mpw_hier::{Shelf, shelves_have_their_numbers};
 use std::marker::Model;
 
-/// The shapes of placed submissions that are still to come. It takes no memory: its stack has a fixed size.
+/// The remaining shapes of placed submissions. It takes no memory: its stack has a fixed size.
 pub struct Walk<'a> {
     way: Way<'a>,
 }
@@ -41,7 +41,7 @@ impl<'a> Model for Walk<'a> {
 }
 
 impl<'a> Walk<'a> {
-    /// The walk that takes these turns, before the first.
+    /// The walk with these turns, before the first.
     fn start(shelf: &'a Shelf, roots: &'a [Root], window: Option<Box2>) -> Walk<'a>
         requires roots { All (IsRoot shelf.now) roots.now }
         requires few { length roots.now ≤ 2 ^ 16 }
@@ -63,9 +63,9 @@ impl<'a> Walk<'a> {
     }
 
     /// The walk over the roots in order: for each, its own shapes in file order, and then what it places,
-    /// an array row by row, the column running fastest. What shows nothing is passed over.
+    /// an array row by row, with the column running fastest. What has no shapes is skipped.
     ///
-    /// It takes no memory.
+    /// Takes no memory.
     pub fn new(shelf: &'a Shelf, roots: &'a [Root]) -> Walk<'a>
         requires roots { All (IsRoot shelf.now) roots.now }
         requires few { length roots.now ≤ 2 ^ 16 }
@@ -76,11 +76,11 @@ impl<'a> Walk<'a> {
         Walk::start(shelf, roots, None)
     }
 
-    /// The walk over the roots that keeps to a window. It gives the shapes whose boxes share a point with the window, where a
-    /// common corner or edge is enough, in the order of the walk over all. It enters the instances whose placed extents share one,
-    /// and passes over the others with all that they show.
+    /// The walk over the roots within a window. It gives the shapes whose boxes share a point with the window (a common corner or
+    /// edge is enough), in the order of the walk over all. It enters the instances whose placed extents share one, and skips the
+    /// others with all their content.
     ///
-    /// It takes no memory.
+    /// Takes no memory.
     pub fn within(shelf: &'a Shelf, roots: &'a [Root], window: Box2) -> Walk<'a>
         requires roots { All (IsRoot shelf.now) roots.now }
         requires few { length roots.now ≤ 2 ^ 16 }
@@ -91,11 +91,10 @@ impl<'a> Walk<'a> {
         Walk::start(shelf, roots, Some(window))
     }
 
-    /// The next shape; none behind the last. It takes no memory. One turn enters each instance on the way
-    /// to it, and one gives it; a turn takes constant time, and so does leaving what has been shown. With a window, an
-    /// array whose columns lead along one axis takes constant time, and so does each row of it that meets the window, beside what
-    /// is entered; of another array each row takes constant time. Each shape of what is entered takes time by the number of its
-    /// points.
+    /// The next shape. `None` after the last. Takes no memory. One turn enters each instance on the way to it, and one gives it. A turn takes
+    /// constant time, and so does leaving an instance. With a window, an array whose columns lead along one axis takes constant time, and so
+    /// does each of its rows that touches the window, in addition to what is entered. In another array each row takes constant time. Each
+    /// shape of what is entered takes time linear in its points.
     pub fn next(&mut self) -> Option<Placed<'a>>
         ensures some { IfSome result (λ placed. given self.old.left ≡ item_of placed ∷ given self.new.left) }
         ensures placeable { IfSome result IsPlaceable }
@@ -106,7 +105,7 @@ impl<'a> Walk<'a> {
         self.way.next()
     }
 
-    /// The turns so far: one for each instance that was entered, a root too, and one for each shape.
+    /// The turns so far: one for each instance that was entered, including roots, and one for each shape.
     pub fn turns(&self) -> u64
         ensures { result ≡ self.now.turns }
     {

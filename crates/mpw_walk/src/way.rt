@@ -1,7 +1,7 @@
-//! The way of a walk: the structures that it has entered, from a root down.
+//! The path of a walk: the structures that it has entered, from a root down.
 //!
 //! A turn gives the next shape of the last frame, or enters its next instance, which becomes the last
-//! frame. A frame is dropped after its last turn, and what misses the window is passed over, which are no
+//! frame. A frame is removed after its last turn, and what misses the window is skipped; these are no
 //! turns. Each structure has fewer levels than the one that places it, so there are never more frames than
 //! levels.
 
@@ -21,10 +21,10 @@ use mpw_geom::Box2;
 use mpw_hier::{Shelf, Target};
 use mpw_structures::Reference;
 
-/// What a step found.
+/// The result of a step.
 #[derive(Clone, Copy)]
 pub enum Step<'a> {
-    /// It went on, and gave no item.
+    /// It continued, and gave no item.
     On,
     /// The next item.
     Given(Placed<'a>),
@@ -34,15 +34,15 @@ pub enum Step<'a> {
 
 /// The structures that a walk has entered.
 pub struct Way<'a> {
-    /// The shelf on which the roots' submissions stand.
+    /// The shelf that has the roots' submissions.
     pub shelf: &'a Shelf,
     /// All roots, in the order in which they are walked.
     pub roots: &'a [Root],
-    /// The window that the walk keeps to, if any.
+    /// The window of the walk, if there is one.
     pub window: Option<Box2>,
     /// The next root.
     pub root: usize,
-    /// Each structure is placed by the one before, the first by a root.
+    /// Each structure is placed by the one before, the first one by a root.
     pub frames: Frames<'a>,
     /// The turns so far.
     pub turns: u64,
@@ -107,7 +107,7 @@ impl<'a> Way<'a> {
         Step::Given(placed)
     }
 
-    /// The next turn of a frame that was the last; none behind them.
+    /// The next turn of a frame that was the last. `None` after its last turn.
     fn go_on(&mut self, frame: &Frame<'a>) -> Step<'a>
         requires { IsWay self.old (self.old.frames.items ++ frame.now ∷ []) }
         ensures way { IsWay self.new self.new.frames.items }
@@ -123,7 +123,7 @@ impl<'a> Way<'a> {
         Step::On
     }
 
-    /// Enters the next root, which shows something, by its top.
+    /// Enters the next root, which has some shape, by its top.
     fn enter_root(&mut self, root: &Root, top: Frame<'a>)
         requires way { IsWay self.old [] }
         requires empty { self.old.frames.items ≡ [] }
@@ -144,7 +144,7 @@ impl<'a> Way<'a> {
         self.turns += 1;
     }
 
-    /// Enters the next root, if it shows anything.
+    /// Enters the next root, if it has any shapes.
     fn begin(&mut self) -> Step<'a>
         requires way { IsWay self.old [] }
         requires empty { self.old.frames.items ≡ [] }
@@ -176,7 +176,7 @@ impl<'a> Way<'a> {
         }
     }
 
-    /// Goes on to the next shape and gives it; none behind the last.
+    /// Continues to the next shape and gives it. `None` after the last.
     pub fn next(&mut self) -> Option<Placed<'a>>
         requires { IsWay self.old self.old.frames.items }
         ensures way { IsWay self.new self.new.frames.items }

@@ -1,4 +1,4 @@
-//! Which instances a walk enters, and which shapes it gives.
+//! Decides which instances a walk enters, and which shapes it gives.
 
 ghost use Rattle.std.specs.Prelude.{◌≡◌, option_map};
 ghost use Rattle.mpw_structures.specs.Element.{IsElement};
@@ -21,7 +21,7 @@ fn do_meet(a: Box2, b: Box2) -> bool
     a.meets(b)
 }
 
-/// Whether a near box, if there is one, meets the window where it is placed. Without a window it does.
+/// Whether the image of a near box, if there is one, touches the window. Without a window it does.
 pub fn is_in(window: Option<Box2>, placing: Placing, b: Option<Box2>) -> bool
     requires near { IsExtentNear b }
     requires short { IsWithin placing.by }
@@ -36,7 +36,7 @@ pub fn is_in(window: Option<Box2>, placing: Placing, b: Option<Box2>) -> bool
     }
 }
 
-/// Whether a shape meets the window. With a window it takes time by the number of the shape's points.
+/// Whether a shape touches the window. With a window it takes time linear in the shape's points.
 pub fn is_given(window: Option<Box2>, placed: &Placed) -> bool
     requires element { IsElement placed.now.element.now }
     requires near { IsExtentNear (element_box placed.now.element.now) }

@@ -1,4 +1,4 @@
--- What words ask that name nothing.
+-- What a verb asks for with a word that is no name.
 use Rattle.std.proofs.Common.{◌≡◌, ℕ, Bool, true, false, List, Option, None, refl}
 use Rattle.std.specs.Prelude.{if◌then◌else◌, codes}
 use Rattle.mpw_geom.specs.Names.{name_eq}

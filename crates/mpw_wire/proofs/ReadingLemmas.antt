@@ -54,7 +54,7 @@ names_next origin front words i word name lt at told =
     pushed front name None = refl
     pushed front name (Some names) = ap (λ l. Some l) (append_assoc front (name ∷ []) names)
 
--- a word that is no name leaves none
+-- a word that is no name gives no names
 pub names_none : (origin : Origin) (front : List (List ℕ)) (words : List (List ℕ)) (i : ℕ)
     (word : List ℕ) → i < length words → get_or words i [] ≡ word → name_of origin word ≡ None
     → with_names front (names_of origin (drop i words)) ≡ None
@@ -70,7 +70,7 @@ names_none origin front words i word lt at told =
 
 -- ---- taking a byte each turn
 
--- what was taken, and the byte that the source then gave
+-- the bytes so far, and the byte that the source then gave
 pub given_byte : (old mid new : Option (List ℕ)) (front more : List ℕ) (answer : Option ℕ)
     (byte : ℕ) → answer ≡ Some byte → more ≡ front ++ byte ∷ [] → Consumes old mid front
     → GivesByte {E = DeviceFault} mid new (Ok answer) → Consumes old new more
@@ -78,7 +78,7 @@ given_byte old mid new front more answer byte e same p q =
     let given = subst (λ a. GivesByte {E = DeviceFault} mid new (Ok a)) e q in
     subst (Consumes old new) (sym same) (Consumes-trans old mid new front (byte ∷ []) p given)
 
--- what was taken, where the source then gave none
+-- the bytes so far, if the source then gave none
 pub given_none : (old mid new : Option (List ℕ)) (front : List ℕ) (answer : Option ℕ)
     → answer ≡ None → Consumes old mid front → GivesByte {E = DeviceFault} mid new (Ok answer)
     → Consumes old new front × IsAtEnd new
@@ -86,7 +86,7 @@ given_none old mid new front answer e p q =
     let end = subst (λ a. GivesByte {E = DeviceFault} mid new (Ok a)) e q in
     (Consumes-end old mid new front p end.0, end.1)
 
--- there is a byte more
+-- there is one more byte
 pub length_more : (more front : List ℕ) (byte count : ℕ) → more ≡ front ++ byte ∷ []
     → length front ≡ count → length more ≡ count + 1
 length_more more front byte count e counted =
@@ -98,7 +98,7 @@ pub unbroken_more : (more line : List ℕ) (byte : ℕ) → more ≡ line ++ byt
 unbroken_more more line byte e all other =
     subst IsUnbroken (sym e) (All-push (λ b. b ≢ 0x0A) line byte all other)
 
--- reading the bytes that are to follow a line broke off
+-- reading a payload stopped
 pub offer_breaks : {A : Type 0} (result : Result A WireFault) (fault : WireFault)
     (old mid new : Option (List ℕ)) (line : List ℕ) (asked : LineAsk) (most : ℕ)
     → IsErrAnd result (λ e. e ≡ fault) → TakesOffer old mid line asked → following asked ≡ Some most
@@ -123,7 +123,7 @@ offer_breaks (Err e) fault old mid new line asked most h offer counted broken =
     breaks Write front = absurd front
     breaks Memory front = inr (front_of front)
 
--- fewer bytes than a line says stood behind it
+-- there were fewer bytes after the line than it says
 pub offer_cut : (old mid new : Option (List ℕ)) (line : List ℕ) (asked : LineAsk) (most : ℕ)
     → TakesOffer old mid line asked → following asked ≡ Some most → TakesTooFew mid new most
     → TakesCut old new

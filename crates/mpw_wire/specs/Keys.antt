@@ -1,5 +1,5 @@
--- The key of a marker, as a word of a line: the name of its rule, and behind colons its axis, its side and four coordinates in nm.
--- It is read from its end, since a name may hold colons.
+-- The key of a marker, as a word of a line: the name of its rule, its axis, its side and four coordinates in
+-- nm, with colons between them. It is read from its end, since a name may have colons.
 use Rattle.std.specs.Prelude.{ℕ, ℤ, List, [], ◌∷◌, codes, Option, Some, None, ◌==◌, if◌then◌else◌}
 use Rattle.mpw_geom.specs.Names.{name_eq}
 use Rattle.mpw_text.specs.Text.{number_of}
@@ -14,16 +14,16 @@ use Rattle.mpw_wire.specs.declared.operand.Origin.TheVariants.{Connection, Store
 use Rattle.mpw_wire.specs.Placement.{coordinate_of}
 use Rattle.mpw_wire.specs.Names.{◌>>=◌, name_of}
 
--- where the marker of a key lies
+-- the place of a key's marker
 abbrev pub spot_of : Key → Spot
 spot_of key =
     record { axis = key.axis; side = key.side; x1 = key.x1; x2 = key.x2; y0 = key.y0; y1 = key.y1 }
 
--- where a marker lies that a request names
+-- the place of the marker that a request names
 abbrev pub named_spot : MarkerName → Spot
 named_spot m = record { axis = m.axis; side = m.side; x1 = m.x1; x2 = m.x2; y0 = m.y0; y1 = m.y1 }
 
--- the marker of a rule that lies there
+-- the marker of a rule at that place
 abbrev pub marker_at : List ℕ → Spot → MarkerName
 marker_at rule spot = record {
   rule = rule;
@@ -37,13 +37,13 @@ marker_at rule spot = record {
 
 -- ---- writing
 
--- the key of the marker of a rule that lies there
+-- the key of the marker of a rule at that place
 abbrev pub key_text : List ℕ → Spot → List ℕ
 key_text rule spot = marker_key (marker_at rule spot)
 
 -- ---- reading
 
--- what stands before the last colon, and what stands behind it
+-- the parts before and after the last colon
 unfoldable pub cut_last : List ℕ → Option (List ℕ × List ℕ)
 cut_last [] = None
 cut_last (byte ∷ bytes) = behind (cut_last bytes)
@@ -59,12 +59,12 @@ axis_of word =
     else if name_eq word (codes "H") then Some H
     else None
 
--- the greatest side: 1 on a connection, and in a store what a byte tells
+-- the greatest side: 1 on a connection, and in a store the greatest value of a byte
 unfoldable pub greatest_side : Origin → ℕ
 greatest_side Connection = 1
 greatest_side Store = 255
 
--- what stands behind the last colon, read as a coordinate, a side or an axis, with what stands before it
+-- the part after the last colon, read as a coordinate, a side or an axis, with the part before it
 unfoldable pub last_coordinate : Origin → List ℕ → Option (List ℕ × ℤ)
 last_coordinate origin word = do
   parts ← cut_last word
@@ -83,7 +83,7 @@ last_axis word = do
   axis ← axis_of parts.1
   Some (parts.0, axis)
 
--- where a marker lies by the end of its key, with what stands before
+-- the place of a marker by the end of its key, with the part before it
 unfoldable pub last_spot : Origin → List ℕ → Option (List ℕ × Spot)
 last_spot origin word = do
   y1 ← last_coordinate origin word

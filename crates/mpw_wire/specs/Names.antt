@@ -5,7 +5,7 @@ use Rattle.mpw_geom.specs.Names.{name_eq}
 use Rattle.mpw_wire.specs.declared.operand.Origin.{Origin}
 use Rattle.mpw_wire.specs.declared.operand.Origin.TheVariants.{Connection, Store}
 
--- a part, and then the next where there is one
+-- a part, and then the next if there is one
 infixl 10 ◌>>=◌
 abbrev pub ◌>>=◌ : {A B : Type 0} → Option A → (A → Option B) → Option B
 option >>= next = option_and_then next option

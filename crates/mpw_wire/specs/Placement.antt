@@ -21,7 +21,7 @@ orient_of word =
     else if name_eq word (codes "M270") then Some M270
     else None
 
--- how far below 0 a coordinate may lie: 2^30 nm on a connection, and in a store as far as 64 bits tell
+-- how far below 0 a coordinate may be: 2^30 nm on a connection, and in a store as far as 64 bits allow
 unfoldable pub farthest_below : Origin → ℕ
 farthest_below Connection = 1073741824
 farthest_below Store = 9223372036854775808

@@ -1,4 +1,5 @@
--- What reading a request does to a source: a line is at most 4096 bytes, and its line feed or the end of the input.
+-- What reading a request does to a source. A line has at most 4096 bytes, and ends with a line feed or the
+-- end of the input.
 use Rattle.std.specs.Prelude.{◌≡◌, ◌≢◌, ◌<◌, ◌≤◌, ◌+◌, ◌⊎◌, ℕ, List, [], ◌∷◌, ◌++◌, length, All, Option, None, Some}
 use Rattle.std.specs.Io.KnownBytes.{Consumes, IsAtEnd}
 use Rattle.std.specs.Io.Iter.{u64_saturate}
@@ -22,7 +23,7 @@ max_line = 4096
 abbrev pub IsUnbroken : List ℕ → Type 0
 IsUnbroken bytes = All (λ byte. byte ≢ 0x0A) bytes
 
--- these bytes and a line feed are taken off the front; or these, which are some, and they are the last
+-- these bytes and a line feed are taken off the front; or these bytes are the last, at least one
 abbrev pub TakesLine : Option (List ℕ) → Option (List ℕ) → List ℕ → Type 0
 TakesLine old new line =
     IsUnbroken line × (length line ≤ max_line)
@@ -47,19 +48,19 @@ TakesSome old new = TakesFront old new ⊎ ((line : List ℕ) × TakesLine old n
 abbrev pub TakesNothing : Option (List ℕ) → Option (List ℕ) → Type 0
 TakesNothing old new = Consumes old new [] × IsAtEnd new
 
--- ---- what follows a line
+-- ---- the payload
 
--- the input ends before so many bytes
+-- the input ends before that many bytes
 abbrev pub TakesTooFew : Option (List ℕ) → Option (List ℕ) → ℕ → Type 0
 TakesTooFew old new length_asked =
     (front : List ℕ) × (length front < length_asked) × Consumes old new front × IsAtEnd new
 
--- at most so many bytes are taken off the front
+-- at most that many bytes are taken off the front
 abbrev pub TakesUpTo : Option (List ℕ) → Option (List ℕ) → ℕ → Type 0
 TakesUpTo old new length_asked =
     (front : List ℕ) × (length front ≤ length_asked) × Consumes old new front
 
--- how many bytes follow a line that asks this
+-- the length of the payload of a line that asks for this
 abbrev pub following : LineAsk → Option ℕ
 following (ask.Request request) = None
 following (ask.Submission cell top length_asked) = Some length_asked
@@ -67,14 +68,15 @@ following (ask.Deck length_asked) = Some length_asked
 following ask.Long = None
 following ask.Form = None
 
--- a line that asks this is taken off the front
+-- a line that asks for this is taken off the front
 pub record TakesOffer (old new : Option (List ℕ)) (line : List ℕ) (asked : LineAsk) : Type 0 where
   pub taken : TakesLine old new line
   pub asks : ask_of line ≡ asked
 
 -- ---- requests
 
--- the text of a request: its line, or the line that asks to submit, or to bring a deck, with the bytes behind it
+-- the text of a request: its line, or the line that asks to submit or to upload a deck, with the payload
+-- after it
 pub data IsText (old new : Option (List ℕ)) (line : List ℕ) : Request → Type 0 where
   alone : {request : Request} → TakesLine old new line → ask_of line ≡ ask.Request request
       → IsText old new line request
@@ -86,12 +88,12 @@ pub data IsText (old new : Option (List ℕ)) (line : List ℕ) : Request → Ty
       → TakesOffer old mid line (ask.Deck (length payload)) → Consumes mid new payload
       → IsText old new line (Wafer (Deck payload))
 
--- a line that is too long, or one behind which too much is to follow
+-- a line that is too long, or whose payload would be
 abbrev pub TakesTooLong : Option (List ℕ) → Option (List ℕ) → Type 0
 TakesTooLong old new =
     TakesLong old new ⊎ ((line : List ℕ) × TakesLine old new line × (ask_of line ≡ ask.Long))
 
--- a line that bytes are to follow, and fewer of them than it says
+-- a line with a payload, and fewer bytes of it than the line says
 pub record TakesCut (old new : Option (List ℕ)) : Type 0 where
   pub line : List ℕ
   pub asked : LineAsk
@@ -101,7 +103,7 @@ pub record TakesCut (old new : Option (List ℕ)) : Type 0 where
   pub counted : following asked ≡ Some length_asked
   pub few : TakesTooFew mid new length_asked
 
--- a line that bytes are to follow, and at most as many of them as it says
+-- a line with a payload, and at most as many bytes of it as the line says
 pub record TakesOfferFront (old new : Option (List ℕ)) : Type 0 where
   pub line : List ℕ
   pub asked : LineAsk
@@ -118,8 +120,8 @@ Reads old new asked.Long = TakesTooLong old new
 Reads old new asked.Cut = TakesCut old new
 Reads old new asked.End = TakesNothing old new
 
--- a source that fails has given bytes of a request's text, and where there is no room for a request its text may be
--- taken whole
+-- a source that fails has given bytes of a request's text; if there is no memory for a request, its text may
+-- be taken whole
 abbrev pub BreaksRead : Option (List ℕ) → Option (List ℕ) → Type 0
 BreaksRead old new = TakesFront old new ⊎ TakesOfferFront old new
 
@@ -131,7 +133,7 @@ Breaks old new Read = BreaksRead old new
 Breaks old new Write = ⊥
 Breaks old new Memory = BreaksMemory old new
 
--- how often the source has failed after a call with this fault: a fault of reading is a failure
+-- how many failures the source has after a call with this fault: a fault of reading counts as one
 abbrev pub read_failures : Option WireFault → ℕ → ℕ
 read_failures None failures = failures
 read_failures (Some Read) failures = u64_saturate (failures + 1)

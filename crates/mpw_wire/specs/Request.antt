@@ -1,5 +1,5 @@
--- The text of a request line: its words, and the request that they ask. A line stands on a connection or in a store; both
--- have the same forms, and differ in how a word is read.
+-- The text of a request line: its words, and the request that they ask for. A line comes from a connection or
+-- from a store. Both have the same forms, but they read some words differently.
 use Rattle.std.specs.Prelude.{ℕ, Bool, true, false, List, [], ◌∷◌, length, codes, Option, Some, None, option_map, not, ◌==◌, if◌then◌else◌}
 use Rattle.sha2.specs.Sha256.{sha256}
 use Rattle.std.specs.Result.{result_ok}
@@ -39,7 +39,7 @@ use Rattle.mpw_wire.specs.Words.{words}
 unfoldable pub token_of : List ℕ → Option (List ℕ)
 token_of word = if is_visible_word word then Some (sha256 word) else None
 
--- the digest that a word gives: that of a token, or in a store the one that 64 hexadecimal digits spell
+-- the digest of a word: that of a token, or in a store the one that 64 hexadecimal digits spell
 unfoldable pub digest_of : Origin → List ℕ → Option (List ℕ)
 digest_of Connection word = token_of word
 digest_of Store word = result_ok (decode_sized word 32)
@@ -65,8 +65,9 @@ unfoldable pub object_by : Origin → Bool → List ℕ → Option Object
 object_by origin true word = option_map Cell (name_of origin word)
 object_by origin false word = if name_eq word (codes "desk") then Some Desk else None
 
--- an operation on cells has a cell's name as object, and one on the desk the word `desk`. A grant's value may hold an
--- object of the other kind: no line of a connection asks it, and in a store a tab stands before that object's word
+-- an operation on cells has a cell's name as object, and one on the desk the word `desk`. A grant's value may
+-- have an object of the other kind: no line of a connection asks for it, and in a store a tab comes before
+-- that object's word
 abbrev pub stored_object : Bool → List ℕ → Option Object
 stored_object on_cells [] = object_by Store on_cells []
 stored_object on_cells (first ∷ rest) =
@@ -105,7 +106,8 @@ names_of origin [] = Some []
 names_of origin (word ∷ words) =
     name_of origin word >>= λ name. option_map (λ names. name ∷ names) (names_of origin words)
 
--- a set of roles of which nobody may have that many: its name, that number and the roles, where they have the form of one
+-- a set of roles of which nobody may have that many: its name, that number and the roles, if they have the
+-- form of one
 unfoldable pub set_of : Origin → List ℕ → List ℕ → List (List ℕ) → Option SeparationSet
 set_of origin name cardinality roles = do
   name ← name_of origin name
@@ -121,7 +123,7 @@ placing_by origin orient x y = do
   y ← coordinate_of origin y
   Some (record { orient = orient; by = record { x = x; y = y } })
 
--- the same of words, of which there are to be three
+-- the same for a list of words, which must be three
 abbrev pub placing_of : Origin → List (List ℕ) → Option Placing
 placing_of origin [] = None
 placing_of origin (a ∷ []) = None
@@ -136,7 +138,7 @@ placement_of origin cell label words = do
   placing ← placing_of origin words
   Some (wafer.Place names.0 names.1 placing)
 
--- the requests of a verb alone
+-- the requests with a verb alone
 unfoldable pub bare_request : List ℕ → Option Request
 bare_request verb =
     if name_eq verb (codes "close") then Some (Policy Close)
@@ -151,7 +153,7 @@ bare_request verb =
     else if name_eq verb (codes "trail") then Some Trail
     else None
 
--- the requests of the policy of a verb and one name
+-- the policy requests with a verb and one name
 unfoldable pub request_of_one : Origin → List ℕ → List ℕ → Option PolicyRequest
 request_of_one origin verb word =
     if name_eq verb (codes "activate") then option_map Activate (name_of origin word)
@@ -163,7 +165,7 @@ request_of_one origin verb word =
     else if name_eq verb (codes "undsd") then option_map UnDsd (name_of origin word)
     else None
 
--- those of a verb and two words
+-- those with a verb and two words
 unfoldable pub request_of_two : Origin → List ℕ → List ℕ → List ℕ → Option PolicyRequest
 request_of_two origin verb first second =
     if name_eq verb (codes "open") then option_map (λ login. Open login.0 login.1)
@@ -180,7 +182,7 @@ request_of_two origin verb first second =
     (pair_of origin first second)
     else None
 
--- those of a verb and three words
+-- those with a verb and three words
 unfoldable pub request_of_three : Origin → List ℕ → List ℕ → List ℕ → List ℕ → Option PolicyRequest
 request_of_three origin verb operation object role =
     if name_eq verb (codes "grant") then option_map Grant (grant_of origin operation object role)
@@ -188,7 +190,7 @@ request_of_three origin verb operation object role =
     then option_map Revoke (grant_of origin operation object role)
     else None
 
--- those of a verb, a set's name and cardinality, and two roles or more
+-- those with a verb, a set's name and cardinality, and two roles or more
 unfoldable pub request_of_more : Origin → List ℕ → List ℕ → List ℕ → List (List ℕ)
     → Option PolicyRequest
 request_of_more origin verb name cardinality roles =
@@ -196,7 +198,7 @@ request_of_more origin verb name cardinality roles =
     else if name_eq verb (codes "dsd") then option_map Dsd (set_of origin name cardinality roles)
     else None
 
--- what a request's line asks, and no form where it is none's
+-- what a request's line asks for, or `Form` if there is no request
 abbrev pub asked : Option Request → LineAsk
 asked (Some request) = ask.Request request
 asked None = ask.Form
@@ -210,22 +212,22 @@ asked_wafer request = asked (option_map Wafer request)
 abbrev pub asked_sign_off : Option SignOffRequest → LineAsk
 asked_sign_off request = asked (option_map SignOff request)
 
--- the greatest number of bytes that follow a line
+-- the greatest number of bytes of a payload
 unfoldable pub max_payload : ℕ
 max_payload = 16777216
 
--- the greatest number of bytes that a length word counts: in a store any that a slice may have
+-- the greatest number that a length word may give: in a store that of the bytes of a slice
 unfoldable pub longest : Origin → ℕ
 longest Connection = max_payload
 longest Store = 9223372036854775807
 
--- what is asked with that many bytes; a number of them that is too great is so whatever its digits are
+-- what is asked for with that many bytes; a number that is too great is so whatever its digits are
 abbrev pub with_length : (ℕ → LineAsk) → Bool → Option ℕ → LineAsk
 with_length offer false length = ask.Form
 with_length offer true (Some length) = offer length
 with_length offer true None = ask.Long
 
--- the same of the word of that number
+-- the same for the word of that number
 abbrev pub offered : Origin → (ℕ → LineAsk) → List ℕ → LineAsk
 offered origin offer word = with_length offer (is_decimal word) (number_of 0 (longest origin) word)
 
@@ -234,16 +236,16 @@ submission_to origin None top length = ask.Form
 submission_to origin (Some cell) None length = ask.Form
 submission_to origin (Some cell) (Some top) length = offered origin (ask.Submission cell top) length
 
--- to submit a cell with a structure, and how many bytes follow
+-- to submit a cell with a structure, and the length of the payload
 unfoldable pub submission_of : Origin → List ℕ → List ℕ → List ℕ → LineAsk
 submission_of origin cell top length =
     submission_to origin (name_of origin cell) (name_of origin top) length
 
--- to bring a deck, of which so many bytes follow
+-- to upload a deck, whose payload has that many bytes
 unfoldable pub deck_of : Origin → List ℕ → LineAsk
 deck_of origin length = offered origin ask.Deck length
 
--- what a verb and one word ask
+-- what a verb and one word ask for
 unfoldable pub ask_of_one : Origin → List ℕ → List ℕ → LineAsk
 ask_of_one origin verb word =
     if name_eq verb (codes "shapes") then asked
@@ -255,26 +257,26 @@ ask_of_one origin verb word =
     then asked_sign_off (option_map sign_off.Sign (key_of origin word))
     else asked_policy (request_of_one origin verb word)
 
--- what a verb and two words ask
+-- what a verb and two words ask for
 unfoldable pub ask_of_two : Origin → List ℕ → List ℕ → List ℕ → LineAsk
 ask_of_two origin verb first second =
     if name_eq verb (codes "unplace") then asked_wafer
     (option_map (λ names. wafer.Unplace names.0 names.1) (pair_of origin first second))
     else asked_policy (request_of_two origin verb first second)
 
--- what a verb and three words ask
+-- what a verb and three words ask for
 unfoldable pub ask_of_three : Origin → List ℕ → List ℕ → List ℕ → List ℕ → LineAsk
 ask_of_three origin verb first second third =
     if name_eq verb (codes "submit") then submission_of origin first second third
     else asked_policy (request_of_three origin verb first second third)
 
--- what a verb and four words or more ask
+-- what a verb and four words or more ask for
 unfoldable pub ask_of_more : Origin → List ℕ → List ℕ → List ℕ → List (List ℕ) → LineAsk
 ask_of_more origin verb first second rest =
     if name_eq verb (codes "place") then asked_wafer (placement_of origin first second rest)
     else asked_policy (request_of_more origin verb first second rest)
 
--- what the words of a line ask
+-- what the words of a line ask for
 abbrev pub ask_by : Origin → List (List ℕ) → LineAsk
 ask_by origin [] = ask.Form
 ask_by origin (verb ∷ []) = asked (bare_request verb)
@@ -283,6 +285,6 @@ ask_by origin (verb ∷ a ∷ b ∷ []) = ask_of_two origin verb a b
 ask_by origin (verb ∷ a ∷ b ∷ c ∷ []) = ask_of_three origin verb a b c
 ask_by origin (verb ∷ a ∷ b ∷ c ∷ d ∷ more) = ask_of_more origin verb a b (c ∷ d ∷ more)
 
--- what a line of a connection asks
+-- what a line of a connection asks for
 abbrev pub ask_of : List ℕ → LineAsk
 ask_of line = ask_by Connection (words line)

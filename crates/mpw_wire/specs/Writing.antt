@@ -5,7 +5,7 @@ use Rattle.std.specs.Io.Iter.{u64_saturate}
 use Rattle.mpw_wire.specs.declared.fault.WireFault.{WireFault}
 use Rattle.mpw_wire.specs.declared.fault.WireFault.TheVariants.{Read, Write, Memory}
 
--- the fault that a result tells
+-- the fault of a result
 abbrev pub fault_of : {A : Type 0} → Result A WireFault → Option WireFault
 fault_of (Ok answer) = None
 fault_of (Err fault) = Some fault
@@ -24,7 +24,7 @@ WritesKnown old new failed failed' (Some Write) text =
 WritesKnown old new failed failed' (Some Read) text = ⊥
 WritesKnown old new failed failed' (Some Memory) text = ⊥
 
--- the same of a sink, by what it holds and its failures
+-- the same for a sink, by its bytes and its failures
 abbrev pub Writes : {S A : Type 0} → (S → Option (List ℕ)) → (S → ℕ) → S → S → Result A WireFault
     → List ℕ → Type 0
 Writes contents failures old new result text =

@@ -1,8 +1,7 @@
-//! Devices: what gives bytes and what takes them.
+//! Devices: they give bytes or take them.
 //!
-//! A [`Source`] tells which bytes it has left and a [`Sink`] which it holds, where that is known, and both count their
-//! failures; a sink also tells whether it was handed bytes since it was flushed. [`Counted`] makes them of std's readers
-//! and writers.
+//! A [`Source`] shows which bytes it has left, and a [`Sink`] which bytes it has taken, if that is known. Both count their failures. A sink
+//! also shows whether it took bytes since it was flushed. [`Counted`] makes both from std's readers and writers.
 ghost use Rattle.std.specs.Prelude.{◌≡◌, ℕ, Bool, false, List, ◌+◌, ◌<◌, ◌≤◌, length, IfOk, Option};
 ghost use Rattle.std.specs.Io.KnownBytes.{Keeps, ReadConsumes, WriteAppends};
 ghost use Rattle.std.specs.Io.Iter.{u64_saturate};
@@ -18,7 +17,7 @@ use thiserror::Error;
 #[error("the device failed")]
 pub struct DeviceFault;
 
-/// A reader by the bytes that it has left, where they are known, and by the number of its failures.
+/// A reader: the bytes that it has left, if they are known, and the number of its failures.
 pub trait Source {
     ghost remaining: { Self → Option (List ℕ) };
 
@@ -30,8 +29,8 @@ pub trait Source {
         ensures failures { failures self.new ≡ failures_after result (failures self.old) };
 }
 
-/// A writer by the bytes that it holds, where they are known, by the number of its failures, and by whether bytes are
-/// pending: they were taken, and no flush succeeded since.
+/// A writer: the bytes that it has taken, if they are known, the number of its failures, and whether bytes are pending. Bytes are pending
+/// if they were taken and no flush succeeded since.
 pub trait Sink {
     ghost contents: { Self → Option (List ℕ) };
 
@@ -39,7 +38,7 @@ pub trait Sink {
 
     ghost pending: { Self → Bool };
 
-    /// Takes bytes off the front, at least one where there is one, and says how many.
+    /// Takes bytes off the front, at least one if there is one. It returns how many.
     fn write(&mut self, bytes: &[u8]) -> Result<usize, DeviceFault>
         ensures bound { IfOk result (λ taken. taken ≤ length bytes.now) }
         ensures some { IfOk result (λ taken. 0 < length bytes.now → 0 < taken) }
@@ -47,15 +46,15 @@ pub trait Sink {
         ensures pending { pending self.new ≡ pending_after_write result (pending self.old) }
         ensures failures { failures self.new ≡ failures_after result (failures self.old) };
 
-    /// Hands on what was taken.
+    /// Passes on the bytes that it took.
     fn flush(&mut self) -> Result<(), DeviceFault>
         ensures bytes { Keeps (contents self.old) (contents self.new) }
         ensures pending { pending self.new ≡ pending_after_flush result (pending self.old) }
         ensures failures { failures self.new ≡ failures_after result (failures self.old) };
 }
 
-/// A reader or a writer of std's with the number of its failures, and whether it took bytes since it was flushed. A call
-/// that a signal interrupts is made again and is no failure; a write that takes nothing of some bytes is one.
+/// A reader or a writer of std, with the number of its failures, and whether it took bytes since it was flushed. A call that a signal
+/// interrupts is made again, and is no failure. A write that takes nothing of some bytes is one.
 #[derive(Drop)]
 pub struct Counted<D> {
     device: D,
@@ -86,7 +85,7 @@ impl<D> Counted<D> {
     }
 }
 
-/// Reads, again where a signal interrupts the call.
+/// Reads, again if a signal interrupts the call.
 fn read_again<R: Read>(reader: &mut R, buffer: &mut [u8]) -> io::Result<usize>
     ensures bound { ReadsAtMost result buffer.new }
     ensures bytes { ReadConsumes (R.remaining reader.old) (R.remaining reader.new) result buffer.new }
@@ -100,7 +99,7 @@ fn read_again<R: Read>(reader: &mut R, buffer: &mut [u8]) -> io::Result<usize>
     Err(io::Error::from(ErrorKind::Interrupted))
 }
 
-/// Writes, again where a signal interrupts the call.
+/// Writes, again if a signal interrupts the call.
 fn write_again<W: Write>(writer: &mut W, bytes: &[u8]) -> io::Result<usize>
     ensures bound { WritesAtMost result bytes.now }
     ensures bytes { WriteAppends (W.contents writer.old) (W.contents writer.new) result bytes.now }

@@ -1,4 +1,4 @@
-//! Why serving a connection broke off.
+//! Why serving a connection stopped.
 ghost use Rattle.std.specs.Prelude.{◌≡◌};
 ghost use Rattle.mpw_wire.specs.declared.fault.WireFault.TheVariants.{Memory};
 
@@ -8,13 +8,13 @@ use thiserror::Error;
 /// What failed while lines were read or replies were written.
 #[derive(Clone, Copy, Debug, PartialEq, Eq, Error)]
 pub enum WireFault {
-    /// The source failed; the connection ends without a further reply.
+    /// The source failed. The connection ends without a further reply.
     #[error("the input could not be read")]
     Read,
-    /// The sink failed; the connection ends without a further reply.
+    /// The sink failed. The connection ends without a further reply.
     #[error("the output could not be written")]
     Write,
-    /// There was no room to read a line.
+    /// There was no memory to read a line.
     #[error("out of memory")]
     Memory,
 }

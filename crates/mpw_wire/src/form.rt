@@ -1,4 +1,4 @@
-//! The forms of requests: a verb, and how many words stand behind it.
+//! The forms of requests: a verb, and the number of words after it.
 ghost use Rattle.std.specs.Prelude.{◌≡◌, ℕ, List, IfOk, Some, option_map, if◌then◌else◌};
 ghost use Rattle.mpw_wire.specs.Names.{name_of};
 ghost use Rattle.mpw_wire.specs.declared.operand.Origin.{Origin};
@@ -13,7 +13,7 @@ use mpw_geom::Name;
 use mpw_requests::{LayoutRequest, PolicyRequest, Request, RunRequest, SignOffRequest};
 use std::alloc::{AllocError, Global};
 
-/// The requests of a verb alone.
+/// The requests with a verb alone.
 #[tactic(auto, unfolding(crate::specs::Request::bare_request))]
 pub(crate) fn bare(verb: &[u8]) -> Option<Request>
     ensures { result ≡ bare_request verb.now }
@@ -43,7 +43,7 @@ pub(crate) fn bare(verb: &[u8]) -> Option<Request>
     }
 }
 
-/// The request of the policy of a verb and a name.
+/// The policy request of a verb and a name.
 #[tactic(auto, unfolding(crate::specs::Request::request_of_one))]
 fn of_name(verb: &[u8], name: Name) -> Option<PolicyRequest>
     ensures { (origin : Origin) (word : List ℕ) → name_of origin word ≡ Some name → result ≡ request_of_one origin verb.now word }
@@ -67,7 +67,7 @@ fn of_name(verb: &[u8], name: Name) -> Option<PolicyRequest>
     }
 }
 
-/// The requests of the policy of a verb and one name.
+/// The policy requests with a verb and one name.
 #[tactic(auto, using(crate::proofs::FormLemmas::unnamed))]
 pub(crate) fn of_one(
     alloc: Global,
@@ -83,7 +83,7 @@ pub(crate) fn of_one(
     }
 }
 
-/// The request of the policy that a user and a digest make: to open a session, or else to add the user.
+/// The policy request of a user and a digest: to open a session, or to add the user.
 fn of_login(
     alloc: Global,
     origin: Origin,
@@ -105,7 +105,7 @@ fn of_login(
     }
 }
 
-/// What a request of the policy asks of two names.
+/// What a policy request asks of two names.
 #[derive(Clone, Copy)]
 pub(crate) enum Pairing {
     Assign,
@@ -114,7 +114,7 @@ pub(crate) enum Pairing {
     Uninherit,
 }
 
-/// The request of the policy that two names make.
+/// The policy request of two names.
 fn of_pair(
     alloc: Global,
     origin: Origin,
@@ -147,7 +147,7 @@ fn of_pair(
     }))
 }
 
-/// The requests of a verb and two words.
+/// The requests with a verb and two words.
 #[tactic(auto, unfolding(crate::specs::Request::request_of_two))]
 pub(crate) fn of_two(
     alloc: Global,
@@ -175,7 +175,7 @@ pub(crate) fn of_two(
     }
 }
 
-/// The request of the policy that a grant makes: to grant it, or else to revoke it.
+/// The policy request of a grant: to grant it, or to revoke it.
 fn of_grant(
     alloc: Global,
     origin: Origin,
@@ -196,7 +196,7 @@ fn of_grant(
     }
 }
 
-/// The requests of a verb and three words.
+/// The requests with a verb and three words.
 #[tactic(auto, unfolding(crate::specs::Request::request_of_three))]
 pub(crate) fn of_three(
     alloc: Global,
@@ -217,7 +217,7 @@ pub(crate) fn of_three(
     }
 }
 
-/// The request of the policy that a set of roles makes: static separation, or else dynamic.
+/// The policy request of a set of roles: static separation, or dynamic.
 fn of_set(
     alloc: Global,
     origin: Origin,
@@ -238,7 +238,7 @@ fn of_set(
     }
 }
 
-/// The requests of a verb, a set's name and cardinality, and two roles or more.
+/// The requests with a verb, a set's name and cardinality, and two roles or more.
 #[tactic(auto, unfolding(crate::specs::Request::request_of_more))]
 pub(crate) fn of_more(
     alloc: Global,

@@ -1,6 +1,6 @@
-//! Keys of markers, as words: the name of a rule, and behind colons where the marker lies.
+//! Keys of markers, as words: the name of a rule and the place of the marker, with colons between the parts.
 //!
-//! A name may hold colons, so a key is read from its end.
+//! A name may have colons, so a key is read from its end.
 ghost use Rattle.std.specs.Prelude.{◌≡◌, Some, None, IfOk, IfSome, IfNone};
 ghost use Rattle.mpw_text.specs.Text.{number_of};
 ghost use Rattle.mpw_wire.specs.Keys.{cut_last, axis_of, greatest_side, last_coordinate, last_side, last_axis, last_spot, key_of};
@@ -12,24 +12,24 @@ use mpw_requests::MarkerName;
 use mpw_text::read_number;
 use std::alloc::{AllocError, Global};
 
-/// Where a marker lies: its axis, its side, and its coordinates in nm.
+/// The place of a marker: its axis, its side, and its coordinates in nm.
 #[derive(Clone, Copy)]
 pub struct Spot {
     /// `V` or `H`, the direction of the edges.
     pub axis: Axis,
-    /// Which of the two kinds of pairs that a rule of two layers finds, 0 or 1; 0 of other rules.
+    /// Which of its two kinds of pairs a rule of two layers found, 0 or 1. It is 0 for other rules.
     pub side: u8,
-    /// The first edge: from -2^30 to 2^30, as the other three.
+    /// The first edge: from -2^30 to 2^30, like the other three.
     pub x1: i64,
-    /// The second edge: in a marker `x1` or more, in a request any.
+    /// The second edge: in a marker at least `x1`, in a request any.
     pub x2: i64,
     /// The first row.
     pub y0: i64,
-    /// The row behind the last one: in a marker above `y0`, in a request any.
+    /// The row after the last one: in a marker above `y0`, in a request any.
     pub y1: i64,
 }
 
-/// What stands before the last colon, and what stands behind it. It looks from the end.
+/// The parts before and after the last colon. It searches from the end.
 fn cut_last(word: &[u8]) -> Option<(&[u8], &[u8])>
     ensures some { IfSome result (λ parts. cut_last word.now ≡ Some (parts.0.now, parts.1.now)) }
     ensures none { IfNone result (cut_last word.now ≡ None) }
@@ -58,7 +58,7 @@ fn axis(word: &[u8]) -> Option<Axis>
     }
 }
 
-/// The side that a word spells: 0 or 1 on a connection, and in a store what a byte tells.
+/// The side that a word spells: 0 or 1 on a connection, and in a store any value of a byte.
 #[tactic(auto, unfolding(crate::specs::Keys::greatest_side))]
 fn side(origin: Origin, word: &[u8]) -> Option<u8>
     ensures { result ≡ number_of 0 (greatest_side origin) word.now }
@@ -73,7 +73,7 @@ fn side(origin: Origin, word: &[u8]) -> Option<u8>
     }
 }
 
-/// The coordinate behind the last colon, and what stands before it.
+/// The coordinate after the last colon, and the part before it.
 #[tactic(auto, unfolding(crate::specs::Keys::last_coordinate))]
 fn last_coordinate(origin: Origin, word: &[u8]) -> Option<(&[u8], i64)>
     ensures some { IfSome result (λ found. last_coordinate origin word.now ≡ Some (found.0.now, found.1)) }
@@ -84,7 +84,7 @@ fn last_coordinate(origin: Origin, word: &[u8]) -> Option<(&[u8], i64)>
     Some((rest, coordinate))
 }
 
-/// The side behind the last colon, and what stands before it.
+/// The side after the last colon, and the part before it.
 #[tactic(auto, unfolding(crate::specs::Keys::last_side))]
 fn last_side(origin: Origin, word: &[u8]) -> Option<(&[u8], u8)>
     ensures some { IfSome result (λ found. last_side origin word.now ≡ Some (found.0.now, found.1)) }
@@ -95,7 +95,7 @@ fn last_side(origin: Origin, word: &[u8]) -> Option<(&[u8], u8)>
     Some((rest, side))
 }
 
-/// The axis behind the last colon, and what stands before it.
+/// The axis after the last colon, and the part before it.
 #[tactic(auto, unfolding(crate::specs::Keys::last_axis))]
 fn last_axis(word: &[u8]) -> Option<(&[u8], Axis)>
     ensures some { IfSome result (λ found. last_axis word.now ≡ Some (found.0.now, found.1)) }
@@ -106,7 +106,7 @@ fn last_axis(word: &[u8]) -> Option<(&[u8], Axis)>
     Some((rest, axis))
 }
 
-/// Where a marker lies by the end of its key, and what stands before.
+/// The place of a marker by the end of its key, and the part before it.
 #[tactic(auto, unfolding(crate::specs::Keys::last_spot))]
 fn last_spot(origin: Origin, word: &[u8]) -> Option<(&[u8], Spot)>
     ensures some { IfSome result (λ found. last_spot origin word.now ≡ Some (found.0.now, found.1)) }

@@ -1,8 +1,8 @@
-//! Lines of text to requests, and the devices that they come from.
+//! Reads requests from lines of text, and has the devices that the lines come from.
 //!
-//! A request is one line of words parted by one space, and behind some of them bytes that the line counts. [`parse_line`]
-//! reads such a line, and [`read_request`] takes one off a source with its bytes. A token is read into its SHA-256 digest at once
-//! and is kept nowhere.
+//! A request is a line of words with one space between them. After some lines comes a payload, whose number of bytes the line gives.
+//! [`parse_line`] reads such a line. [`read_request`] takes a line with its payload off a source. A token is turned into its SHA-256 digest
+//! at once, and is stored nowhere.
 #![tactic(auto)]
 
 mod device;

@@ -21,10 +21,10 @@ pub(crate) enum Taken {
     End,
 }
 
-/// Takes a line off the front of the input: a byte each turn.
+/// Takes a line off the front of the input, one byte each turn.
 ///
 /// # Errors
-/// `Read` where the source failed, and `Memory` where there is no room for the line.
+/// `Read` if the source failed, and `Memory` if out of memory.
 pub(crate) fn take_line<R: Source>(alloc: Global, reader: &mut R) -> Result<Taken, WireFault>
     ensures taken { IfOk result (Takes (R.remaining reader.old) (R.remaining reader.new)) }
     ensures fault { IfErr result (BreaksLine (R.remaining reader.old) (R.remaining reader.new)) }
@@ -46,10 +46,10 @@ pub(crate) fn take_line<R: Source>(alloc: Global, reader: &mut R) -> Result<Take
     Ok(Taken::Long)
 }
 
-/// Takes so many bytes off the front of the input: a byte each turn. It answers `None` where the input ends before.
+/// Takes that many bytes off the front of the input, one byte each turn. It returns `None` if the input ends before.
 ///
 /// # Errors
-/// `Read` where the source failed, and `Memory` where there is no room for the bytes.
+/// `Read` if the source failed, and `Memory` if out of memory.
 pub(crate) fn take_bytes<R: Source>(
     alloc: Global,
     reader: &mut R,

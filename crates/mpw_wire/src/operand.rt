@@ -1,7 +1,7 @@
-//! The parts of requests: names, digests, grants and sets of roles, off the words of a line.
+//! The parts of requests: names, digests, grants and sets of roles, from the words of a line.
 //!
-//! A line stands on a connection or in a store, and both have the same forms. What differs is how a word is read: a
-//! connection has a token where a store has the digits of its digest.
+//! A line comes from a connection or from a store. Both have the same forms, but they read some words differently: a connection has a token
+//! where a store has the digits of its digest.
 ghost use Rattle.std.specs.Prelude.{◌≡◌, IfOk};
 ghost use Rattle.mpw_geom.specs.Names.{name_eq};
 ghost use Rattle.mpw_wire.specs.Request.{token_of, digest_of, operation_of, object_by, object_of, grant_of, login_of, pair_of, names_of, set_of};
@@ -16,12 +16,12 @@ use mpw_separation::SeparationSet;
 use mpw_text::{parts, read_count};
 use std::alloc::{AllocError, Global};
 
-/// Where a line stands.
+/// Where a line comes from.
 #[derive(Clone, Copy)]
 pub enum Origin {
-    /// On a connection.
+    /// From a connection.
     Connection,
-    /// In a store.
+    /// From a store.
     Store,
 }
 
@@ -72,7 +72,7 @@ fn token(word: &[u8]) -> Option<Digest>
     }
 }
 
-/// The digest that a word gives: that of a token, or the one that the digits spell.
+/// The digest of a word: that of a token, or the one that the digits spell.
 #[tactic(auto, unfolding(crate::specs::Request::digest_of))]
 fn digest(origin: Origin, word: &[u8]) -> Option<Digest>
     ensures { result ≡ digest_of origin word.now }
@@ -115,7 +115,7 @@ fn operation(word: &[u8]) -> Option<Operation>
     }
 }
 
-/// The cell of a name, or the desk, as a word tells it.
+/// The cell of a name, or the desk, by a word.
 #[tactic(auto, unfolding(crate::specs::Request::object_by))]
 fn object_by(
     alloc: Global,
@@ -137,7 +137,7 @@ fn object_by(
     Ok(None)
 }
 
-/// The object of an operation that a word is. In a store a tab before the word tells an object of the other kind.
+/// The object of an operation, by a word. In a store, a tab before the word marks an object of the other kind.
 #[tactic(auto, unfolding(crate::specs::Request::object_of))]
 fn object(
     alloc: Global,

@@ -1,4 +1,4 @@
-//! Placings, off the words of a line: an orientation, and coordinates in nm.
+//! Placings, from the words of a line: an orientation, and coordinates in nm.
 ghost use Rattle.std.specs.Prelude.{◌≡◌, pos, IfOk, option_map};
 ghost use Rattle.mpw_wire.specs.Placement.{orient_of, farthest_below, farthest_above, negative, coordinate_of};
 ghost use Rattle.mpw_text.specs.Text.{number_of};
@@ -12,7 +12,7 @@ use mpw_requests::WaferRequest;
 use mpw_text::read_count;
 use std::alloc::{AllocError, Global};
 
-/// How far from 0 a coordinate of a connection may lie, in nm.
+/// The largest distance of a connection's coordinate from 0, in nm.
 const MAX_COORDINATE: usize = 1 << 30;
 
 /// The orientation that a word names.
@@ -41,7 +41,7 @@ fn orient(word: &[u8]) -> Option<Orient>
     }
 }
 
-/// The number below 0 whose digits are these, no further than a line of that origin may tell.
+/// The number below 0 with these digits, at most as far from 0 as a line of that origin allows.
 #[tactic(auto, using(crate::proofs::PlacementLemmas::within), unfolding(crate::specs::Placement::farthest_below))]
 fn below(origin: Origin, digits: &[u8]) -> Option<i64>
     ensures { result ≡ option_map negative (number_of 1 (farthest_below origin) digits.now) }
@@ -56,7 +56,7 @@ fn below(origin: Origin, digits: &[u8]) -> Option<i64>
     }
 }
 
-/// The number from 0 on whose digits are these, no further than a line of that origin may tell.
+/// The number from 0 on with these digits, at most as far from 0 as a line of that origin allows.
 #[tactic(auto, using(crate::proofs::PlacementLemmas::within), unfolding(crate::specs::Placement::farthest_above))]
 fn above(origin: Origin, digits: &[u8]) -> Option<i64>
     ensures { result ≡ option_map pos (number_of 0 (farthest_above origin) digits.now) }
@@ -71,7 +71,7 @@ fn above(origin: Origin, digits: &[u8]) -> Option<i64>
     }
 }
 
-/// The coordinate that a word spells, in nm: digits without a leading zero, behind a minus sign where it is below 0.
+/// The coordinate that a word spells, in nm: digits without a leading zero, after a minus sign if it is below 0.
 #[tactic(auto, unfolding(crate::specs::Placement::coordinate_of))]
 pub(crate) fn coordinate(origin: Origin, word: &[u8]) -> Option<i64>
     ensures { result ≡ coordinate_of origin word.now }
@@ -96,7 +96,7 @@ fn placing_by(origin: Origin, orient_word: &[u8], x: &[u8], y: &[u8]) -> Option<
     })
 }
 
-/// The placing that the words of a text give.
+/// The placing of the words of a text.
 fn placing(origin: Origin, text: &[u8]) -> Option<Placing>
     ensures { result ≡ placing_of origin (words text.now) }
 {
@@ -108,7 +108,7 @@ fn placing(origin: Origin, text: &[u8]) -> Option<Placing>
     }
 }
 
-/// The placement of a cell under a label that two words and those of a text give.
+/// The placement of a cell under a label, by two words and those of a text.
 #[tactic(auto, unfolding(crate::specs::Request::placement_of))]
 pub(crate) fn placement(
     alloc: Global,

@@ -1,4 +1,4 @@
-//! Requests off the input.
+//! Requests from the input.
 ghost use Rattle.std.specs.Prelude.{◌≡◌, ℕ, List, Option, IfOk, IfErr};
 ghost use Rattle.mpw_wire.specs.Reading.{Reads, Breaks, TakesOffer, read_failures};
 ghost use Rattle.mpw_wire.specs.Writing.{fault_of};
@@ -13,22 +13,22 @@ use mpw_library::LibraryText;
 use mpw_requests::{LayoutRequest, Request, SharedRequest, WaferRequest};
 use std::alloc::Global;
 
-/// What the next line of the input asks.
+/// What the next line of the input asks for.
 #[derive(Drop)]
 pub enum Asked {
     /// The line is this request's text.
     Request(SharedRequest),
     /// The line is no request's text.
     Form,
-    /// The line is longer than 4096 bytes, or more than 2^24 are to follow it.
+    /// The line has more than 4096 bytes, or asks for a payload of more than 2^24 bytes.
     Long,
-    /// The input ends before the bytes that are to follow the line.
+    /// The input ends before the payload does.
     Cut,
     /// The input is at its end.
     End,
 }
 
-/// Reads the bytes that a line asks to submit.
+/// Reads the payload of a submission.
 fn read_submission<R: Source>(
     alloc: Global,
     reader: &mut R,
@@ -51,7 +51,7 @@ fn read_submission<R: Source>(
     }
 }
 
-/// Reads the bytes of a deck that a line asks to bring.
+/// Reads the payload of a deck.
 fn read_deck<R: Source>(alloc: Global, reader: &mut R, length: usize) -> Result<Asked, WireFault>
     ensures asked { (old : Option (List ℕ)) (line : List ℕ) → TakesOffer old (R.remaining reader.old) line (Deck length) → IfOk result (Reads old (R.remaining reader.new)) }
     ensures fault { (old : Option (List ℕ)) (line : List ℕ) → TakesOffer old (R.remaining reader.old) line (Deck length) → IfErr result (Breaks old (R.remaining reader.new)) }
@@ -68,12 +68,11 @@ fn read_deck<R: Source>(alloc: Global, reader: &mut R, length: usize) -> Result<
     }
 }
 
-/// Reads the next request of the input: a line, and the bytes that are to follow it. A line ends with a line feed,
-/// which the last one may lack where it isn't empty. It costs the text's size, and takes room for the line, the
-/// request's names, and the bytes with the library or the deck that they are of.
+/// Reads the next request of the input: a line and its payload. A line ends with a line feed. The last line needs none if it isn't empty.
+/// Cost: the size of the text. It takes memory for the line, for the request's names, and for the payload with its library or deck.
 ///
 /// # Errors
-/// `Read` where the source failed, and `Memory` where there is no room.
+/// `Read` if the source failed, and `Memory` if out of memory.
 pub fn read_request<R: Source>(alloc: Global, reader: &mut R) -> Result<Asked, WireFault>
     ensures asked { IfOk result (Reads (R.remaining reader.old) (R.remaining reader.new)) }
     ensures fault { IfErr result (Breaks (R.remaining reader.old) (R.remaining reader.new)) }

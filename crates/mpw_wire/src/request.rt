@@ -22,34 +22,34 @@ use mpw_requests::{
 use mpw_text::{is_decimal, read_count};
 use std::alloc::{AllocError, Global};
 
-/// The greatest number of bytes that follow a line.
+/// The greatest number of bytes of a payload.
 pub const MAX_PAYLOAD: usize = 1 << 24;
 
-/// The greatest number of bytes that a slice has.
+/// The greatest number of bytes of a slice.
 const MAX_SLICE: usize = (1 << 63) - 1;
 
-/// What a line asks.
+/// What a line asks for.
 #[derive(Drop)]
 pub enum LineAsk {
     /// The request whose text the line is.
     Request(SharedRequest),
-    /// To submit the bytes that follow the line, so many.
+    /// To submit the payload after the line, of `length` bytes.
     Submission {
         cell: Name,
         top: Name,
         length: usize,
     },
-    /// To bring the deck whose bytes follow the line, so many.
+    /// To upload the deck in the payload after the line, of `length` bytes.
     Deck {
         length: usize,
     },
-    /// More than 2^24 bytes are to follow the line.
+    /// The payload would have more than 2^24 bytes.
     Long,
     /// The line is no request's text.
     Form,
 }
 
-/// What a request's line asks, and no form where it is none's.
+/// What a request's line asks for, or `Form` if there is no request.
 fn ask(alloc: Global, request: Option<Request>) -> Result<LineAsk, AllocError>
     ensures { IfOk result (λ ask. ask ≡ asked request) }
 {
@@ -59,7 +59,7 @@ fn ask(alloc: Global, request: Option<Request>) -> Result<LineAsk, AllocError>
     }
 }
 
-/// The same of a request of the policy.
+/// The same for a policy request.
 fn ask_policy(alloc: Global, request: Option<PolicyRequest>) -> Result<LineAsk, AllocError>
     ensures { IfOk result (λ ask. ask ≡ asked_policy request) }
 {
@@ -69,7 +69,7 @@ fn ask_policy(alloc: Global, request: Option<PolicyRequest>) -> Result<LineAsk, 
     }
 }
 
-/// The same of a request over the wafer.
+/// The same for a request of the wafer.
 fn ask_wafer(alloc: Global, request: Option<WaferRequest>) -> Result<LineAsk, AllocError>
     ensures { IfOk result (λ ask. ask ≡ asked_wafer request) }
 {
@@ -79,7 +79,7 @@ fn ask_wafer(alloc: Global, request: Option<WaferRequest>) -> Result<LineAsk, Al
     }
 }
 
-/// The number of bytes that a word counts: up to 2^24 on a connection, and in a store up to what a slice has.
+/// The number of bytes that a word gives: at most 2^24 on a connection, and in a store at most the size of a slice.
 #[tactic(auto, unfolding(crate::specs::Request::longest, crate::specs::Request::max_payload))]
 fn payload_length(origin: Origin, word: &[u8]) -> Option<usize>
     ensures { result ≡ number_of 0 (longest origin) word.now }
@@ -90,7 +90,7 @@ fn payload_length(origin: Origin, word: &[u8]) -> Option<usize>
     }
 }
 
-/// What the words of a submission ask: a cell, a structure, and how many bytes follow.
+/// What the words of a submission ask for: a cell, a structure, and the length of the payload.
 #[tactic(auto, unfolding(crate::specs::Request::submission_of))]
 fn submission(
     alloc: Global,
@@ -116,7 +116,7 @@ fn submission(
     }
 }
 
-/// What the word of a deck asks: how many bytes follow.
+/// What the word of a deck asks for: the length of the payload.
 #[tactic(auto, unfolding(crate::specs::Request::deck_of))]
 fn deck(origin: Origin, length_word: &[u8]) -> LineAsk
     ensures { result ≡ deck_of origin length_word.now }
@@ -130,7 +130,7 @@ fn deck(origin: Origin, length_word: &[u8]) -> LineAsk
     }
 }
 
-/// What the word of a cell asks whose shapes are to be told.
+/// What the word of a cell asks for: its shapes.
 fn ask_shapes(alloc: Global, origin: Origin, word: &[u8]) -> Result<LineAsk, AllocError>
     ensures { IfOk result (λ ask. ask ≡ asked (option_map (λ cell. Layout (Shapes cell)) (name_of origin word.now))) }
 {
@@ -143,7 +143,7 @@ fn ask_shapes(alloc: Global, origin: Origin, word: &[u8]) -> Result<LineAsk, All
     }
 }
 
-/// What the key of a marker asks: to waive the marker, or else to sign its waiver.
+/// What the key of a marker asks for: to waive the marker, or to sign its waiver.
 fn ask_marker(
     alloc: Global,
     origin: Origin,
@@ -163,7 +163,7 @@ fn ask_marker(
     ask(alloc, Some(Request::SignOff(request)))
 }
 
-/// What a verb and one word ask.
+/// What a verb and one word ask for.
 #[tactic(auto, unfolding(crate::specs::Request::ask_of_one))]
 fn ask_one(alloc: Global, origin: Origin, verb: &[u8], word: &[u8]) -> Result<LineAsk, AllocError>
     ensures { IfOk result (λ ask. ask ≡ ask_of_one origin verb.now word.now) }
@@ -183,7 +183,7 @@ fn ask_one(alloc: Global, origin: Origin, verb: &[u8], word: &[u8]) -> Result<Li
     ask_policy(alloc, of_one(alloc, origin, verb, word)?)
 }
 
-/// What the names of a cell and a label ask whose placement is to be taken back.
+/// What the names of a cell and a label ask for: to remove that placement.
 fn ask_unplace(
     alloc: Global,
     origin: Origin,
@@ -201,7 +201,7 @@ fn ask_unplace(
     }
 }
 
-/// What a verb and two words ask.
+/// What a verb and two words ask for.
 #[tactic(auto, unfolding(crate::specs::Request::ask_of_two))]
 fn ask_two(
     alloc: Global,
@@ -218,7 +218,7 @@ fn ask_two(
     ask_policy(alloc, of_two(alloc, origin, verb, first, second)?)
 }
 
-/// What a verb and three words ask.
+/// What a verb and three words ask for.
 #[tactic(auto, unfolding(crate::specs::Request::ask_of_three))]
 fn ask_three(
     alloc: Global,
@@ -236,7 +236,7 @@ fn ask_three(
     ask_policy(alloc, of_three(alloc, origin, verb, first, second, third)?)
 }
 
-/// What a verb and four words or more ask; the words behind the first two stand in a text.
+/// What a verb and four words or more ask for. The words after the first two are a text.
 #[tactic(auto, unfolding(crate::specs::Request::ask_of_more))]
 fn ask_more(
     alloc: Global,
@@ -254,10 +254,10 @@ fn ask_more(
     ask_policy(alloc, of_more(alloc, origin, verb, first, second, rest)?)
 }
 
-/// What a line asks that stands there, without its line feed. Two passes at a token, and n log n comparisons at the roles of a set.
+/// What a line of that origin asks for, without its line feed. Cost: two passes over a token, and n log n comparisons for the roles of a set.
 ///
 /// # Errors
-/// Where there is no room for a name.
+/// `AllocError` if out of memory for a name.
 pub fn parse(alloc: Global, origin: Origin, line: &[u8]) -> Result<LineAsk, AllocError>
     ensures { IfOk result (λ ask. ask ≡ ask_by origin (words line.now)) }
 {
@@ -273,10 +273,10 @@ pub fn parse(alloc: Global, origin: Origin, line: &[u8]) -> Result<LineAsk, Allo
     }
 }
 
-/// What a line of a connection asks, without its line feed; it costs what [`parse`] does.
+/// What a line of a connection asks for, without its line feed. It costs what [`parse`] does.
 ///
 /// # Errors
-/// Where there is no room for a name.
+/// `AllocError` if out of memory for a name.
 pub fn parse_line(alloc: Global, line: &[u8]) -> Result<LineAsk, AllocError>
     ensures { IfOk result (λ ask. ask ≡ ask_of line.now) }
 {

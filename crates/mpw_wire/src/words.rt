@@ -1,4 +1,4 @@
-//! The words of a line: what its spaces part.
+//! The words of a line, which its spaces separate.
 ghost use Rattle.std.specs.Prelude.{◌≡◌, ◌==◌, [], ◌∷◌, position};
 ghost use Rattle.std.specs.Option.{option_map_or};
 ghost use Rattle.mpw_wire.specs.Words.{words};
@@ -10,18 +10,18 @@ pub(crate) enum Arguments<'a> {
     One(&'a [u8]),
     Two(&'a [u8], &'a [u8]),
     Three(&'a [u8], &'a [u8], &'a [u8]),
-    /// Four or more: the first two, and what stands behind the space that ends them.
+    /// Four or more: the first two, and the text after the space that ends them.
     More(&'a [u8], &'a [u8], &'a [u8]),
 }
 
-/// The place of the first space.
+/// The index of the first space.
 fn first_space(text: &[u8]) -> Option<usize>
     ensures { result ≡ position (λ byte. byte == 0x20) text.now }
 {
     text.iter().position(|byte| *byte == b' ')
 }
 
-/// The first word, and what stands behind the space that ends it.
+/// The first word, and the text after the space that ends it.
 #[tactic(auto, using(crate::proofs::WordLemmas::words_found, crate::proofs::WordLemmas::words_alone))]
 pub(crate) fn cut(text: &[u8]) -> (&[u8], Option<&[u8]>)
     ensures { words text.now ≡ result.0.now ∷ option_map_or (λ rest. words rest.now) result.1 [] }
@@ -32,7 +32,7 @@ pub(crate) fn cut(text: &[u8]) -> (&[u8], Option<&[u8]>)
     }
 }
 
-/// The words of what stands behind the first word's space.
+/// The words after the first word's space.
 #[tactic(auto, using(crate::proofs::WordLemmas::words_more))]
 pub(crate) fn read_arguments(rest: Option<&[u8]>) -> Arguments
     ensures { AreArguments result (option_map_or (λ rest. words rest.now) rest.entry []) }

@@ -1,4 +1,4 @@
--- The keys that a search finds, rule by rule, and the markers that are made of them.
+-- The keys that a search finds, rule by rule, and the markers that are made from them.
 use Rattle.std.proofs.Common.{◌≡◌, ℕ, ◌<◌, ◌≤◌, ◌+◌, suc, List, [], ◌∷◌, ◌++◌, length, get_or, take, map, Option, Some, ◌⊎◌, inl, inr, refl, sym, subst, ap, ◌∙◌, arith, append_assoc}
 use Rattle.std.specs.Prelude.{ℤ, ◌≤ℤ◌, ◌<ℤ◌, Contains, All, AllPairs, slice_get, ◌↔◌}
 use Rattle.std.specs.Ordering.{nat_cmp, ordering_then}

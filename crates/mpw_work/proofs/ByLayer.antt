@@ -1,4 +1,4 @@
--- Rectangles that stand by layer.
+-- Rectangles that are sorted by layer.
 use Rattle.std.proofs.Common.{◌≡◌, ℕ, ◌<◌, ◌≤◌, ◌+◌, Bool, true, false, ◌&&◌, ◌||◌, List, ◌++◌, length, get_or, take, drop, refl, sym, subst, ap, ◌∙◌, arith}
 use Rattle.std.specs.Prelude.{ℤ, All, nat_lt as ltb}
 use Rattle.std.specs.List.{AllWithin}

@@ -8,7 +8,7 @@ use Rattle.mpw_job.specs.declared.answer.Answer.{Answer}
 use Rattle.mpw_job.specs.Carried.{job_of}
 
 module _ (E : Type 0) where
-  -- a result is the answer of the job, where it is one
+  -- a result is the answer of the job, if it is Ok
   abbrev pub IsFor : Job → Result Answer E → Type 0
   IsFor job result = IfOk result (λ answer. job_of answer ≡ job)
 
@@ -22,7 +22,7 @@ module _ (E : Type 0) where
       let rest = carried js as' h.1 in
       (λ i. first i ∷ rest i)
 
-  -- where all are answers, these carry the jobs in their order
+  -- if all are answers, they have the jobs in their order
   pub all_carried : (jobs : List Job) (results : List (Result Answer E)) (answers : List Answer)
       → results ≡ map Ok answers → AllZip IsFor jobs results → map job_of answers ≡ jobs
   all_carried jobs results answers all h = carried jobs answers (subst (AllZip IsFor jobs) all h)

@@ -1,4 +1,4 @@
--- What the markers of keys meet.
+-- What the markers of keys touch.
 use Rattle.std.proofs.Common.{◌≡◌, ℕ, ◌<◌, ◌≤◌, ◌+◌, Bool, true, false, List, [], ◌∷◌, ◌++◌, length, get_or, take, map, ◌⊎◌, inl, inr, refl, sym, subst, ap, ◌∙◌, arith}
 use Rattle.std.specs.Prelude.{Contains, All, MatchBool, ◌↔◌}
 use Rattle.std.proofs.lemmas.Bool.{false≢true}
@@ -31,7 +31,7 @@ pub record AreThose (listed : List Rectangle) (found : List Located) : Type 0 wh
   pub areas : All (λ (r : Located). HasArea r.area) found
   pub squares : (origin : ℕ) (s : Square) → OriginHasSquare found origin s ↔ HasListed listed origin s
 
--- what the test of an area answers
+-- the result of the test of an area
 pub yes_area : (answer : Bool) (b : Box2) → answer ≡ true
     → MatchBool answer (HasArea b) (HasArea b → ⊥) → HasArea b
 yes_area true b e h = h
@@ -136,7 +136,7 @@ pub all_of : (listed : List Rectangle) (n : ℕ) (found : List Located) → leng
 all_of listed n found le h =
     subst (λ (xs : List Rectangle). AreThose xs found) (take_all n listed le) h
 
--- ---- the origins that are met
+-- ---- the origins that are touched
 
 met_alike : (listed : List Rectangle) (found : List Located) (b : Box2) (origin : ℕ)
     → AreThose listed found
@@ -194,7 +194,7 @@ are_markers listed keys mets markers e f t = record { keys_are = e; met = met }
               (t.met k origin (key_of d) (omega arith)));
         }
 
--- ---- one origin alone
+-- ---- exactly one origin
 
 pub alone : (origin : ℕ) → IsAscending (origin ∷ [])
 alone origin i j d lt within = absurd (omega arith)

@@ -1,4 +1,4 @@
--- A run in a core meets a rectangle of the window.
+-- A run in a core touches a rectangle of the window.
 use Rattle.std.proofs.Common.{ℕ, ◌&&◌, List, get_or, refl, arith}
 use Rattle.std.specs.Prelude.{ℤ, All}
 use Rattle.std.proofs.lemmas.Bool.{and_parts}
@@ -28,7 +28,7 @@ listed_seen listed layer i j e =
     let p = some_passes (λ (r : Rectangle). same_layer r.layer layer && has_square r.area s) listed e in
     (p.0.origin, (p.0, p.1, refl, (and_parts _ _ p.2).1))
 
--- a pair step within a core is one
+-- a pair step within a core is one of the whole plane
 anywhere : (rule : Rule) (a b : Squares) (core : Box2) (axis : Axis) (side : ℕ) (x1 x2 j : ℤ)
     → HasStep rule a b core axis side x1 x2 j → IsStepOn rule a b axis side x1 x2 j
 anywhere rule a b core V side x1 x2 j h = h.0

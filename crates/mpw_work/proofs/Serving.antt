@@ -16,7 +16,7 @@ use Rattle.mpw_job.specs.Layers.{Coverage, first_squares, second_squares}
 use Rattle.mpw_job.specs.Answers.{IsFoundIn}
 use Rattle.mpw_work.specs.Internal.Shared.{squares_on, LooksAt}
 
--- the pairs of a check are those of the layers that it looks at, as they are or exchanged
+-- the pairs of a check are those of its layers, as they are or exchanged
 abbrev AreItsPairs : (Squares → Squares) → Check → Coverage → Layer → Option Layer → Type 0
 AreItsPairs turned check on first second =
     (side : ℕ) (x1 x2 j : ℤ) → IsPair check (turned (on first)) (turned (squares_on on second)) side

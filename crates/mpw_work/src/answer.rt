@@ -1,4 +1,4 @@
-//! The answer of a job.
+//! Executes a job and makes its answer.
 
 ghost use Rattle.std.specs.Prelude.{◌≡◌, IfOk};
 ghost use Rattle.mpw_job.specs.Carried.{job_of};
@@ -9,13 +9,13 @@ use mpw_markers::TileMarkers;
 use mpw_tiles::cut;
 use std::alloc::{AllocError, Global};
 
-/// The bytes of the block that [`keep_freed`] takes.
+/// The bytes of the block that [`keep_freed`] allocates.
 const KEPT: usize = 4 << 20;
 
-/// Takes a block and gives it back untouched, since the C library's heap then keeps twice as much of what is freed. Until it
-/// was given back a large block it returns the end of the heap to the system wherever 128 KiB of it are free, as after each
-/// tile, and a page that is taken again costs a fault. The blocks after the first come from the thread's own heap, which so
-/// grows by one call of the system, where it would else grow page by page. Where there is no memory nothing changes.
+/// Allocates a block and frees it untouched. The C library's heap then keeps twice as much freed memory. Until a large block
+/// was freed, the heap returns its end to the system whenever 128 KiB of it are free, as after each tile, and each page that
+/// is allocated again costs a fault. Later blocks come from the thread's own heap, which then grows by one system call
+/// instead of page by page. If there is no memory, nothing changes.
 pub(crate) fn keep_freed(alloc: Global) {
     let block: Result<Vec<u8>, AllocError> = Vec::with_capacity(alloc, KEPT);
     drop(block);
@@ -41,14 +41,14 @@ fn tile_answer(alloc: Global, job: &TileJob) -> Result<TileAnswer, AllocError>
     Ok(TileAnswer::new(job, markers))
 }
 
-/// Does the job. The answer carries it, and its type keeps that it is right.
+/// Executes the job. The answer has the job, and its type guarantees that it is correct.
 ///
-/// A cut costs what [`cut`] does. A tile costs a sort of the window, what [`mpw_checks::strips_of`] takes for each group of
-/// rules that follow one another and look at the same layers, what [`mpw_checks::pieces_in`] takes for each rule, and where
-/// the window's rectangles are of several submissions what [`mpw_markers::met_origins`] takes for them and all runs together.
+/// Cost of a cut: that of [`cut`]. Cost of a tile: a sort of the window; what [`mpw_checks::strips_of`] takes for each group of
+/// consecutive rules with the same layers; what [`mpw_checks::pieces_in`] takes for each rule; and, if the window's rectangles
+/// are of several submissions, what [`mpw_markers::met_origins`] takes for them and all runs together.
 ///
 /// # Errors
-/// Where there is no memory.
+/// Out of memory.
 pub fn do_job(alloc: Global, job: &Job) -> Result<Answer, AllocError>
     ensures { IfOk result (λ a. job_of a ≡ job.now) }
 {

@@ -1,5 +1,5 @@
-//! Finding the markers of a tile: the runs of each rule in the core, and then what all of them
-//! meet.
+//! Finds the markers of a tile: first the runs of each rule in the core, then what all of them
+//! touch.
 
 ghost use Rattle.std.specs.Prelude.{◌≡◌, ◌++◌, IfOk, OnOk, map};
 ghost use Rattle.mpw_geom.specs.declared.plane.Box2.{Box2 as BoxValue};
@@ -18,7 +18,7 @@ use mpw_job::TileJob;
 use mpw_markers::{Key, Marker};
 use std::alloc::{AllocError, Global};
 
-/// The key of a run of the rule at that place.
+/// The key of a run of the rule at index `place`.
 fn key(place: u32, p: &Piece) -> Key
     ensures { result ≡ key_at place p.now }
 {
@@ -33,7 +33,7 @@ fn key(place: u32, p: &Piece) -> Key
     }
 }
 
-/// Adds the keys of the runs of the rule at that place.
+/// Adds the keys of the runs of the rule at index `place`.
 fn add_keys(keys: &mut Vec<Key>, place: u32, runs: &[Piece]) -> Result<(), AllocError>
     ensures { OnOk result (keys.new.items ≡ keys.old.items ++ map (key_at place) runs.now) }
 {
@@ -43,7 +43,7 @@ fn add_keys(keys: &mut Vec<Key>, place: u32, runs: &[Piece]) -> Result<(), Alloc
     Ok(())
 }
 
-/// Adds the keys of the runs of the rule at that place, which are found in strips that serve it.
+/// Adds the keys of the runs of the rule at index `place`. They are found in strips that serve the rule.
 fn add_rule(
     alloc: Global,
     keys: &mut Vec<Key>,

@@ -1,7 +1,7 @@
-//! The rectangles of a window by layer.
+//! Sorts the rectangles of a window by layer.
 //!
-//! They are put in order once for all rules, and those of a layer, which stand together, are taken for the
-//! rules that look at it.
+//! They are sorted once for all rules. Those of a layer are adjacent, and are selected for the
+//! rules on that layer.
 
 ghost use Rattle.std.specs.Prelude.{◌≡◌, ◌≤◌, ◌<◌, ◌^◌, ℤ, All, IfOk, take, drop, length};
 ghost use Rattle.std.specs.List.Sorted.{IsPermutation};
@@ -14,14 +14,14 @@ use mpw_geom::{Box2, Layer};
 use mpw_tiles::Rectangle;
 use std::alloc::{AllocError, Global};
 
-/// Whether the layers are one.
+/// Whether two layers are the same.
 fn same_layer(a: Layer, b: Layer) -> bool
     ensures { result ≡ same_layer a b }
 {
     (a.layer == b.layer) & (a.datatype == b.datatype)
 }
 
-/// The layer's place among all layers.
+/// The layer's number in the order of all layers.
 #[tactic(auto, unfolding(crate::specs::Internal::Layers::layer_code))]
 fn layer_code(layer: Layer) -> u64
     ensures code { result ≡ layer_code layer }
@@ -30,7 +30,7 @@ fn layer_code(layer: Layer) -> u64
     u64::from(layer.layer) * 65536 + u64::from(layer.datatype)
 }
 
-/// The rectangles by layer. A sort of them.
+/// The rectangles, sorted by layer.
 pub(crate) fn by_layer(alloc: Global, window: &[Rectangle]) -> Result<Vec<Rectangle>, AllocError>
     ensures ordered { IfOk result (λ v. IsByLayer v.items) }
     ensures same { IfOk result (λ v. IsPermutation window.now v.items) }
@@ -40,7 +40,7 @@ pub(crate) fn by_layer(alloc: Global, window: &[Rectangle]) -> Result<Vec<Rectan
     Ok(rectangles)
 }
 
-/// How many of the rectangles stand before that place. A binary search.
+/// How many of the rectangles come before that number. A binary search.
 fn count_before(rectangles: &[Rectangle], code: u64) -> usize
     requires { IsByLayer rectangles.now }
     ensures within { result ≤ length rectangles.now }
@@ -50,7 +50,7 @@ fn count_before(rectangles: &[Rectangle], code: u64) -> usize
     rectangles.partition_point(|r| layer_code(r.layer) < code)
 }
 
-/// Those of the rectangles that may be on the layer: two binary searches.
+/// The rectangles that may be on the layer: two binary searches.
 fn on_layer(rectangles: &[Rectangle], layer: Layer) -> &[Rectangle]
     requires { IsByLayer rectangles.now }
     ensures { (i j : ℤ) → listed_on result.now layer i j ≡ listed_on rectangles.now layer i j }
@@ -73,7 +73,7 @@ fn areas_of(alloc: Global, rectangles: &[Rectangle], layer: Layer) -> Result<Vec
     Ok(areas)
 }
 
-/// The areas on the layer, of rectangles by layer.
+/// The areas on the layer. The rectangles must be sorted by layer.
 pub(crate) fn areas_on(
     alloc: Global,
     rectangles: &[Rectangle],

@@ -1,7 +1,7 @@
-//! The work of jobs: cutting a snapshot into windows, and finding the markers of a tile.
+//! Executes jobs: cuts a snapshot into windows, and finds the markers of a tile.
 //!
-//! [`do_job`] answers a job, and [`work_all`] answers many in several threads. What jobs and answers are, and what comes of
-//! the answers of all tiles, is said by [`mpw_job`]: the type of an answer keeps that it is right.
+//! [`do_job`] executes one job, and [`work_all`] executes many in several threads. [`mpw_job`] defines jobs and answers, and says what follows from
+//! the answers of all tiles. The type of an answer guarantees that it is correct.
 #![tactic(auto)]
 
 mod answer;

@@ -1,7 +1,7 @@
-//! The submissions that markers meet.
+//! Finds the submissions that markers touch.
 //!
-//! Each marker meets one submission at least, so where all rectangles are of one, nothing is looked for. Else all markers of
-//! a tile are looked at together, so that a rectangle is not compared with each of them.
+//! Each marker touches at least one submission. So if all rectangles are of one submission, there is nothing to find. Otherwise all markers of
+//! a tile are searched together, so that a rectangle isn't compared with each of them.
 
 ghost use Rattle.std.specs.Prelude.{◌≡◌, ◌↔◌, ℕ, [], ◌∷◌, IfOk, IfSome, IsTrue, MatchBool, All, length, map};
 ghost use Rattle.mpw_geom.specs.Plane.{Square, HasArea, IsOrdered};
@@ -42,7 +42,7 @@ fn with_area(alloc: Global, window: &[Rectangle]) -> Result<Vec<mpw_markers::Rec
     Ok(found)
 }
 
-/// The closed box of a marker of this key.
+/// The closed box of a marker with this key.
 fn closed_box(key: &Key) -> Box2
     ensures { result ≡ key_box key.now }
 {
@@ -62,7 +62,7 @@ fn closed_box(key: &Key) -> Box2
     }
 }
 
-/// The closed boxes of markers of these keys.
+/// The closed boxes of markers with these keys.
 fn closed_boxes(alloc: Global, keys: &[Key]) -> Result<Vec<Box2>, AllocError>
     ensures { IfOk result (λ v. v.items ≡ map key_box keys.now) }
 {
@@ -73,7 +73,7 @@ fn closed_boxes(alloc: Global, keys: &[Key]) -> Result<Vec<Box2>, AllocError>
     Ok(boxes)
 }
 
-/// What the markers of these keys meet.
+/// What the markers with these keys touch.
 fn mets_of(alloc: Global, window: &[Rectangle], keys: &[Key]) -> Result<Vec<Met>, AllocError>
     requires { All (λ k. IsOrdered (key_box k)) keys.now }
     ensures { IfOk result (λ v. TellMet window.now keys.now v.items) }
@@ -84,7 +84,7 @@ fn mets_of(alloc: Global, window: &[Rectangle], keys: &[Key]) -> Result<Vec<Met>
     Ok(mets)
 }
 
-/// The marker of this key, which meets these submissions.
+/// The marker with this key, which touches these submissions.
 fn marker(key: &Key, met: Met) -> Marker
     ensures key { key_of result ≡ key.now }
     ensures met { result.met ≡ met }
@@ -101,7 +101,7 @@ fn marker(key: &Key, met: Met) -> Marker
     }
 }
 
-/// The markers of these keys, each with what it meets.
+/// The markers with these keys, each with what it touches.
 fn with_mets(alloc: Global, keys: &[Key], mets: &[Met]) -> Result<Vec<Marker>, AllocError>
     requires { length mets.now ≡ length keys.now }
     ensures keys { IfOk result (λ v. map key_of v.items ≡ keys.now) }
@@ -115,7 +115,7 @@ fn with_mets(alloc: Global, keys: &[Key], mets: &[Met]) -> Result<Vec<Marker>, A
     Ok(markers)
 }
 
-/// The markers of these keys, each with what is found that it meets.
+/// The markers with these keys, each with the submissions that are found to touch it.
 fn with_those_met(
     alloc: Global,
     window: &[Rectangle],
@@ -136,7 +136,7 @@ fn are_of(window: &[Rectangle], origin: u32) -> bool
     window.iter().all(|r| r.origin == origin)
 }
 
-/// The origin of all rectangles, where they have one.
+/// The origin of all rectangles, if they have only one.
 fn only_origin(window: &[Rectangle]) -> Option<u32>
     ensures { IfSome result (λ origin. All (λ r. r.origin ≡ origin) window.now) }
 {
@@ -147,7 +147,7 @@ fn only_origin(window: &[Rectangle]) -> Option<u32>
     }
 }
 
-/// The markers of these keys, each of which meets that origin alone.
+/// The markers with these keys, each of which touches that origin alone.
 fn with_origin(alloc: Global, keys: &[Key], origin: u32) -> Result<Vec<Marker>, AllocError>
     ensures keys { IfOk result (λ v. map key_of v.items ≡ keys.now) }
     ensures mets { IfOk result (λ v. All (λ m. m.met ≡ origin ∷ []) v.items) }
@@ -160,9 +160,9 @@ fn with_origin(alloc: Global, keys: &[Key], origin: u32) -> Result<Vec<Marker>, 
     Ok(markers)
 }
 
-/// The markers of these keys, each with the origins of the rectangles, on any layer, with a closed unit square that meets
-/// its closed box. A pass over the rectangles, and where they have several origins what [`met_origins`] takes for them and
-/// the boxes. An error is want of memory.
+/// The markers with these keys, each with the origins of the rectangles, on any layer, that have a closed unit square which touches
+/// its closed box. Cost: a pass over the rectangles, and, if they have several origins, what [`met_origins`] takes for them and the
+/// boxes. The only error is out of memory.
 pub(crate) fn markers_of(
     alloc: Global,
     window: &[Rectangle],

@@ -1,8 +1,8 @@
-//! Strips of a tile that rules share.
+//! Strips of a tile that several rules share.
 //!
-//! Rules that follow one another often look at the same layers: widths and spaces of a layer, and
-//! what lies near it on another. The core is cut into strips once for them, with bands for the
-//! greatest of their distances.
+//! Consecutive rules often have the same layers: widths and spaces of a layer, and its distances to
+//! another layer. The core is cut into strips once for them, with bands for the greatest of their
+//! distances.
 
 ghost use Rattle.std.specs.Prelude.{◌≡◌, ◌↔◌, Some, ℤ, IfOk, IfSome, IsTrue};
 ghost use Rattle.mpw_geom.specs.Plane.{IsBoxInPlane};
@@ -18,8 +18,8 @@ use mpw_geom::{Box2, Layer};
 use mpw_tiles::Rectangle;
 use std::alloc::{AllocError, Global};
 
-/// The strips of a core with the bands of a first layer, and of a second where there is one, for
-/// rules up to a distance in nm.
+/// The strips of a core with the bands of a first layer, and of a second if there is one, for rules
+/// up to a distance in nm.
 #[derive(Drop)]
 pub(crate) struct Shared {
     pub(crate) first: Layer,
@@ -28,14 +28,14 @@ pub(crate) struct Shared {
     pub(crate) strips: Strips,
 }
 
-/// Whether the layers are one.
+/// Whether two layers are the same.
 fn is_one(a: Layer, b: Layer) -> bool
     ensures { IsTrue result ↔ (a ≡ b) }
 {
     a == b
 }
 
-/// Whether the layer is the second one.
+/// Whether there is a second layer, and it is this one.
 fn is_second(layer: Layer, second: Option<Layer>) -> bool
     ensures { IsTrue result → second ≡ Some layer }
 {
@@ -45,7 +45,7 @@ fn is_second(layer: Layer, second: Option<Layer>) -> bool
     }
 }
 
-/// Whether the check looks at the first layer, and where it has a second, at this one.
+/// Whether the check's first layer is `first`, and its second layer, if it has one, is `second`.
 fn looks_at(check: Check, first: Layer, second: Option<Layer>) -> bool
     ensures { IsTrue result → LooksAt check first second }
 {
@@ -57,8 +57,8 @@ fn looks_at(check: Check, first: Layer, second: Option<Layer>) -> bool
     }
 }
 
-/// The second layer of the first rule that has one, among those at the front that look at the
-/// layer.
+/// The second layer of the first rule that has one, among those at the front whose first layer is
+/// `layer`.
 fn partner(layer: Layer, rules: &[Rule]) -> Option<Layer> {
     for rule in rules {
         match rule.check {
@@ -72,7 +72,7 @@ fn partner(layer: Layer, rules: &[Rule]) -> Option<Layer> {
     None
 }
 
-/// The greatest distance of the rules at the front that look at these layers.
+/// The greatest distance of the rules at the front with these layers.
 fn widest(rules: &[Rule], first: Layer, second: Option<Layer>) -> u32 {
     let mut greatest = 0u32;
     for rule in rules {
@@ -84,8 +84,8 @@ fn widest(rules: &[Rule], first: Layer, second: Option<Layer>) -> u32 {
     greatest
 }
 
-/// The layers that the check looks at. A check of one layer gets the second layer of the rules
-/// behind it, so that they can share its strips.
+/// The layers of the check. A check of one layer also gets the second layer of the rules after it,
+/// so that they can share its strips.
 fn layers_for(check: Check, rules: &[Rule]) -> (Layer, Option<Layer>)
     ensures { LooksAt check result.0 result.1 }
 {
@@ -97,7 +97,7 @@ fn layers_for(check: Check, rules: &[Rule]) -> (Layer, Option<Layer>)
     }
 }
 
-/// The areas on the second layer, of rectangles by layer; none where there is no second layer.
+/// The areas on the second layer. The rectangles must be sorted by layer. Empty if there is no second layer.
 #[tactic(auto, unfolding(mpw_geom::specs::Plane::any_has_square))]
 fn second_areas(
     alloc: Global,
@@ -122,8 +122,8 @@ impl Shared {
         (rule.distance <= self.distance) & looks_at(rule.check, self.first, self.second)
     }
 
-    /// The strips for a rule and for those that follow, of rectangles by layer: what
-    /// [`mpw_checks::strips_of`] takes for those on its layers. An error is want of memory.
+    /// The strips for a rule and for those that follow. The rectangles must be sorted by layer. Cost: what
+    /// [`mpw_checks::strips_of`] takes for those on its layers. The only error is out of memory.
     fn of(
         alloc: Global,
         rule: &Rule,
@@ -156,8 +156,8 @@ impl Shared {
     }
 }
 
-/// The strips that are held, where they serve the rule, or else new ones for it and the rules that
-/// follow. An error is want of memory.
+/// The given strips if they serve the rule, or else new ones for it and the rules that follow. The
+/// only error is out of memory.
 pub(crate) fn shared_for(
     alloc: Global,
     held: Option<Shared>,

@@ -1,6 +1,6 @@
-//! Many jobs in at most two threads for each processor, by `rayon`.
+//! Executes many jobs in at most two threads for each processor, by `rayon`.
 //!
-//! The jobs are cut into as many pieces of neighbours, and a thread does those of a piece.
+//! The jobs are split into one piece of adjacent jobs for each thread, which executes them.
 
 ghost use Rattle.std.specs.Prelude.{◌≡◌, IfOk, map};
 ghost use Rattle.mpw_job.specs.Carried.{job_of};
@@ -11,10 +11,10 @@ use rayon::prelude::*;
 use std::alloc::{AllocError, Global};
 use std::thread::Threads;
 
-/// Does the jobs, in at most two threads for each processor. The answers stand in the order of the jobs, and each carries its job.
+/// Executes the jobs, in at most two threads for each processor. The answers are in the order of the jobs, and each has its job.
 ///
 /// # Errors
-/// Where there is no memory.
+/// Out of memory.
 pub fn work_all(
     rt: &(impl Threads + Sync),
     alloc: Global,

@@ -29,7 +29,7 @@ pub struct Asked {
 }
 
 impl Asked {
-    /// So many calls a second.
+    /// Calls a second.
     pub fn rate(&self) -> u128 {
         match self.taken.as_nanos() {
             0 => 0,
@@ -47,7 +47,7 @@ fn opening(alloc: Global) -> Result<SharedRequest, AllocError> {
     SharedRequest::new(alloc, Request::Policy(PolicyRequest::Open { user, digest }))
 }
 
-/// Opens a session, asks so often, and ends the connection.
+/// Opens a session, asks `whoami` that many times, and ends the connection.
 fn ask_so_often<N: Room, R: Wait>(
     rt: &R,
     alloc: Global,
@@ -77,7 +77,7 @@ fn ask<N: Room, R: Wait>(
     }
 }
 
-/// Asks in threads, and returns the passes of those that asked all.
+/// Asks in threads, and returns the passes of those that asked every time.
 fn ask_all<N: Room + Send + Sync, R: Threads + Wait + Sync>(
     rt: &R,
     alloc: Global,
@@ -138,7 +138,7 @@ fn ask_named<N: Room + Send + Sync, R: Threads + Wait + Clock + Sync>(
     }
 }
 
-/// Asks a new desk in threads; none if it had calls, not all was asked, or the clock can't be read.
+/// Asks a new desk in threads. It returns none if the desk had calls before, a thread did not ask every time, or the clock can't be read.
 pub fn ask_in_threads<R: Threads + Wait + Clock + Sync>(
     rt: &R,
     alloc: Global,

@@ -15,7 +15,7 @@ const SECOND: Layer = Layer {
     datatype: 0,
 };
 
-/// A core that holds all.
+/// The core of each check: -2 * 10^9 to 2 * 10^9 nm in both coordinates.
 const CORE: Box2 = Box2 {
     x0: -2_000_000_000,
     y0: -2_000_000_000,

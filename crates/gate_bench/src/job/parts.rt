@@ -1,4 +1,4 @@
-//! The parts of a run: the cut, a job a tile, and the stitching.
+//! The parts of a run: the cut, one job for each tile, and the stitching.
 
 use anyhow::{Context, Result, bail};
 use mpw_job::{Answer, CutAnswer, CutJob, Job, tile_job};

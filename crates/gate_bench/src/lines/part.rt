@@ -26,7 +26,7 @@ impl Part {
         })
     }
 
-    /// One line more.
+    /// Adds a line.
     pub fn push(&mut self, line: &str) -> Result<(), AllocError> {
         self.text.push_str(line)?;
         self.text.push_str("\n")?;
@@ -35,7 +35,7 @@ impl Part {
     }
 }
 
-/// How many of the replies' lines begin as those of accepted requests do.
+/// How many of the replies' lines begin like those of accepted requests.
 pub fn accepted(replies: &[u8]) -> usize {
     replies
         .split(|byte: &u8| -> bool { *byte == b'\n' })

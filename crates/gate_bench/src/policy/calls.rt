@@ -5,7 +5,7 @@ use mpw_geom::Name;
 use mpw_permissions::{Object, Operation};
 use mpw_rbac::{Identity, Policy, PolicyFault};
 
-/// Asks for so many permissions, of the objects in turn; how many there are.
+/// Asks for that many permissions, of the objects in turn. It returns how many there are.
 pub fn permitted(policy: &Policy, objects: &[Object], calls: u32) -> u32 {
     let mut permitted: u32 = 0;
     let mut at: usize = 0;
@@ -24,7 +24,7 @@ pub fn permitted(policy: &Policy, objects: &[Object], calls: u32) -> u32 {
     permitted
 }
 
-/// Asks one access for so many permissions, of the objects in turn; how many there are.
+/// Asks one access for that many permissions, of the objects in turn. It returns how many there are.
 pub fn accessible(policy: &Policy, objects: &[Object], calls: u32) -> u32 {
     let access = policy.access(2, Operation::Read);
     let mut permitted: u32 = 0;
@@ -49,7 +49,7 @@ fn is_known(identity: Result<Identity, PolicyFault>) -> bool {
     identity.is_ok()
 }
 
-/// Asks `whoami` so often; how often it returned an identity.
+/// Asks `whoami` that many times. It returns how often it got an identity.
 pub fn known(policy: &Policy, calls: u32) -> u32 {
     let mut known: u32 = 0;
     for _ in 0..calls {
@@ -60,7 +60,7 @@ pub fn known(policy: &Policy, calls: u32) -> u32 {
     known
 }
 
-/// Makes a role active and drops it so often; how often both were accepted.
+/// Makes a role active and drops it that many times. It returns how often both were accepted.
 pub fn activated(policy: &mut Policy, role: &Name, calls: u32) -> u32 {
     let mut accepted: u32 = 0;
     for _ in 0..calls {

@@ -9,7 +9,7 @@ use std::alloc::{AllocError, Global};
 pub enum Change {
     /// A grant of reading a new cell.
     Grant,
-    /// The first grant is taken back.
+    /// The first grant is removed.
     Revoke,
     /// A new user.
     AddUser,
@@ -23,7 +23,7 @@ pub enum Change {
     DelUser,
     /// A role of the tree's second row, with its grants.
     DelRole,
-    /// A pair at the top of the tree is taken back.
+    /// A pair at the top of the tree is removed.
     Uninherit,
 }
 
@@ -43,7 +43,7 @@ impl Change {
         }
     }
 
-    /// Makes the change; whether that was accepted.
+    /// Makes the change. It returns whether it was accepted.
     fn made(self, alloc: Global, policy: &mut Policy) -> Result<bool, AllocError> {
         match self {
             Change::Grant => grant(alloc, policy),
@@ -68,7 +68,7 @@ fn grant(alloc: Global, policy: &mut Policy) -> Result<bool, AllocError> {
     Ok(is_accepted(policy.grant(1, grant)))
 }
 
-/// Takes the first grant back.
+/// Removes the first grant.
 fn revoke(alloc: Global, policy: &mut Policy) -> Result<bool, AllocError> {
     let grant = grant_of(alloc, 0, 0)?;
     Ok(is_accepted(policy.revoke(1, &grant)))
@@ -112,20 +112,20 @@ fn del_role(alloc: Global, policy: &mut Policy) -> Result<bool, AllocError> {
     Ok(is_accepted(policy.delrole(1, &role)))
 }
 
-/// Takes back that the role at the top of the tree is an immediate senior of one of its second row.
+/// Removes the pair of the role at the top of the tree and one of its second row.
 fn uninherit(alloc: Global, policy: &mut Policy) -> Result<bool, AllocError> {
     let senior = numbered(alloc, "r", 0)?;
     let junior = numbered(alloc, "r", 1)?;
     Ok(is_accepted(policy.uninherit(1, &senior, &junior)))
 }
 
-/// Makes a change in a copy of the policy; whether that was accepted.
+/// Makes a change in a copy of the policy. It returns whether it was accepted.
 fn copy_with(alloc: Global, policy: &Policy, change: Change) -> Result<bool, AllocError> {
     let mut next = policy.copy()?;
     change.made(alloc, &mut next)
 }
 
-/// So many of these changes, each in a copy of the policy; how many were accepted.
+/// Makes that many of these changes, each in a copy of the policy. It returns how many were accepted.
 pub fn changed(
     alloc: Global,
     policy: &Policy,

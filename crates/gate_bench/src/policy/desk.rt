@@ -1,4 +1,4 @@
-//! A desk of so many roles and grants, with a session at the top of the hierarchy.
+//! A desk with that many roles and grants, and a session at the top of the hierarchy.
 
 use mpw_geom::Name;
 use mpw_permissions::{Grant, Object, Operation};
@@ -8,7 +8,7 @@ use std::alloc::{AllocError, Global};
 /// The digest of each user here.
 pub const DIGEST: Digest = [7; 32];
 
-/// A name that is known to be one.
+/// The name of a text that is known to be one.
 pub fn name(alloc: Global, text: &str) -> Result<Name, AllocError> {
     match Name::read(alloc, text.as_bytes()) {
         Ok(name) => Ok(name),
@@ -35,7 +35,7 @@ pub fn is_accepted(made: Result<(), PolicyFault>) -> bool {
     made.is_ok()
 }
 
-/// Opens a session of a user with an active role; whether it was.
+/// Opens a session of a user with an active role. It returns whether that was accepted.
 fn log_in(
     alloc: Global,
     policy: &mut Policy,
@@ -48,7 +48,7 @@ fn log_in(
     Ok(opened && active)
 }
 
-/// The roles from `r0` on, one less than the number, since the officer's is one; how many were refused.
+/// Adds the roles from `r0` on, one less than the number, since the officer's is one. It returns how many were refused.
 fn add_roles(alloc: Global, policy: &mut Policy, roles: u32) -> Result<u32, AllocError> {
     let mut refused: u32 = 0;
     for number in 1..roles {
@@ -60,7 +60,7 @@ fn add_roles(alloc: Global, policy: &mut Policy, roles: u32) -> Result<u32, Allo
     Ok(refused)
 }
 
-/// Makes each role but the first an immediate junior of the one at half its number; how many pairs were refused.
+/// Makes each role but the first an immediate junior of the one at half its number. It returns how many pairs were refused.
 fn add_pairs(alloc: Global, policy: &mut Policy, roles: u32) -> Result<u32, AllocError> {
     let mut refused: u32 = 0;
     for number in 2..roles {
@@ -86,7 +86,7 @@ pub fn grant_of(alloc: Global, cell: u32, role: u32) -> Result<Grant, AllocError
     })
 }
 
-/// Grants reading a cell each to the roles in turn; how many grants were refused.
+/// Grants reading a cell each to the roles in turn. It returns how many grants were refused.
 fn add_grants(
     alloc: Global,
     policy: &mut Policy,
@@ -104,7 +104,7 @@ fn add_grants(
     Ok(refused)
 }
 
-/// Adds the user at the top of the hierarchy; whether that was refused.
+/// Adds the user at the top of the hierarchy. It returns whether that was refused.
 fn add_user(alloc: Global, policy: &mut Policy) -> Result<bool, AllocError> {
     let added = is_accepted(policy.adduser(1, name(alloc, "ann")?, DIGEST));
     let top = name(alloc, "r0")?;
@@ -112,7 +112,7 @@ fn add_user(alloc: Global, policy: &mut Policy) -> Result<bool, AllocError> {
     Ok(!(added && assigned))
 }
 
-/// Adds users from `u0` on, each with a role in turn; how many were refused.
+/// Adds users from `u0` on, each with a role in turn. It returns how many were refused.
 fn add_users(
     alloc: Global,
     policy: &mut Policy,
@@ -133,7 +133,7 @@ fn add_users(
     Ok(refused)
 }
 
-/// Fills a new desk, and opens a session on connection 2 whose active role is at least every other; how much was refused.
+/// Fills a new desk, and opens a session on connection 2 whose active role is at least every other. It returns how much was refused.
 pub fn fill(
     alloc: Global,
     policy: &mut Policy,

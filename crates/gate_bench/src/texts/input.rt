@@ -7,7 +7,7 @@ pub struct Input<'a> {
 }
 
 impl<'a> Input<'a> {
-    /// All of these bytes.
+    /// The input of these bytes.
     pub fn new(rest: &'a [u8]) -> Input<'a> {
         Input { rest }
     }
@@ -20,7 +20,7 @@ impl<'a> Input<'a> {
         Some(line)
     }
 
-    /// So many bytes; none if fewer are left.
+    /// That many bytes, or none if fewer are left.
     pub fn take(&mut self, count: usize) -> Option<&'a [u8]> {
         let taken = self.rest.get(..count)?;
         self.rest = self.rest.get(count..)?;

@@ -15,7 +15,7 @@ fn report_request(rt: &(impl Print + AllocGlobal), request: &Request, taken: usi
     }
 }
 
-/// Takes a line and what is to follow it, and prints what it asks.
+/// Takes a line with its payload, and prints what it asks for.
 pub fn report(rt: &(impl Print + AllocGlobal), bytes: &[u8]) -> Result<()> {
     let mut source = Text {
         bytes,

@@ -15,7 +15,7 @@ impl Sum {
         Sum { value: 0 }
     }
 
-    /// One number more.
+    /// Adds a number.
     pub fn add(&mut self, number: u64) {
         self.value = self.value.wrapping_mul(1_000_003).wrapping_add(number);
     }
@@ -25,7 +25,7 @@ impl Sum {
         self.add(u64::from_be_bytes(number.to_be_bytes()));
     }
 
-    /// How many there are of something.
+    /// Adds a count.
     pub fn add_count(&mut self, count: usize) {
         self.add(count as u64);
     }

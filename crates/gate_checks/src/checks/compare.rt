@@ -1,4 +1,4 @@
-//! Layouts checked by bands, by cells, by the plain bodies and square by square.
+//! Layouts checked by bands, by cells, by the plain implementations and square by square.
 
 ghost use Rattle.std.specs.Prelude.{◌≤ℤ◌, pos, negsuc};
 ghost use Rattle.mpw_geom.specs.Plane.{IsBoxInPlane};
@@ -21,7 +21,7 @@ fn coordinate(z: i64) -> i64
     z.max(-281_474_976_710_656).min(281_474_976_710_656)
 }
 
-/// The core, where its coordinates are beyond no limit.
+/// The core, with its coordinates within the limits.
 fn within(core: Box2) -> Box2
     ensures { IsBoxInPlane result }
 {
@@ -68,7 +68,7 @@ impl Drawn {
         })
     }
 
-    /// Whether the plain bodies, bands and cells find the same.
+    /// Whether the plain implementations, bands and cells find the same.
     fn agrees(&self, alloc: Global, search: Search) -> Result<Option<Vec<Piece>>, AllocError> {
         let (first, second) = (self.first.as_slice(), self.second.as_slice());
         let distance = u32::try_from(search.distance).unwrap_or(1);
@@ -83,7 +83,7 @@ impl Drawn {
         Ok(None)
     }
 
-    /// The pieces of a grid of cores of this side, made into one where cores cut them.
+    /// The pieces of a grid of cores of this side, joined where cores cut them.
     fn by_cores(
         &self,
         alloc: Global,

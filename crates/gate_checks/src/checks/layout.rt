@@ -33,7 +33,7 @@ pub struct Shapes {
     core: Box2,
 }
 
-/// The core of a layout for which the lines name none.
+/// The core of a layout if the lines name none: -1000 to 1000 in both coordinates.
 const CORE: Box2 = Box2 {
     x0: -1000,
     y0: -1000,
@@ -51,7 +51,7 @@ pub fn rule_of(alloc: Global, check: Check, distance: u32) -> Option<Rule> {
     })
 }
 
-/// A line a piece: axis, side, the two columns and the rows.
+/// One piece a line: axis, side, the two columns and the rows.
 fn told(alloc: Global, pieces: &[Piece]) -> Result<String, AllocError> {
     let mut text = String::new(alloc);
     for p in pieces {
@@ -66,7 +66,7 @@ fn told(alloc: Global, pieces: &[Piece]) -> Result<String, AllocError> {
 }
 
 impl Shapes {
-    /// No boxes, and the core that holds all.
+    /// No boxes, and the core for lines that name none.
     pub fn new(alloc: Global) -> Shapes {
         Shapes {
             first: Vec::new(alloc),
@@ -75,7 +75,7 @@ impl Shapes {
         }
     }
 
-    /// What the line is answered with.
+    /// The answer to a line.
     pub fn answer(&mut self, alloc: Global, line: &str) -> Result<String, AllocError> {
         let mut words = line.split(' ');
         let verb = words.next().unwrap_or("");

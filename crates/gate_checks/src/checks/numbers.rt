@@ -39,7 +39,7 @@ impl Numbers {
         Box2 { x0, y0, x1, y1 }
     }
 
-    /// So many boxes, each narrower than `n`.
+    /// `count` boxes, each narrower than `n`.
     pub fn places(&mut self, alloc: Global, count: i64, n: u32) -> Result<Vec<Box2>, AllocError>
         requires { 0 < n }
     {
@@ -50,7 +50,7 @@ impl Numbers {
         Ok(boxes)
     }
 
-    /// So many boxes, each narrower than `n`, whose borders are multiples of eight.
+    /// `count` boxes, each narrower than `n`, whose borders are multiples of eight.
     pub fn aligned(&mut self, alloc: Global, count: i64, n: u32) -> Result<Vec<Box2>, AllocError>
         requires { 0 < n }
     {
@@ -58,7 +58,7 @@ impl Numbers {
         boxes.iter().map(|b| snapped(b)).collect(alloc)
     }
 
-    /// So many boxes over a place of 3,000 by 300, one in four of them long.
+    /// `count` boxes over a place of 3,000 by 300, one in four of them long.
     pub fn wide(&mut self, alloc: Global, count: i64) -> Result<Vec<Box2>, AllocError> {
         let mut boxes = Vec::new(alloc);
         for _ in 0..count {
@@ -82,7 +82,7 @@ impl Numbers {
     }
 }
 
-/// The box with each coordinate made a multiple of eight.
+/// The box with each coordinate rounded down to a multiple of eight.
 fn snapped(b: &Box2) -> Box2 {
     Box2 {
         x0: b.x0 & !7,

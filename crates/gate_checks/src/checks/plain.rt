@@ -1,4 +1,4 @@
-//! The plain bodies, as a second opinion: bands between all borders, and every edge with every edge.
+//! The plain implementation, as a second opinion: bands between all borders, and every edge with every edge.
 
 use mpw_deck::Check;
 use mpw_edges::{Axis, Piece};
@@ -14,14 +14,14 @@ struct Edge {
     y1: i64,
 }
 
-/// What is looked for: a check, its distance, and the core of the lower left points.
+/// What is searched for: a check, its distance, and the core of the lower left points.
 #[derive(Clone, Copy)]
 pub struct Search {
-    /// Which edges are looked at.
+    /// The check, which selects the edges.
     pub check: Check,
     /// Edges nearer than this are too near.
     pub distance: i64,
-    /// Half-open; it has the lower left points that are looked for.
+    /// Half-open; it has the lower left points that are searched for.
     pub core: Box2,
 }
 
@@ -38,7 +38,7 @@ fn exchanged(alloc: Global, boxes: &[Box2]) -> Result<Vec<Box2>, AllocError> {
     boxes.iter().map(|b| exchanged_box(b)).collect(alloc)
 }
 
-/// The runs, those that overlap or touch on a line made into one.
+/// The runs, with those joined that overlap or touch on a line.
 fn in_one(alloc: Global, runs: Vec<Run>) -> Result<Vec<Run>, AllocError> {
     let mut runs = runs;
     runs.sort()?;
@@ -136,7 +136,7 @@ fn falls(alloc: Global, boxes: &[Box2]) -> Result<Vec<Edge>, AllocError> {
 }
 
 impl Search {
-    /// Adds the rows of two edges, where they are nearer than the distance.
+    /// Adds the rows of two edges, if they are nearer than the distance.
     fn add(&self, runs: &mut Vec<Run>, side: u8, from: &Edge, to: &Edge) -> Result<(), AllocError> {
         let near = to.x.saturating_sub(from.x) < self.distance;
         let within = self.core.x0 <= from.x && from.x < self.core.x1;
@@ -156,8 +156,7 @@ impl Search {
         Ok(())
     }
 
-    /// Adds the rows of each edge of the first list with each of the second behind it, or at it where
-    /// touching counts.
+    /// Adds the rows of each edge of the first list with each of the second after it, or at it if touching counts.
     fn add_all(
         &self,
         runs: &mut Vec<Run>,
@@ -244,7 +243,7 @@ pub fn add_pieces(pieces: &mut Vec<Piece>, axis: Axis, runs: &[Run]) -> Result<(
     Ok(())
 }
 
-/// The pieces that two neighbouring cores cut, made into one again.
+/// The pieces that two neighbouring cores cut, joined again.
 pub fn rejoined(alloc: Global, cut: &[Piece]) -> Result<Vec<Piece>, AllocError> {
     let mut pieces = Vec::new(alloc);
     for axis in [Axis::V, Axis::H] {

@@ -32,7 +32,7 @@ pub struct Grid {
     squares: Vec<bool>,
 }
 
-/// The place of a square in a grid, where it lies in it.
+/// The index of a square in a grid, if it is in the grid.
 fn index(x: i64, y: i64) -> Option<usize> {
     if x < 0 || y < 0 || x >= SIZE || y >= SIZE {
         return None;
@@ -41,7 +41,7 @@ fn index(x: i64, y: i64) -> Option<usize> {
 }
 
 impl Grid {
-    /// The squares that some box has, of those that lie in the grid.
+    /// The squares of some box that are in the grid.
     pub fn painted(alloc: Global, boxes: &[Box2]) -> Result<Grid, AllocError> {
         let mut squares = vec![in alloc; false; 4096]?;
         for b in boxes {
@@ -85,7 +85,7 @@ pub struct Layout {
     pub first: Grid,
     /// The squares of the check's second layer.
     pub second: Grid,
-    /// Which edges are looked at.
+    /// The check, which selects the edges.
     pub check: Check,
     /// Edges nearer than this are too near.
     pub distance: i64,
@@ -140,7 +140,7 @@ impl Layout {
         Ok(())
     }
 
-    /// What the check finds, by asking each pair of columns in each row of the core: by axis, side, x1, x2 and row.
+    /// What the check finds, by testing each pair of columns in each row of the core: by axis, side, x1, x2 and row.
     pub fn pieces(&self, alloc: Global) -> Result<Vec<Piece>, AllocError> {
         let mut pieces = Vec::new(alloc);
         for axis in [Axis::V, Axis::H] {

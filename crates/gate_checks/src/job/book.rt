@@ -19,7 +19,7 @@ const SIDES: [&str; 5] = ["256", "257", "300", "333", "511"];
 
 const GREATEST: &str = "1073741824";
 
-/// The least box that holds the rectangles, which are some.
+/// The smallest box that has the rectangles. There must be at least one.
 fn extent(rectangles: &[Rectangle]) -> Result<Box2> {
     let mut extent = rectangles.first().context("a rectangle")?.area;
     for rectangle in rectangles {
@@ -84,7 +84,7 @@ fn lists(rt: &(impl Threads + Sync), alloc: Global, jobs: &[Job]) -> Result<Vec<
     Ok(lists)
 }
 
-/// The book of the rectangles, by a job a tile.
+/// The book of the rectangles, by one job for each tile.
 fn book(
     rt: &(impl Threads + Sync),
     alloc: Global,

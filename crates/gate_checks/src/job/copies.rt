@@ -69,8 +69,8 @@ fn is_copied(alloc: Global, job: &Job, count: usize) -> Result<bool> {
     Ok(is_same_job(job, &copy) && is_answer_copied(alloc, &copy, count)?)
 }
 
-/// Prints how many copies of a job and an answer of each kind are other ones. A cut without shapes has no windows, and
-/// the tile's rectangles are 5 nm apart in 15 rows: one marker.
+/// Prints how many copies of a job and an answer of each kind differ. A cut without shapes has no windows, and the tile's rectangles are 5
+/// nm apart in 15 rows: one marker.
 pub fn compared(rt: &(impl Print + AllocGlobal)) -> Result<()> {
     let alloc = rt.alloc();
     let cut = is_copied(alloc, &cut_job(alloc)?, 0)?;

@@ -13,7 +13,7 @@ use mpw_walk::Root;
 use std::alloc::Global;
 use std::thread::Threads;
 
-/// Sides of tiles, of which the last makes a single core.
+/// Sides of tiles. The last makes a single core.
 const SIDES: [&str; 6] = ["256", "300", "421", "511", "777", "1073741824"];
 
 /// The rules.
@@ -116,7 +116,7 @@ fn compare_sides(
     Ok(tally)
 }
 
-/// Compares the books of so many random layouts, and prints how many differ.
+/// Compares the books of that many random layouts, and prints how many differ.
 pub fn compared(rt: &(impl Print + AllocGlobal + Threads + Sync), word: &str) -> Result<()> {
     let Ok(count) = word.parse::<u32>() else {
         bail!("a number");

@@ -1,4 +1,4 @@
-//! The book of a snapshot, by its jobs: the cut, a job a tile, and the stitching.
+//! The book of a snapshot, by its jobs: the cut, one job for each tile, and the stitching.
 
 use anyhow::{Context, Result, bail};
 use mpw_job::{Answer, CutAnswer, CutJob, Job, tile_job};
@@ -20,7 +20,7 @@ fn cut(alloc: Global, snapshot: &Snapshot) -> Result<CutAnswer> {
     }
 }
 
-/// The markers of a tile, where the answer is its own.
+/// The markers of a tile, if the answer is that of the tile.
 fn markers_of(answer: &Answer, tile: usize) -> Result<TileMarkers> {
     let Answer::Tile(answer) = answer else {
         bail!("the answer of a tile");
@@ -52,7 +52,7 @@ fn stitched(alloc: Global, answers: &[Answer]) -> Result<Book> {
     Ok(stitch(alloc, &lists)?)
 }
 
-/// How many tiles the snapshot's plan has.
+/// The number of tiles of the snapshot's plan.
 pub fn tiles(snapshot: &Snapshot) -> u32 {
     match snapshot.plan() {
         Some(plan) => plan.tiles(),

@@ -20,7 +20,7 @@ fn small(word: &str) -> Result<u16> {
     }
 }
 
-/// The deck of rules parted by `;`.
+/// The deck of rules with `;` between them.
 pub fn deck(alloc: Global, side: &str, rules: &str) -> Result<Deck> {
     let mut text = format!(in alloc; "tile {side}")?;
     for rule in rules.split(';') {
@@ -51,7 +51,7 @@ fn rectangle(words: &[&str]) -> Result<Rectangle> {
     })
 }
 
-/// Rectangles parted by `,`.
+/// Rectangles with `,` between them.
 pub fn rectangles(alloc: Global, text: &str) -> Result<Vec<Rectangle>> {
     let mut list = Vec::new(alloc);
     for part in text.split(',') {

@@ -1,4 +1,4 @@
-//! What lists of markers, numbers, rectangles and boxes ask, as tests.
+//! The conditions on lists of markers, numbers, rectangles and boxes, as tests.
 
 ghost use Rattle.std.specs.Prelude.{◌≡◌, true, All};
 ghost use Rattle.mpw_geom.specs.Plane.{HasArea, IsOrdered};
@@ -36,7 +36,7 @@ fn all_filled(markers: &[Marker]) -> bool
     markers.iter().all(is_filled)
 }
 
-/// The numbers, which are to be ascending.
+/// The numbers, which must be ascending.
 pub fn met(alloc: Global, numbers: &[u32]) -> Result<Met> {
     if !is_ascending(numbers) {
         bail!("ascending numbers");
@@ -44,7 +44,7 @@ pub fn met(alloc: Global, numbers: &[u32]) -> Result<Met> {
     Ok(Met::of(alloc, numbers)?)
 }
 
-/// The list of a tile's markers, which are to have rows.
+/// The list of a tile's markers, which must have rows.
 pub fn tile(alloc: Global, markers: Vec<Marker>) -> Result<TileMarkers> {
     if !all_filled(markers.as_slice()) {
         bail!("markers with rows");
@@ -78,7 +78,7 @@ fn all_ordered(boxes: &[Box2]) -> bool
     boxes.iter().all(is_ordered)
 }
 
-/// The origins that the boxes meet; the rectangles are to have area, and the boxes to be ordered.
+/// The origins that the boxes touch. The rectangles must have area, and the boxes must be ordered.
 pub fn origins(alloc: Global, rectangles: &[Rectangle], boxes: &[Box2]) -> Result<Vec<Met>> {
     if !all_have_area(rectangles) || !all_ordered(boxes) {
         bail!("rectangles with area, and ordered boxes");

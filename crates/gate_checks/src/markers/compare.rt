@@ -1,4 +1,4 @@
-//! Books of random lists, compared with the plain body.
+//! Books of random lists, compared with the plain implementation.
 
 use crate::markers::asked::{met, tile};
 use crate::markers::plain::{COORDINATES, ROWS, RULES, SUBMISSIONS, book};
@@ -27,7 +27,7 @@ fn axis(random: &mut Random) -> Axis {
     }
 }
 
-/// A marker of up to four rows; there are so few lines that many markers share one.
+/// A marker of up to four rows. There are so few lines that many markers share one.
 fn marker(alloc: Global, random: &mut Random) -> Result<Marker> {
     let numbers = submissions(alloc, random)?;
     let y0 = i64::from(random.below(ROWS - 4));
@@ -70,7 +70,7 @@ fn are_same(a: &[Marker], b: &[Marker]) -> bool {
     true
 }
 
-/// Whether a key is found just where the plain body has it.
+/// Whether a key is found exactly if the plain implementation has it.
 fn finds_alike(book: &Book, wanted: &[Marker], key: &Key) -> bool {
     let among = wanted.iter().find(|m| m.key() == *key);
     match (book.find(key), among) {
@@ -80,7 +80,7 @@ fn finds_alike(book: &Book, wanted: &[Marker], key: &Key) -> bool {
     }
 }
 
-/// Whether each key is found, and those with another end or another side are found only where they are there too.
+/// Whether each key is found, and those with another end or another side only if they are there too.
 fn finds_all(book: &Book, wanted: &[Marker]) -> bool {
     for marker in wanted {
         let key = marker.key();
@@ -96,7 +96,7 @@ fn finds_all(book: &Book, wanted: &[Marker]) -> bool {
     true
 }
 
-/// Whether the book of some random lists is that of the plain body.
+/// Whether the book of some random lists is that of the plain implementation.
 fn compare(alloc: Global, random: &mut Random) -> Result<bool> {
     let mut all = Vec::new(alloc);
     let mut lists = Vec::new(alloc);
@@ -109,7 +109,7 @@ fn compare(alloc: Global, random: &mut Random) -> Result<bool> {
     Ok(same && finds_all(&made, wanted.as_slice()))
 }
 
-/// Compares so many times, and prints how many differ.
+/// Compares that many times, and prints how many differ.
 pub fn compared(rt: &(impl Print + AllocGlobal), word: &str) -> Result<()> {
     let count = number(word)?;
     let mut random = Random::new(31);

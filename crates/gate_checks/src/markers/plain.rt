@@ -1,4 +1,4 @@
-//! The plain body: a book row by row, from a list of all markers.
+//! The plain implementation: a book row by row, from a list of all markers.
 
 use crate::markers::asked::met;
 use anyhow::Result;
@@ -15,7 +15,7 @@ pub const COORDINATES: u32 = 2;
 /// Rows are below this.
 pub const ROWS: u32 = 24;
 
-/// The numbers of the submissions that are met are below this.
+/// The numbers of the touched submissions are below this.
 pub const SUBMISSIONS: u32 = 6;
 
 fn has_row(all: &[Marker], line: &Line, row: i64) -> bool {
@@ -27,7 +27,7 @@ fn has_row(all: &[Marker], line: &Line, row: i64) -> bool {
     false
 }
 
-/// Whether a marker of the line within the rows meets the submission.
+/// Whether a marker of the line within the rows touches the submission.
 fn meets(all: &[Marker], line: &Line, y0: i64, y1: i64, submission: u32) -> bool {
     for marker in all {
         if marker.line() == *line
@@ -41,7 +41,7 @@ fn meets(all: &[Marker], line: &Line, y0: i64, y1: i64, submission: u32) -> bool
     false
 }
 
-/// The marker of the rows, with each submission that some marker within them meets.
+/// The marker of the rows, with each submission that some marker within them touches.
 fn marker(alloc: Global, all: &[Marker], line: &Line, y0: i64, y1: i64) -> Result<Marker> {
     let mut numbers = Vec::new(alloc);
     for submission in 0..SUBMISSIONS {
@@ -61,8 +61,7 @@ fn marker(alloc: Global, all: &[Marker], line: &Line, y0: i64, y1: i64) -> Resul
     })
 }
 
-/// Adds the markers of a line: each row that has none before it begins one, and each behind which there is none
-/// ends it.
+/// Adds the markers of a line: each row without one before it begins a marker, and each row without one after it ends a marker.
 fn add_line(alloc: Global, book: &mut Vec<Marker>, all: &[Marker], line: &Line) -> Result<()> {
     let mut first = 0;
     for row in 0..ROWS {

@@ -10,7 +10,7 @@ use std::alloc::Global;
 /// The submissions of random rectangles are below this.
 const SUBMISSIONS: u32 = 5;
 
-/// A box of some size from a random corner on; it has area where `least` is 1.
+/// A box of some size from a random corner on. It has area if `least` is 1.
 fn random_box(random: &mut Random, place: u32, size: u32, least: u32) -> Box2 {
     let x0 = i64::from(random.below(place)) - 9;
     let y0 = i64::from(random.below(place)) - 9;
@@ -57,7 +57,7 @@ fn touches(area: &Box2, b: &Box2) -> bool {
     false
 }
 
-/// The submissions that the box meets, one after another.
+/// The submissions that the box touches, one after another.
 fn plain(alloc: Global, rectangles: &[Rectangle], b: &Box2) -> Result<Met> {
     let mut numbers = Vec::new(alloc);
     for origin in 0..SUBMISSIONS {
@@ -86,7 +86,7 @@ fn compare(alloc: Global, random: &mut Random) -> Result<bool> {
     Ok(mets.len() == boxes.len())
 }
 
-/// Compares so many times, and prints how many differ.
+/// Compares that many times, and prints how many differ.
 pub fn compared(rt: &(impl Print + AllocGlobal), word: &str) -> Result<()> {
     let count = number(word)?;
     let mut random = Random::new(7);

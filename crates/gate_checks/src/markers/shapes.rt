@@ -1,4 +1,4 @@
-//! Rectangles of submissions, and the boxes that are asked what they meet.
+//! Rectangles of submissions, and the boxes that may touch them.
 
 use crate::markers::asked::origins;
 use anyhow::{Result, bail};
@@ -41,7 +41,7 @@ impl Shapes {
         Ok(())
     }
 
-    /// Prints a line a box: the submissions that it meets.
+    /// Prints a line for each box: the submissions that it touches.
     pub fn print_origins(&self, rt: &(impl Print + AllocGlobal)) -> Result<()> {
         let mets = origins(
             rt.alloc(),

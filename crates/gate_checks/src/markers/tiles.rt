@@ -1,4 +1,4 @@
-//! The lists that the lines make, and the last book.
+//! The lists of the lines so far, and the last book.
 
 use crate::markers::asked::{met, tile};
 use crate::markers::words::key;
@@ -26,7 +26,7 @@ impl Tiles {
         }
     }
 
-    /// Forgets all of it.
+    /// Removes all of it.
     pub fn clear(&mut self, alloc: Global) -> Result<()> {
         *self = Tiles::new(alloc);
         Ok(())

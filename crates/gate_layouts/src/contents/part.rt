@@ -1,4 +1,4 @@
-//! Parts of contents, the boxes that are held of elements, and the lines that tell them.
+//! Parts of contents, the boxes that are stored for elements, and the lines that print them.
 
 use crate::contents::seen::{print_contents, shelf_of};
 use anyhow::{Result, bail};
@@ -8,7 +8,7 @@ use mpw_geom::Box2;
 use mpw_hier::Shelf;
 use std::alloc::Global;
 
-/// Of what a part is made, but for its boxes.
+/// The parameters of a part, without its boxes.
 #[derive(Clone, Copy)]
 pub struct Wish {
     window: Box2,
@@ -18,7 +18,7 @@ pub struct Wish {
 }
 
 impl Wish {
-    /// By three words and the window's.
+    /// From three words and the window's.
     pub fn of(most: &str, instances: &str, shapes: &str, window: &[&str]) -> Result<Wish> {
         Ok(Wish {
             window: coordinates(window)?,
@@ -29,7 +29,7 @@ impl Wish {
     }
 }
 
-/// What of the top meets the window.
+/// What of the top touches the window.
 fn part_of(alloc: Global, shelf: &Shelf, wish: Wish) -> Result<Option<Contents>> {
     if shelf.submissions().is_empty() {
         bail!("a submission");
@@ -48,7 +48,7 @@ fn part_of(alloc: Global, shelf: &Shelf, wish: Wish) -> Result<Option<Contents>>
     }
 }
 
-/// Tells the things of a part of the top.
+/// Prints the entries of a part of the top.
 pub fn print_part(rt: &(impl Print + AllocGlobal), wish: Wish, library: &str) -> Result<()> {
     let shelf = shelf_of(rt.alloc(), library)?;
     let Some(contents) = part_of(rt.alloc(), &shelf, wish)? else {
@@ -60,7 +60,7 @@ pub fn print_part(rt: &(impl Print + AllocGlobal), wish: Wish, library: &str) ->
     }
 }
 
-/// So many boxes are told at most.
+/// The most boxes that are printed.
 const FEW: usize = 9;
 
 fn print_boxes(rt: &impl Print, boxes: &[Option<Box2>]) -> Result<()> {
@@ -77,7 +77,7 @@ fn print_boxes(rt: &impl Print, boxes: &[Option<Box2>]) -> Result<()> {
     Ok(())
 }
 
-/// Tells how many boxes are held of the elements of the structure at a place of the library, and a few of them.
+/// Prints how many boxes are stored for the elements of the structure at an index of the library, and a few of them.
 pub fn print_boxes_of(
     rt: &(impl Print + AllocGlobal),
     structure: &str,

@@ -1,4 +1,4 @@
-//! Contents of windows, and the lines that tell them.
+//! Contents of windows, and the lines that print them.
 
 use anyhow::{Result, bail};
 use gate_plain::submit;
@@ -9,7 +9,7 @@ use mpw_hier::Shelf;
 use mpw_structures::Structure;
 use std::alloc::Global;
 
-/// What contents are to be like, by three words.
+/// The limits of contents, by three words.
 pub fn wanted(most: &str, width: &str, axis: &str) -> Result<Wanted> {
     Ok(Wanted {
         most: number(most)? as usize,
@@ -18,7 +18,7 @@ pub fn wanted(most: &str, width: &str, axis: &str) -> Result<Wanted> {
     })
 }
 
-/// The shelf with a library's top alone.
+/// The shelf with only a library's top.
 pub fn shelf_of(alloc: Global, library: &str) -> Result<Shelf> {
     let mut shelf = Shelf::new(alloc);
     submit(alloc, &mut shelf, "chip", "TOP", library)?;
@@ -63,7 +63,7 @@ fn print_array(rt: &impl Print, name: &str, array: &Array) -> Result<()> {
     print_steps(rt, array)
 }
 
-/// Tells things, one a line.
+/// Prints entries, one a line.
 pub fn print_contents(
     rt: &impl Print,
     structures: &[Structure],
@@ -78,7 +78,7 @@ pub fn print_contents(
     Ok(())
 }
 
-/// Tells the contents of a window.
+/// Prints the contents of a window.
 pub fn print_seen(
     rt: &(impl Print + AllocGlobal),
     wanted: Wanted,
@@ -107,7 +107,7 @@ fn print_displacement(rt: &impl Print, a: &Contents, b: &Contents) -> Result<()>
     }
 }
 
-/// Tells by which displacement the contents of a window are those of another.
+/// Prints the displacement by which the contents of a window are those of another.
 pub fn print_alike(
     rt: &(impl Print + AllocGlobal),
     wanted: Wanted,

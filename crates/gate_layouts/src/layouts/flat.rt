@@ -1,4 +1,4 @@
-//! The flat list of placed submissions by plain recursion, as a second opinion of walks.
+//! The flat list of placed submissions by plain recursion, as a second implementation of walks.
 
 use anyhow::{Context, Result, bail};
 use gate_plain::{bound, own};
@@ -8,7 +8,7 @@ use mpw_structures::{Element, Reference, Structure};
 use mpw_walk::{Placed, Root, Walk};
 use std::alloc::Global;
 
-/// More levels than a random shelf has: a library has 4 at most, and a name outside takes one more.
+/// More levels than a random shelf has: a library has at most 4, and a name outside adds one.
 const LEVELS: u32 = 30;
 
 /// The affine map that takes (x, y) to (xx x + xy y + x0, yx x + yy y + y0).
@@ -22,7 +22,7 @@ struct Affine {
     y0: i64,
 }
 
-/// A shape of a submission, and where it is.
+/// A shape of a submission, and its place.
 #[derive(Clone, Copy)]
 pub struct Shown<'a> {
     origin: u32,
@@ -100,7 +100,7 @@ fn instances(alloc: Global, reference: &Reference) -> Result<Vec<Affine>> {
     Ok(maps)
 }
 
-/// What each instance of a structure's references places, in file order.
+/// The name and the map of each instance of a structure's references, in file order.
 fn targets(alloc: Global, structure: &Structure) -> Result<Vec<(&Name, Affine)>> {
     let mut targets = Vec::new(alloc);
     for element in structure.elements.as_slice() {
@@ -142,7 +142,7 @@ fn add_shapes<'a>(
     Ok(())
 }
 
-/// Adds what a name shows to the submission of a number, placed by a map.
+/// Adds the flat shapes of a name to the list, placed by a map.
 fn flatten<'a>(
     list: &mut Vec<Shown<'a>>,
     shelf: &'a Shelf,
@@ -167,7 +167,7 @@ fn flatten<'a>(
     Ok(())
 }
 
-/// The flat list of the roots, by going down each reference anew: what a walk has to give.
+/// The flat list of the roots, by recursion into each reference: what a walk must give.
 pub fn flat_list<'a>(alloc: Global, shelf: &'a Shelf, roots: &[Root]) -> Result<Vec<Shown<'a>>> {
     let mut list = Vec::new(alloc);
     for root in roots {

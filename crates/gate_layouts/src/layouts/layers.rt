@@ -10,7 +10,7 @@ use mpw_walk::Root;
 use std::alloc::Global;
 use std::slice;
 
-/// The most layers that are told.
+/// The most layers that are printed.
 const MAX_LAYERS: usize = 64;
 
 /// A layer that no shape of a random shelf is on.
@@ -19,7 +19,7 @@ const NO_LAYER: Layer = Layer {
     datatype: 2,
 };
 
-/// Prints the layers of a submission's shapes, in the order in which they come, 64 at most, with how many shapes are on each.
+/// Prints the layers of a submission's shapes, in the order in which they come, at most 64, with how many shapes are on each.
 pub fn print_layers(rt: &(impl Print + AllocGlobal), shelf: &Shelf, word: &str) -> Result<()> {
     let number = number(word)?;
     if number as usize >= shelf.submissions().len() {
@@ -47,7 +47,7 @@ fn number_on(list: &[Shown<'_>], layer: Layer) -> usize {
     count
 }
 
-/// The layers of a flat list, each once, in the order in which they come, 64 at most.
+/// The layers of a flat list, each once, in the order in which they come, at most 64.
 fn layers_of(alloc: Global, list: &[Shown<'_>]) -> Result<Vec<Layer>> {
     let mut layers = Vec::new(alloc);
     for shown in list {
@@ -60,7 +60,7 @@ fn layers_of(alloc: Global, list: &[Shown<'_>]) -> Result<Vec<Layer>> {
     Ok(layers)
 }
 
-/// Whether nodes tell the number of shapes on a layer, and whether there is one, as a flat list does.
+/// Whether nodes have the same number of shapes on a layer as a flat list, and say correctly whether there is one.
 fn agree_on(
     alloc: Global,
     shelf: &Shelf,
@@ -73,7 +73,7 @@ fn agree_on(
     Ok(is_counted && shows(alloc, shelf, roots, layer)? == (count > 0))
 }
 
-/// Whether nodes tell the layers of the shapes of roots, and the number of shapes on each and on another one, as a flat list does.
+/// Whether nodes have the same layers of the shapes of roots as a flat list, and the same number of shapes on each and on another one.
 pub fn agree(alloc: Global, shelf: &Shelf, roots: &[Root], list: &[Shown<'_>]) -> Result<bool> {
     let layers = layers_of(alloc, list)?;
     let told = unnamed_layers(alloc, shelf, roots, &[])?;

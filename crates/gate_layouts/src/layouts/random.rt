@@ -1,8 +1,7 @@
 //! Random shelves: the same ones for the same seed.
 //!
-//! A shelf has 1 to 5 submissions, each of a library with 1 to 4 structures, in the notation of `gate_samples`. A
-//! structure refers to later ones of its library and to cells that are on the shelf. Cells and structures share their
-//! names, so that a library may hide a cell; and a cell may be submitted again.
+//! A shelf has 1 to 5 submissions, each of a library with 1 to 4 structures, in the notation of `gate_samples`. A structure refers to later ones of
+//! its library and to cells on the shelf. Cells and structures share their names, so that a library may hide a cell. A cell may be submitted again.
 
 use anyhow::Result;
 use gate_plain::put_text;
@@ -26,7 +25,7 @@ pub struct Random {
     layer: u16,
 }
 
-/// A library in the making: its first structure has the name of that number, and the others the next ones.
+/// A library that is being made: its first structure has the name of that number, and the others the next ones.
 #[derive(Clone, Copy)]
 struct Plan {
     first: u16,
@@ -52,7 +51,7 @@ impl Random {
         }
     }
 
-    /// A number below that one, or 0.
+    /// A number below `bound`, or 0.
     fn below(&mut self, bound: u16) -> u16 {
         self.state = self
             .state
@@ -62,7 +61,7 @@ impl Random {
         u16::try_from(high).unwrap_or(0)
     }
 
-    /// So many flags, half of them set.
+    /// Flags, half of them set.
     pub fn flags(&mut self, alloc: Global, count: usize) -> Result<Vec<bool>> {
         let mut flags = Vec::new(alloc);
         for _ in 0..count {
@@ -116,7 +115,7 @@ impl Random {
         format!(in alloc; "; s {name} {x} {y} {turn}")
     }
 
-    /// So many steps of any size from a coordinate.
+    /// That many steps of any size from a coordinate.
     fn behind(&mut self, from: i32, count: u16) -> i32 {
         from.wrapping_add(self.coordinate().wrapping_mul(i32::from(count)))
     }
@@ -138,7 +137,7 @@ impl Random {
         format!(in alloc; "; a {name} {columns} {rows} {corners} {turn}")
     }
 
-    /// A name to which the structure of a place may refer, or none where there is no such.
+    /// A name that the structure at an index may refer to, or none if there is none.
     fn target(
         &mut self,
         alloc: Global,
@@ -161,7 +160,7 @@ impl Random {
         Ok(shelf.present(&cell).map(|_| name))
     }
 
-    /// An element of the structure of a place, or nothing.
+    /// An element of the structure at an index, or nothing.
     fn element(&mut self, alloc: Global, shelf: &Shelf, plan: Plan, place: u16) -> Result<String> {
         let choice = self.below(6);
         if choice == 0 {
@@ -204,7 +203,7 @@ impl Random {
         Ok(text)
     }
 
-    /// The structure that a submission shows: the first of its library, or any.
+    /// The top of a submission: the first structure of its library, or any.
     fn top(&mut self, plan: Plan) -> &'static str {
         let place = if self.below(3) == 0 {
             self.below(plan.count)
@@ -250,7 +249,7 @@ impl Random {
         }
     }
 
-    /// Up to 8 roots that the shelf has, those aside that show too much.
+    /// Up to 8 roots of the shelf, without those that have too many shapes.
     pub fn roots(&mut self, alloc: Global, shelf: &Shelf) -> Result<Vec<Root>> {
         let mut roots = Vec::new(alloc);
         for _ in 0..self.below(9) {

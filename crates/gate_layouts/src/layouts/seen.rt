@@ -25,7 +25,7 @@ fn counted(alloc: Global, shelf: &Shelf, number: u32, seen: &[bool]) -> Result<u
     Ok(seen_count(alloc, shelf, number, seen)?)
 }
 
-/// How many shapes that a walk gives are seen.
+/// How many shapes of a walk are seen.
 fn walked(walk: &mut Walk<'_>, seen: &[bool]) -> u64 {
     let mut count = 0u64;
     for _ in 0..u64::MAX {
@@ -71,7 +71,7 @@ pub fn print_walked(
     Ok(println!(rt; "    {count} by a walk")?)
 }
 
-/// Whether nodes and a walk tell the same number of seen shapes of roots.
+/// Whether nodes and a walk have the same number of seen shapes of roots.
 pub fn agree(
     alloc: Global,
     shelf: &Shelf,

@@ -10,10 +10,10 @@ use mpw_geom::{Box2, Name};
 use mpw_hier::{MAX_SHAPES, Outline, Shelf};
 use mpw_library::read_library;
 
-/// The most shapes that a submission may show where a line names no limit: those of a desk's.
+/// The most shapes of a submission if a line names no limit: those of a desk.
 const DESK: u64 = 1 << 20;
 
-/// What a submission shows.
+/// Prints the shapes and levels of a submission.
 fn print_shown(rt: &impl Print, shelf: &Shelf, number: u32) -> Result<()> {
     let version = shelf.get(number).map(|s| s.version).unwrap_or(0);
     let (count, height) = (shelf.count(number), shelf.height(number));
@@ -24,7 +24,7 @@ fn print_shown(rt: &impl Print, shelf: &Shelf, number: u32) -> Result<()> {
     }
 }
 
-/// Submits what may show so many shapes, and prints what it shows, or why there is none.
+/// Submits a library that may have at most that many shapes, and prints its shapes and levels, or why there is none.
 fn submit(
     rt: &(impl Print + AllocGlobal),
     shelf: &mut Shelf,
@@ -41,7 +41,7 @@ fn submit(
     }
 }
 
-/// A limit of shapes that a shelf may be given.
+/// A limit of shapes for a shelf.
 fn limit(word: &str) -> Result<u64>
     ensures { IfOk result (λ most. most ≤ 2 ^ 40) }
 {
@@ -51,7 +51,7 @@ fn limit(word: &str) -> Result<u64>
     }
 }
 
-/// Submits to so many cells, and prints what the last one shows.
+/// Submits to that many cells, and prints the shapes and levels of the last one.
 fn fill(
     rt: &(impl Print + AllocGlobal),
     shelf: &mut Shelf,
@@ -67,7 +67,7 @@ fn fill(
     print_shown(rt, shelf, last)
 }
 
-/// Submits so many times to a cell, and prints what the last one shows.
+/// Submits that many times to a cell, and prints the shapes and levels of the last one.
 fn again(
     rt: &(impl Print + AllocGlobal),
     shelf: &mut Shelf,
@@ -134,7 +134,7 @@ fn cells(rt: &(impl Print + AllocGlobal), shelf: &Shelf) -> Result<()> {
     print_names(rt, names.as_slice())
 }
 
-/// Prints the names outside the library that the top shows.
+/// Prints the names outside the library that the top refers to.
 pub fn outside(rt: &(impl Print + AllocGlobal), top: &str, notation: &str) -> Result<()> {
     let alloc = rt.alloc();
     let library = read_library(alloc, &text_of_library(alloc, notation)?)?;
@@ -145,7 +145,7 @@ pub fn outside(rt: &(impl Print + AllocGlobal), top: &str, notation: &str) -> Re
     }
 }
 
-/// Commands over the shelf.
+/// Commands about the shelf.
 pub fn answer(
     rt: &(impl Print + AllocGlobal),
     shelf: &mut Shelf,

@@ -42,7 +42,7 @@ pub fn walk(rt: &(impl Print + AllocGlobal), shelf: &Shelf, text: &str) -> Resul
     print_walk(rt, &mut Walk::new(shelf, &roots))
 }
 
-/// Prints the shapes of a walk over roots within a window, which stands before them.
+/// Prints the shapes of a walk over roots within a window, which comes before them.
 pub fn within(rt: &(impl Print + AllocGlobal), shelf: &Shelf, text: &str) -> Result<()> {
     let (first, rest) = text.split_once(',').unwrap_or((text, ""));
     let words: Vec<&str> = first.split_whitespace().collect(rt.alloc())?;
@@ -78,7 +78,7 @@ pub fn count(rt: &(impl Print + AllocGlobal), shelf: &Shelf, text: &str) -> Resu
     Ok(println!(rt; "    {count} shapes, {turns} turns")?)
 }
 
-/// How many shapes the roots show, as the shelf tells.
+/// The number of shapes of the roots, by the shelf.
 fn told(shelf: &Shelf, roots: &[Root]) -> usize {
     let mut count = 0usize;
     for root in roots {
@@ -87,8 +87,8 @@ fn told(shelf: &Shelf, roots: &[Root]) -> usize {
     count
 }
 
-/// Walks over a random shelf, and tells how many shapes it shows, or none where the flat list, a number of seen shapes, or what nodes
-/// tell of layers differs.
+/// Walks over a random shelf, and returns how many shapes it has. It returns none if the flat list, a count of seen shapes, or the layers
+/// of nodes differ.
 fn compared_one(alloc: Global, random: &mut Random) -> Result<Option<usize>> {
     let shelf = random.shelf(alloc)?;
     let roots = random.roots(alloc, &shelf)?;
@@ -107,7 +107,7 @@ fn compared_one(alloc: Global, random: &mut Random) -> Result<Option<usize>> {
     Ok(None)
 }
 
-/// Compares walks over so many random shelves, and what nodes tell of layers, with a plain flattening, and numbers of seen shapes with walks.
+/// Compares walks over that many random shelves, and the layers of nodes, with a plain flattening, and counts of seen shapes with walks.
 pub fn compared(rt: &(impl Print + AllocGlobal), word: &str) -> Result<()> {
     let Ok(shelves) = word.parse::<u32>() else {
         bail!("a number");

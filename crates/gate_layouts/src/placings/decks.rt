@@ -4,7 +4,7 @@ use anyhow::Result;
 use mpw_deck::{DeckError, DeckText};
 use std::alloc::{AllocError, Global};
 
-/// The lines of a text, which stand behind one another with `; ` between them.
+/// The bytes of a text, from its lines with `; ` between them.
 fn bytes_of(alloc: Global, lines: &str) -> Result<Vec<u8>, AllocError> {
     let mut bytes = Vec::new(alloc);
     for line in lines.trim().split("; ") {
@@ -14,7 +14,7 @@ fn bytes_of(alloc: Global, lines: &str) -> Result<Vec<u8>, AllocError> {
     Ok(bytes)
 }
 
-/// The text of these lines; none without any.
+/// The text of these lines, or an empty one.
 pub fn text(alloc: Global, lines: &str) -> Result<DeckText, AllocError> {
     if lines.trim().is_empty() {
         return DeckText::read(alloc, Vec::new(alloc));
@@ -22,7 +22,7 @@ pub fn text(alloc: Global, lines: &str) -> Result<DeckText, AllocError> {
     DeckText::read(alloc, bytes_of(alloc, lines)?)
 }
 
-/// Tells the deck of a text.
+/// Prints the deck of a text.
 fn print_one(rt: &(impl Print + AllocGlobal), which: &str, text: &DeckText) -> Result<()> {
     let deck = match text.deck(rt.alloc()) {
         Ok(deck) => deck,
@@ -39,7 +39,7 @@ fn print_one(rt: &(impl Print + AllocGlobal), which: &str, text: &DeckText) -> R
     Ok(println!(rt; "")?)
 }
 
-/// Tells the deck of a text three times.
+/// Prints the deck of a text three times.
 pub fn print_deck(rt: &(impl Print + AllocGlobal), lines: &str) -> Result<()> {
     let text = text(rt.alloc(), lines)?;
     print_one(rt, "text", &text)?;

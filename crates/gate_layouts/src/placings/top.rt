@@ -1,4 +1,4 @@
-//! What lies on the wafer: a shelf, and the placings of its submissions.
+//! The contents of the wafer: a shelf, and the placements of its submissions.
 
 use crate::placings::decks;
 use anyhow::{Result, bail};
@@ -16,7 +16,7 @@ const DRAWN: Placing = Placing {
     by: Point { x: 0, y: 0 },
 };
 
-/// What the lines made: the shelf, and the placings of its submissions.
+/// The state after the lines: the shelf, and the placements of its submissions.
 #[derive(Drop)]
 pub struct Top {
     shelf: Shelf,
@@ -32,7 +32,7 @@ fn print_placement(rt: &impl Print, placement: PlacementRef<'_>) -> Result<()> {
     Ok(println!(rt; "    {cell} {label}: {submission} {orient} {x} {y}")?)
 }
 
-/// Tells what a change gave: the word for it, or why not.
+/// Prints the result of a change: its word, or why it failed.
 fn print_told(rt: &impl Print, told: Result<&str, PlacingFault>) -> Result<()> {
     match told {
         Ok(word) => Ok(println!(rt; "    {word}")?),
@@ -41,7 +41,7 @@ fn print_told(rt: &impl Print, told: Result<&str, PlacingFault>) -> Result<()> {
 }
 
 impl Top {
-    /// An empty shelf, and no placings.
+    /// An empty shelf, and no placements.
     pub fn new(alloc: Global) -> Top {
         Top {
             shelf: Shelf::new(alloc),
@@ -54,7 +54,7 @@ impl Top {
         submit(alloc, &mut self.shelf, cell, name, notation)
     }
 
-    /// Tells the version of what was placed under a cell and a label.
+    /// Prints the version of the placement of a cell and a label.
     fn print_version(&self, rt: &impl Print, cell: &Name, label: &Name) -> Result<()> {
         let Some(version) = self.placings.version(&self.shelf, cell, label) else {
             bail!("a version");
@@ -62,7 +62,7 @@ impl Top {
         Ok(println!(rt; "    version {version}")?)
     }
 
-    /// Places a cell's present submission under a label, and tells its version, or why not.
+    /// Places a cell's present submission under a label, and prints its version, or why not.
     pub fn place(
         &mut self,
         rt: &(impl Print + AllocGlobal),
@@ -82,7 +82,7 @@ impl Top {
         self.print_version(rt, &cell, &label)
     }
 
-    /// Takes a placing away, and tells so, or why not.
+    /// Removes a placement, and prints that, or why not.
     pub fn unplace(
         &mut self,
         rt: &(impl Print + AllocGlobal),
@@ -107,8 +107,7 @@ impl Top {
         Ok(())
     }
 
-    /// Places a cell so many times where it was drawn, under the labels 0, 1 and so on, and tells how many placings
-    /// there are.
+    /// Places a cell that many times as it is drawn, under the labels 0, 1 and so on, and prints how many placements there are.
     pub fn fill(&mut self, rt: &(impl Print + AllocGlobal), cell: &str, count: &str) -> Result<()> {
         let cell = Name::read(rt.alloc(), cell.as_bytes())?;
         let Ok(count) = count.parse::<u32>() else {
@@ -121,7 +120,7 @@ impl Top {
         Ok(println!(rt; "    {count} placings")?)
     }
 
-    /// The placings, by a copy of the table.
+    /// Prints the placements, by a copy of the table.
     pub fn list(&self, rt: &impl Print) -> Result<()> {
         let placings = self.placings.copy()?;
         let count = placings.len();
@@ -150,7 +149,7 @@ impl Top {
         Ok(Snapshot::new(alloc, deck, roots, shelf)?)
     }
 
-    /// Tells how many tiles of that side, in nm, the placings have, or that there is no plan.
+    /// Prints how many tiles of that side, in nm, the placements have, or that there is no plan.
     pub fn tiles(&self, rt: &(impl Print + AllocGlobal), side: &str) -> Result<()> {
         let snapshot = self.snapshot(rt.alloc(), side)?;
         match snapshot.plan() {

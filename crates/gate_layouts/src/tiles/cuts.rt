@@ -1,4 +1,4 @@
-//! What a cut lists for each tile.
+//! Prints what a cut lists for each tile.
 
 use crate::tiles::plans::deck;
 use anyhow::{Result, bail};

@@ -76,7 +76,7 @@ fn reach(squares: &[Cell]) -> Box2 {
     reach
 }
 
-/// Whether all squares of all shapes are listed; the squares go into the list.
+/// Whether all squares of all shapes are listed. The squares are added to the list.
 fn are_listed(
     painted: &mut Vec<Painted>,
     plan: &Plan,
@@ -111,7 +111,7 @@ fn is_painted(painted: &[Painted], rectangle: &Rectangle, cell: Cell) -> bool {
     })
 }
 
-/// Whether each square of a listed rectangle in the window is a shape's.
+/// Whether each square of a listed rectangle in the window belongs to a shape.
 fn is_shown(painted: &[Painted], window: &Box2, rectangle: &Rectangle) -> bool {
     let area = &rectangle.area;
     for x in area.x0.max(window.x0)..area.x1.min(window.x1) {
@@ -137,13 +137,13 @@ fn are_shown(painted: &[Painted], plan: &Plan, windows: &[Window]) -> Result<boo
     Ok(windows.len() == plan.tiles() as usize)
 }
 
-/// Whether the windows show just the squares of the list.
+/// Whether the windows have exactly the squares of the list.
 fn are_right(alloc: Global, plan: &Plan, windows: &[Window], list: &[Shown<'_>]) -> Result<bool> {
     let mut painted = Vec::new(alloc);
     Ok(are_listed(&mut painted, plan, windows, list)? && are_shown(&painted, plan, windows)?)
 }
 
-/// Whether the windows that the snapshot is cut into show just the squares of the list.
+/// Whether the windows that the snapshot is cut into have exactly the squares of the list.
 fn is_cut_right(alloc: Global, snapshot: &Snapshot, list: &[Shown<'_>]) -> Result<bool> {
     let Some(plan) = snapshot.plan() else {
         return Ok(false);
@@ -172,7 +172,7 @@ fn snapshot_of(
     snapshot(alloc, deck, same_roots(alloc, placed)?, shelf)
 }
 
-/// By how many sides the windows of a layout differ from the list.
+/// For how many sides the windows of a layout differ from the list.
 fn differing_sides(
     alloc: Global,
     shelf: &Shelf,
@@ -189,20 +189,20 @@ fn differing_sides(
     Ok(different)
 }
 
-/// By how many sides the windows of placed submissions differ from their flat list.
+/// For how many sides the windows of placed submissions differ from their flat list.
 fn differing(alloc: Global, shelf: &Shelf, placed: &[Root]) -> Result<u32> {
     let list = flat_list(alloc, shelf, placed)?;
     differing_sides(alloc, shelf, placed, &list)
 }
 
-/// By how many sides the windows of a random layout differ from its flat list.
+/// For how many sides the windows of a random layout differ from its flat list.
 fn compare(alloc: Global, random: &mut Random) -> Result<u32> {
     let placed = roots(alloc, random)?;
     let shelf = layout(alloc, random)?;
     differing(alloc, &shelf, &placed)
 }
 
-/// Cuts so many random layouts by each side, and prints how many differ.
+/// Cuts that many random layouts by each side, and prints how many differ.
 pub fn compared(rt: &(impl Print + AllocGlobal), word: &str) -> Result<()> {
     let Ok(count) = word.parse::<u32>() else {
         bail!("a number");

@@ -37,7 +37,7 @@ fn rectangles(alloc: Global, random: &mut Random) -> Result<Vec<Rectangle>> {
     Ok(list)
 }
 
-/// Whether the window lists just the rectangles that share a square with it, in order.
+/// Whether the window lists exactly the rectangles that share a square with it, in order.
 fn is_right(alloc: Global, window: &Box2, listed: &Window, all: &[Rectangle]) -> Result<bool> {
     let mut wanted = Vec::new(alloc);
     for rectangle in all {
@@ -82,7 +82,7 @@ fn compare(alloc: Global, random: &mut Random) -> Result<bool> {
     are_right(alloc, &plan, windows.as_slice(), all.as_slice())
 }
 
-/// Compares so many times, and prints how many differ.
+/// Compares that many times, and prints how many differ.
 pub fn compared(rt: &(impl Print + AllocGlobal), word: &str) -> Result<()> {
     let Ok(count) = word.parse::<u32>() else {
         bail!("a number");

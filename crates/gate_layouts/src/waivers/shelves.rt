@@ -34,7 +34,7 @@ fn put(
     shelf.put(alloc, submission, &outline, MAX_SHAPES)
 }
 
-/// Submits a square as a cell, and gives the submission's number.
+/// Submits a square as a cell, and returns the submission's number.
 pub fn submit(alloc: Global, shelf: &mut Shelf, cell: Name, user: Name) -> Result<u32> {
     let library = read_library(alloc, &text_of_library(alloc, "TOP: b 1/0 0 0 5 5")?)?;
     let top = Name::read(alloc, b"TOP")?;

@@ -1,4 +1,4 @@
-//! The waivers of a book's markers, and the shelf of what they meet.
+//! The waivers of a book's markers, and the shelf with what they touch.
 
 use crate::waivers::shelves;
 use anyhow::{Result, bail};
@@ -7,7 +7,7 @@ use mpw_hier::Shelf;
 use mpw_waiver::{Waiver, WaiverFault, Waivers};
 use std::alloc::Global;
 
-/// What the lines made: the shelf, and the waivers of a book's markers.
+/// The state after the lines: the shelf, and the waivers of a book's markers.
 #[derive(Drop)]
 pub struct Desk {
     shelf: Shelf,
@@ -32,7 +32,7 @@ fn numbers_of(alloc: Global, words: &[&str]) -> Result<Vec<u32>> {
     Ok(numbers)
 }
 
-/// Tells why not.
+/// Prints why a request failed.
 fn print_fault(rt: &impl Print, fault: &WaiverFault) -> Result<()> {
     if let WaiverFault::Submitter(cell) = fault {
         let cell = cell.as_str();
@@ -61,7 +61,7 @@ impl Desk {
         })
     }
 
-    /// Begins anew with an empty shelf, and so many markers without a waiver.
+    /// Begins again with an empty shelf, and that many markers without a waiver.
     pub fn begin(&mut self, alloc: Global, size: &str) -> Result<()> {
         let waivers = Waivers::new(alloc, place_of(size)?)?;
         self.shelf = Shelf::new(alloc);
@@ -69,7 +69,7 @@ impl Desk {
         Ok(())
     }
 
-    /// Puts a version of a cell on the shelf, which the user submitted, and tells its number.
+    /// Puts a version of a cell on the shelf, which the user submitted, and prints its number.
     pub fn submit(
         &mut self,
         rt: &(impl Print + AllocGlobal),
@@ -82,7 +82,7 @@ impl Desk {
         Ok(println!(rt; "    {number}")?)
     }
 
-    /// Asks for the waiver of the marker at a place, and tells so, or why not.
+    /// Asks for the waiver of the marker at an index, and prints that, or why not.
     pub fn ask(&mut self, rt: &(impl Print + AllocGlobal), place: &str, user: &str) -> Result<()> {
         let place = place_of(place)?;
         let user = Name::read(rt.alloc(), user.as_bytes())?;
@@ -93,8 +93,7 @@ impl Desk {
         Ok(println!(rt; "    asked")?)
     }
 
-    /// Signs the waiver of the marker at a place, which meets the submissions of these numbers, and tells so, or why
-    /// not.
+    /// Signs the waiver of the marker at an index, which touches the submissions of these numbers, and prints that, or why not.
     pub fn sign(
         &mut self,
         rt: &(impl Print + AllocGlobal),
@@ -115,7 +114,7 @@ impl Desk {
         Ok(println!(rt; "    signed")?)
     }
 
-    /// Tells the waivers, by place.
+    /// Prints the waivers, by index.
     pub fn list(&self, rt: &impl Print) -> Result<()> {
         for place in 0..self.waivers.len() {
             if let Some(waiver) = self.waivers.waiver_at(place) {
@@ -125,7 +124,7 @@ impl Desk {
         Ok(())
     }
 
-    /// Tells how many markers have no signed waiver.
+    /// Prints how many markers have no signed waiver.
     pub fn open(&self, rt: &impl Print) -> Result<()> {
         let unsigned = self.waivers.count_unsigned();
         Ok(println!(rt; "    {unsigned} open")?)

@@ -5,7 +5,7 @@ use mpw_deck::{Check, Deck, Rule, read_deck};
 use mpw_geom::Layer;
 use std::alloc::Global;
 
-/// Adds a line, or so many rules.
+/// Adds a line, or that many rules.
 fn add_line(alloc: Global, text: &mut String, line: &str) -> Result<()> {
     let Some(count) = line.strip_prefix("rules ") else {
         text.push_str(
@@ -25,7 +25,7 @@ fn add_line(alloc: Global, text: &mut String, line: &str) -> Result<()> {
     Ok(())
 }
 
-/// The deck's text that stands in brackets.
+/// The deck's text in brackets.
 fn text(alloc: Global, word: &str) -> Result<String> {
     let Some(inner) = word
         .strip_prefix('[')
@@ -62,8 +62,8 @@ fn print_rule(rt: &impl Print, rule: &Rule) -> Result<()> {
     }
 }
 
-/// Prints the tile, the number of rules, and each rule if they are few. A copy must be the same deck, and
-/// a deck with the same tile and no rules another one, unless there are none.
+/// Prints the tile, the number of rules, and each rule if they are few. A copy must be the same deck. A deck with the same tile and no
+/// rules must be another one, unless there are none.
 fn print_deck(rt: &(impl Print + AllocGlobal), deck: &Deck) -> Result<()> {
     let (tile, rules) = (deck.tile(), deck.rules().as_slice());
     let count = rules.len();

@@ -61,7 +61,7 @@ pub fn order(rt: &(impl Print + AllocGlobal), first: &str, second: &str) -> Resu
     Ok(println!(rt; "    {sign}")?)
 }
 
-/// The names `n0` and so on, behind one another.
+/// The names `n0` and so on, one after another.
 fn add_names(alloc: Global, names: &mut Names, count: u16) -> Result<()> {
     for number in 0..count {
         let text = format!(in alloc; "n{number}")?;

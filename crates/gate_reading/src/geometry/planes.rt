@@ -62,7 +62,7 @@ fn meets(rt: &impl Print, first: Box2, second: Box2) -> Result<()> {
     Ok(println!(rt; "    {answer}")?)
 }
 
-/// The placing, if its displacement lies in the plane.
+/// The placing, if its displacement is in the plane.
 fn in_plane(placing: Placing) -> Result<Placing>
     ensures { IfOk result (λ placing. IsInPlane placing.by) }
 {

@@ -39,7 +39,7 @@ fn nanometres(rt: &impl Print, bytes: [u8; 8]) -> Result<()> {
     }
 }
 
-/// Tells how many nm a real is, or whether it is each of the whole numbers.
+/// Prints how many nm a real is, or whether it is each of the whole numbers.
 pub fn real(rt: &(impl Print + AllocGlobal), word: &str, more: &[&str]) -> Result<()> {
     let bytes = bytes(rt.alloc(), word)?;
     if more.is_empty() {

@@ -7,10 +7,10 @@ use mpw_geom::{Orient, Placing, Point};
 use mpw_hier::Shelf;
 use mpw_walk::{Root, Walk, all_fit};
 
-/// The most shapes that a submission may show: those of a desk's.
+/// The most shapes of a submission: those of a desk.
 const MAX_SHAPES: u64 = 1 << 20;
 
-/// Prints how many shapes and levels the submission shows, or why there is none.
+/// Prints how many shapes and levels the submission has, or why there is none.
 pub fn submit(
     rt: &(impl Print + AllocGlobal),
     shelf: &mut Shelf,
@@ -27,7 +27,7 @@ pub fn submit(
     }
 }
 
-/// How many shapes a walk gives.
+/// The number of shapes of a walk.
 fn number_of(walk: &mut Walk<'_>) -> u64 {
     let mut count = 0u64;
     for _ in 0..u64::MAX {
@@ -39,7 +39,7 @@ fn number_of(walk: &mut Walk<'_>) -> u64 {
     count
 }
 
-/// Prints how many shapes a walk over a submission gives, its turns, and its shapes times one more than its levels.
+/// Prints how many shapes a walk over a submission gives, its turns, and the product of its shapes and its levels plus 1.
 pub fn count(rt: &impl Print, shelf: &Shelf, word: &str) -> Result<()> {
     let submission: u32 = number(word)?;
     let roots = [Root {

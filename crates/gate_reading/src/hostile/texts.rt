@@ -1,4 +1,4 @@
-//! Texts that differ from a good one, each read anew.
+//! Texts that differ from a good one. Each is read from its beginning.
 
 use anyhow::{Context, Result, bail};
 use mpw_elements::ReadError;
@@ -15,14 +15,14 @@ fn fault_of(alloc: Global, bytes: &[u8]) -> Result<Option<ReadFault>, AllocError
     }
 }
 
-/// A record's place in a text: its first byte, and the first one behind it.
+/// A record's place in a text: its first byte, and the first one after it.
 #[derive(Clone, Copy)]
 struct Place {
     start: usize,
     end: usize,
 }
 
-/// The length that stands at an offset.
+/// The length at an offset.
 fn length_at(bytes: &[u8], offset: usize) -> Option<u16> {
     let rest = bytes.get(offset..)?;
     match rest {
@@ -47,12 +47,12 @@ fn places(alloc: Global, bytes: &[u8]) -> Result<Vec<Place>> {
     Ok(places)
 }
 
-/// Whether this is what was told.
+/// Whether this fault was reported.
 fn is_told(told: Option<ReadFault>, code: Code, offset: usize) -> bool {
     told == Some(ReadFault { code, offset })
 }
 
-/// Prints what was told of a text that should be told something else.
+/// Prints the report of a text that should have another one.
 fn differs(rt: &impl Print, text: usize, told: Option<ReadFault>) -> Result<()> {
     match told {
         None => Ok(println!(rt; "    {text} is read")?),
@@ -82,7 +82,7 @@ fn fronts(rt: &(impl Print + AllocGlobal), bytes: &[u8]) -> Result<()> {
     Ok(())
 }
 
-/// How many texts with another length were told what.
+/// How many texts with another length got which report.
 #[derive(Clone, Copy)]
 struct Tally {
     bad: u64,
@@ -90,7 +90,7 @@ struct Tally {
     others: u64,
 }
 
-/// The code that a length has where so many bytes are left, if it has one.
+/// The code of a length if that many bytes are left, if it has one.
 fn code_of(length: u16, left: usize) -> Option<Code> {
     if length < 4 || length % 2 == 1 {
         Some(Code::BadLength)
@@ -101,7 +101,7 @@ fn code_of(length: u16, left: usize) -> Option<Code> {
     }
 }
 
-/// Whether that code, or neither of the two, is told at the record.
+/// Whether that code, or neither of the two, is reported at the record.
 fn is_right(told: Option<ReadFault>, code: Option<Code>, start: usize) -> bool {
     match code {
         Some(code) => is_told(told, code, start),
@@ -165,7 +165,7 @@ fn lengths(rt: &(impl Print + AllocGlobal), mut bytes: Vec<u8>) -> Result<()> {
     Ok(())
 }
 
-/// Whether no fault is told before the offset.
+/// Whether no fault is reported before the offset.
 fn is_behind(told: Option<ReadFault>, start: usize) -> bool {
     match told {
         Some(fault) => fault.offset >= start,
@@ -173,7 +173,7 @@ fn is_behind(told: Option<ReadFault>, start: usize) -> bool {
     }
 }
 
-/// Reads the text with each value at a byte of the record that starts there: how many were right.
+/// Reads the text with each value at a byte of the record that starts there. It returns how many were right.
 fn values_at(
     rt: &(impl Print + AllocGlobal),
     bytes: &mut [u8],
@@ -205,7 +205,7 @@ fn values(rt: &(impl Print + AllocGlobal), mut bytes: Vec<u8>) -> Result<()> {
     Ok(println!(rt; "    {count} texts, none refused before its record")?)
 }
 
-/// Answers a command over a text.
+/// Answers a command about a text.
 pub fn answer(rt: &(impl Print + AllocGlobal), words: &[&str], bytes: Vec<u8>) -> Result<()> {
     match words {
         ["fronts"] => fronts(rt, &bytes),

@@ -75,7 +75,7 @@ fn structure(rt: &(impl Print + AllocGlobal), found: &Structure) -> Result<()> {
     Ok(())
 }
 
-/// The structures with their elements. That a structure isn't the one that its name means is told.
+/// Prints the structures with their elements. It also prints if a structure isn't the one that its name refers to.
 pub fn library(rt: &(impl Print + AllocGlobal), found: &Library) -> Result<()> {
     for (place, item) in found.structures().iter().enumerate() {
         structure(rt, item)?;

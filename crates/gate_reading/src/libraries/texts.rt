@@ -11,7 +11,7 @@ use std::alloc::{AllocError, Global};
 
 type Outcome<'a> = std::result::Result<Record<'a>, ReadFault>;
 
-/// The fault of a text as it is printed, or `read`, where its bytes are read again.
+/// The fault of a text as it is printed, or `read`, if its bytes are read again.
 fn outcome(alloc: Global, bytes: &[u8]) -> Result<String, AllocError> {
     let text = LibraryText::read(alloc, Vec::from_slice(alloc, bytes)?)?;
     match text.alone()?.library(alloc) {
@@ -23,7 +23,7 @@ fn outcome(alloc: Global, bytes: &[u8]) -> Result<String, AllocError> {
     }
 }
 
-/// The bytes with so many zero bytes behind them.
+/// The bytes with that many zero bytes after them.
 fn padded(mut bytes: Vec<u8>, words: &[&str]) -> Result<Vec<u8>> {
     for word in words {
         let Ok(count) = word.parse::<u16>() else {
@@ -34,7 +34,7 @@ fn padded(mut bytes: Vec<u8>, words: &[&str]) -> Result<Vec<u8>> {
     Ok(bytes)
 }
 
-/// The same text and the same library, told by copies.
+/// Prints a text and its library, by copies.
 fn read(rt: &(impl Print + AllocGlobal), bytes: Vec<u8>, words: &[&str]) -> Result<()> {
     let bytes = padded(bytes, words)?;
     let size = bytes.len();
@@ -105,7 +105,7 @@ fn records(rt: &(impl Print + AllocGlobal), bytes: &[u8]) -> Result<()> {
     Ok(())
 }
 
-/// Reads each text that is cut off, and prints the number of bytes from which on another fault comes.
+/// Reads each text that is cut off, and prints the number of bytes from which on another fault occurs.
 fn prefixes(rt: &(impl Print + AllocGlobal), bytes: &[u8]) -> Result<()> {
     let mut last = String::new(rt.alloc());
     for (size, _) in bytes.iter().enumerate() {
@@ -162,7 +162,7 @@ fn lengths(rt: &(impl Print + AllocGlobal), bytes: &[u8], words: &[&str]) -> Res
     Ok(())
 }
 
-/// Answers the words before the bar for the library behind it.
+/// Answers the words before the bar for the library after it.
 fn answer_words(rt: &(impl Print + AllocGlobal), words: &[&str], notation: &str) -> Result<()> {
     let bytes = text_of_library(rt.alloc(), notation)?;
     match words {

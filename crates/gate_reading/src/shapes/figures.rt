@@ -1,6 +1,6 @@
 //! Boundaries of known forms.
 //!
-//! Each is added to a list that the caller holds, some corners at a time, so that no figure drops one.
+//! Each is added to a list of the caller, some corners at a time, so that no figure drops one.
 
 use anyhow::{Result, bail};
 use std::alloc::AllocError;

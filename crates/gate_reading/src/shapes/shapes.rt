@@ -30,7 +30,7 @@ fn add_boxes(alloc: Global, boxes: &mut Vec<Box2>, library: &Library) -> Result<
     Ok(())
 }
 
-/// The rectangles of all elements of the library that the bytes are of.
+/// The rectangles of all elements of the library in the bytes.
 fn boxes_of(alloc: Global, bytes: &[u8]) -> Result<Vec<Box2>> {
     let library = read_library(alloc, bytes)?;
     let mut boxes = Vec::new(alloc);
@@ -83,7 +83,7 @@ fn square(rt: &impl Print, boxes: &[Box2], x: &str, y: &str) -> Result<()> {
     Ok(println!(rt; "    {x} {y} {side}")?)
 }
 
-/// Counts the squares, and looks at some.
+/// Counts the squares, and tests some.
 fn squares(rt: &impl Print, boxes: &[Box2], words: &[&str]) -> Result<()> {
     let squares = count(boxes);
     println!(rt; "    {squares} squares")?;
@@ -96,7 +96,7 @@ fn squares(rt: &impl Print, boxes: &[Box2], words: &[&str]) -> Result<()> {
     Ok(())
 }
 
-/// Draws a boundary, with the closing point that the standard asks for.
+/// Draws a boundary, with the closing point that the standard requires.
 fn draw(alloc: Global, text: &mut Sample, points: &[(i32, i32)]) -> Result<(), SampleError> {
     text.begin("TOP")?;
     let mut closed = Vec::from_slice(alloc, points)?;
@@ -141,7 +141,7 @@ pub fn answer(rt: &impl Print, words: &[&str], boxes: &[Box2]) -> Result<()> {
     }
 }
 
-/// The number of boxes, or, where it is at most that of a word, that.
+/// The number of boxes; or that of a word, if they are at most that many.
 fn number(boxes: &[Box2], words: &[&str]) -> Result<(&'static str, usize)> {
     for word in words {
         let Ok(most) = word.parse::<usize>() else {
@@ -201,7 +201,7 @@ fn agree(boxes: &[Box2], points: &[(i32, i32)]) -> bool {
     true
 }
 
-/// Whether the boxes of a random boundary, of 6 steps or of 60 in turn, are those of a grid.
+/// Whether the boxes of a random boundary, with 6 steps or 60 in turn, are those of a grid.
 fn compare(alloc: Global, seed: u64) -> Result<bool> {
     let mut points = Vec::new(alloc);
     figures::add_scribble(&mut points, seed, if seed % 2 == 0 { 6 } else { 60 })?;

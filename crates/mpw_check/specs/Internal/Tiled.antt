@@ -1,4 +1,4 @@
--- What private functions and proofs need of this: a layout that is cut, and the jobs of its tiles.
+-- For private functions and proofs: a layout that was cut, and the jobs of its tiles.
 use Rattle.std.specs.Prelude.{◌≡◌, ℕ, ◌-◌, List, [], map, length, Some}
 use Rattle.std.specs.List.{range_with_len}
 use Rattle.mpw_job.specs.Answers.{Answers}

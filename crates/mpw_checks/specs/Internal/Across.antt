@@ -3,7 +3,7 @@ use Rattle.std.specs.Prelude.{ℤ, ◌≤ℤ◌, ◌<ℤ◌, List, Contains}
 use Rattle.mpw_geom.specs.declared.plane.Box2.{Box2}
 use Rattle.mpw_region.specs.declared.runs.Run.{Run}
 
--- some run of the list has the row, on whatever line
+-- some run of the list has the row, on any line
 abbrev pub HasRowIn : List Run → ℤ → Type 0
 HasRowIn runs j = (r : Run) × Contains runs r × ((r.from ≤ℤ j) × (j <ℤ r.to))
 

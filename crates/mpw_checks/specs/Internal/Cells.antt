@@ -15,7 +15,7 @@ abbrev pub StepsIn : Rule → List Box2 → List Box2 → Box2 → Axis → Line
 StepsIn rule first second core axis line j =
     HasStep rule (covers first) (covers second) core axis line.side line.first line.second j
 
--- the window that decides what rules up to that distance find in the core
+-- the window that decides what rules with at most that distance find in the core
 abbrev pub window_of : Box2 → ℕ → Box2
 window_of core distance = widened core (distance + 1)
 
@@ -30,11 +30,11 @@ left_of core at = record { x0 = core.x0; y0 = core.y0; x1 = at.x; y1 = core.y1 }
 abbrev pub right_of : Box2 → Point → Box2
 right_of core at = record { x0 = at.x; y0 = core.y0; x1 = core.x1; y1 = core.y1 }
 
--- the point is no further than the core's right side, nor than both sides before
+-- the point is no further right than the core's right side, and no further left than both of its sides
 pub record IsMiddle (core : Box2) (at : Point) : Type 0 where
   pub column : at.x ≤ℤ core.x1
   pub columns : (z : ℤ) → z ≤ℤ core.x0 → z ≤ℤ core.x1 → z ≤ℤ at.x
 
--- the halves have just the points of the core
+-- the halves have exactly the points of the core
 abbrev pub AreHalves : Box2 → Box2 → Box2 → Type 0
 AreHalves core low high = (x y : ℤ) → IsInCore core x y ↔ (IsInCore low x y ⊎ IsInCore high x y)

@@ -19,11 +19,11 @@ IsBanded b = AreBands b.boxes.items
 abbrev pub layer_of : Banded → Layer
 layer_of b = b.layer
 
--- The bands have just the squares of their layer.
+-- The bands have exactly the squares of their layer.
 abbrev pub HasSquaresOf : Coverage → Banded → Type 0
 HasSquaresOf on b = (i j : ℤ) → covers b.boxes.items i j ≡ on b.layer i j
 
--- Bands of each of the layers, with just its squares.
+-- Bands of each of the layers, with exactly its squares.
 pub record AreBandsOf (layers : List Layer) (on : Coverage) (banded : List Banded) : Type 0 where
   pub layers_are : map layer_of banded ≡ layers
   pub each : All IsBanded banded

@@ -33,22 +33,22 @@ pub record IsLayout (l : Layout) : Type 0 where
   pub look : IsLook l.snapshot.now.deck.rules l.layers.now l.distance
   pub boxes : AreBoxesOf l.snapshot.now.shelf l.boxes.now
 
--- The layers are those that the rules look at, and the boxes those of the submission's elements.
+-- The layers are those of the rules, and the boxes are those of the submission's elements.
 pub record IsReady (s : Snapshot) (r : Ready) : Type 0 where
   pub layers : All (λ rule. HasLayers r.layers.items rule.check) s.deck.rules
   pub boxes : AreBoxesOf s.shelf r.boxes
 
--- In the window of a column, on the layers of the rules, the rectangles have just the squares that the layout shows, as they are seen along its axis.
+-- In the window of a column, on the layers of the rules, the rectangles have exactly the squares of the layout, as they are seen along its axis.
 abbrev pub AgreeInColumn : Layout → Column → List Rectangle → Type 0
 AgreeInColumn l c rectangles =
     AgreeIn l.layers.now (across (upright (seen_box c.axis l.extent) c) (l.distance + 1))
     (seen_on c.axis (shown_on (shown l.snapshot.now))) (listed_on rectangles)
 
--- So the shared rectangles in the window of theirs.
+-- The shared rectangles have them in the window of their column.
 abbrev pub IsShared : Layout → Shared → Type 0
 IsShared l shared = AgreeInColumn l shared.whole shared.rectangles.items
 
--- The things of the whole layout, for either axis; those in the window of the column of a batch; and what a batch shares.
+-- The entries of the whole layout, for either axis; those in the window of the column of a batch; and what a batch shares.
 abbrev pub AreAllThings : Layout → List Thing → Type 0
 AreAllThings l things = AreThingsIn l V (whole_core l V) things × AreThingsIn l H (whole_core l H) things
 
@@ -69,18 +69,18 @@ pub record AreBatches (b : Batches) : Type 0 where
   pub upright : All (λ c. IsUpright (upright (seen_box c.axis b.layout.now.extent) c)) b.own.now.columns.now
   pub top : IsTop b.layout.now b.top.now
 
--- A list for each of the next columns from a place on, one at least.
+-- A list for each of the next columns from an index on, at least one.
 pub record AreNext (s : Snapshot) (columns : List Column) (from : ℕ) (lists : List (List Key)) : Type 0 where
   pub some : 0 < length lists
   pub within : from + length lists ≤ length columns
   pub each : AllZip (IsColumnList s) (take (length lists) (drop from columns)) lists
 
--- The columns of a layout, of which so many are of V.
+-- The columns of a layout. The first `count` of them are of V.
 pub record IsCounted (s : Snapshot) (count : ℕ) (columns : List Column) : Type 0 where
   pub plan : AreColumnsOfLayout s columns
   pub counted : count ≡ length plan.upright
 
--- A list for each of the columns of a layout, of which so many are of V.
+-- A list for each of the columns of a layout. The first `count` of them are of V.
 pub record HaveLists (s : Snapshot) (count : ℕ) (lists : List (List Key)) : Type 0 where
   pub columns : List Column
   pub plan : IsCounted s count columns

@@ -24,7 +24,7 @@ pub record HasFirsts (s : Snapshot) (most lists : ℕ) (c : Column) (f : Firsts)
   pub list : IsColumnList s c keys
   pub are : AreFirsts most lists keys f
 
--- The place is one that a column of a layout can have.
+-- The position is one that a column of a layout can have.
 pub record IsSpot (x : ℤ) : Type 0 where
   pub low : neg_ℤ (pos (2 ^ 40)) ≤ℤ x
   pub high : x ≤ℤ pos (2 ^ 40)
@@ -38,7 +38,7 @@ pub record IsPlacedAt (s : Snapshot) (own : List Column) (c : Column) (p : Place
   pub near : IsNear p.by
   pub list : (keys : List Key) → IsColumnList s first keys → IsColumnList s c (map (displaced_key p.by) keys)
 
--- The columns have lists, of which these are the first; nothing is far off.
+-- The columns have lists, of which these are the first; all is within bounds.
 pub record HasListing (s : Snapshot) (most : ℕ) (columns : List Column) (l : Listing) : Type 0 where
   pub lists : List (List Key)
   pub each : AllZip (IsColumnList s) columns lists
@@ -46,7 +46,7 @@ pub record HasListing (s : Snapshot) (most : ℕ) (columns : List Column) (l : L
   pub near : All AreNear l.firsts.items
   pub by : All (λ p. IsNear p.by) l.placed.items
 
--- So those of the columns of a layout, of which so many are of V.
+-- The same for the columns of a layout. The first `count` of them are of V.
 pub record HasLayoutListing (s : Snapshot) (most count : ℕ) (l : Listing) : Type 0 where
   pub columns : List Column
   pub plan : IsCounted s count columns

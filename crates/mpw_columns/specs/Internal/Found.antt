@@ -11,7 +11,7 @@ use Rattle.mpw_job.specs.Layers.{Coverage}
 use Rattle.mpw_keys.specs.declared.column.Column.{Column}
 use Rattle.mpw_columns.specs.Found.{IsFound, HasLayers}
 
--- To the keys were added those that are found, and no others; of those of the first n rules alone.
+-- Exactly the keys that are found were added to the keys; the second: those of the first n rules alone.
 abbrev pub AddsFound : List Rule → Axis → Coverage → Box2 → (old new : List Key) → Type 0
 AddsFound rules axis on core old new =
     (k : Key) → Contains new k ↔ (Contains old k ⊎ IsFound rules axis on core k)
@@ -20,12 +20,12 @@ abbrev pub AddsFirst : ℕ → List Rule → Axis → Coverage → Box2 → (old
 AddsFirst n rules axis on core old new = (k : Key)
     → Contains new k ↔ (Contains old k ⊎ ((k.rule < n) × IsFound rules axis on core k))
 
--- Those of the rule at a place.
+-- Exactly the keys that are found for the rule at an index were added.
 abbrev pub AddsRule : ℕ → List Rule → Axis → Coverage → Box2 → (old new : List Key) → Type 0
 AddsRule place rules axis on core old new = (k : Key)
     → Contains new k ↔ (Contains old k ⊎ ((k.rule ≡ place) × IsFound rules axis on core k))
 
--- The key of a run of the rule at that place.
+-- The key of a run of the rule at that index.
 abbrev pub key_of_run : ℕ → Axis → Run → Key
 key_of_run place axis r = record {
   rule = place;
@@ -37,7 +37,7 @@ key_of_run place axis r = record {
   y1 = r.to;
 }
 
--- What is looked for: at most 256 rules, with their layers, and a distance that is no less than any of theirs.
+-- The input of a search: at most 256 rules, with their layers, and a distance that is at least each of theirs.
 pub record IsLook (rules : List Rule) (layers : List Layer) (distance : ℕ) : Type 0 where
   pub few : length rules ≤ 256
   pub near : All (λ rule. rule.distance ≤ distance) rules
@@ -52,14 +52,14 @@ AgreeIn layers window on other =
 abbrev pub AgreeAll : Box2 → Coverage → Coverage → Type 0
 AgreeAll window on other = (layer : Layer) → AreSameIn window (on layer) (other layer)
 
--- The core left and right of a place.
+-- The core left and right of a position.
 abbrev pub left_of : Box2 → ℤ → Box2
 left_of core at = record { x0 = core.x0; y0 = core.y0; x1 = at; y1 = core.y1 }
 
 abbrev pub right_of : Box2 → ℤ → Box2
 right_of core at = record { x0 = at; y0 = core.y0; x1 = core.x1; y1 = core.y1 }
 
--- A core that is seen along its axis: its first place is no later than the one behind its last, and none is far off.
+-- A core that is seen along its axis: its first position is at most the one after its last, and both are within bounds.
 pub record IsUpright (core : Box2) : Type 0 where
   pub ordered : core.x0 ≤ℤ core.x1
   pub left : neg_ℤ (pos (2 ^ 40)) ≤ℤ core.x0
@@ -67,13 +67,13 @@ pub record IsUpright (core : Box2) : Type 0 where
   pub bottom : neg_ℤ (pos (2 ^ 40)) ≤ℤ core.y0
   pub top : core.y1 ≤ℤ pos (2 ^ 40)
 
--- A column with some place, not far off.
+-- A column with some position, within bounds.
 pub record IsStretch (c : Column) : Type 0 where
   pub left : neg_ℤ (pos (2 ^ 40)) ≤ℤ c.from
   pub some : c.from <ℤ c.to
   pub right : c.to ≤ℤ pos (2 ^ 40)
 
--- The rows of the box, and its columns, are not far off.
+-- The rows of the box, and its columns, are within bounds.
 pub record IsTall (b : Box2) : Type 0 where
   pub bottom : neg_ℤ (pos (2 ^ 40)) ≤ℤ b.y0
   pub top : b.y1 ≤ℤ pos (2 ^ 40)
@@ -93,7 +93,7 @@ pub record AreHalvesOf (c left right : Column) : Type 0 where
   pub some_left : left.from <ℤ left.to
   pub some_right : right.from <ℤ right.to
 
--- How many columns there are once a column was halved at most so many times behind so many others: halving ends where there are 2^20.
+-- The number of columns (`now`) once a column was halved at most `depth` times, with `before` other columns before it. Halving ends at 2^20 columns.
 pub record AreFew (depth before now : ℕ) : Type 0 where
   pub early : before < 2 ^ 20 → now ≤ 2 ^ 20 + depth
   pub late : 2 ^ 20 ≤ before → now ≤ before + 1

@@ -15,7 +15,7 @@ abbrev pub seen_rectangle : Axis → Rectangle → Rectangle
 seen_rectangle axis r =
     record { area = seen_box axis r.area; layer = r.layer; origin = r.origin }
 
--- To the rectangles, which are seen along the axis, were added some with just the squares of P, as far as they lie in the plane.
+-- To the rectangles, which are seen along the axis, some were added with exactly the squares of P, as far as they lie in the plane.
 abbrev pub AddsSeen : Axis → (old new : List Rectangle) → (Layer → ℕ → Square → Type 0) → Type 0
 AddsSeen axis old new P = (layer : Layer) (origin : ℕ) (s : Square) → IsSquareInPlane s
     → IsListed new layer origin (seen_square axis s)
@@ -29,7 +29,7 @@ AddsShown layers axis old new P = (layer : Layer) (origin : ℕ) (s : Square)
     → IsListed new layer origin (seen_square axis s)
     ↔ (IsListed old layer origin (seen_square axis s) ⊎ P layer origin s)
 
--- On these layers they have just the squares that the shapes show.
+-- On these layers they have exactly the squares of the shapes.
 abbrev pub ShowSeen : List Layer → Axis → List Item → List Rectangle → Type 0
 ShowSeen layers axis items listed = (layer : Layer) (origin : ℕ) (s : Square)
     → Contains layers layer → IsSquareInPlane s

@@ -34,20 +34,20 @@ pub record IsStepIn (rules : List Rule) (axis : Axis) (on : Coverage) (core : Bo
   pub step : HasVerticalStep rule (first_squares rule.check on) (second_squares rule.check on) core
       line.side line.x1 line.x2 j
 
--- Each of the keys has some row, and together they have just the rows of the core's pair steps.
+-- Each of the keys has some row, and together they have exactly the rows of the core's pair steps.
 pub record ArePieces (rules : List Rule) (axis : Axis) (on : Coverage) (core : Box2) (keys : List Key) :
     Type 0 where
   pub filled : All (λ k. k.y0 <ℤ k.y1) keys
   pub exact : (line : Line) (j : ℤ) → IsRowOf keys line j ↔ IsStepIn rules axis on core line j
 
--- Such pieces were added behind others.
+-- Such pieces were added after others.
 pub record AddsPieces (rules : List Rule) (axis : Axis) (on : Coverage) (core : Box2) (old new : List Key) :
     Type 0 where
   pub added : List Key
   pub is : new ≡ old ++ added
   pub pieces : ArePieces rules axis on core added
 
--- ---- cores and keys elsewhere
+-- ---- displaced cores and keys
 
 -- The core below a row, and above it.
 abbrev pub below_of : Box2 → ℤ → Box2
@@ -56,7 +56,7 @@ below_of core at = record { x0 = core.x0; y0 = core.y0; x1 = core.x1; y1 = at }
 abbrev pub above_of : Box2 → ℤ → Box2
 above_of core at = record { x0 = core.x0; y0 = at; x1 = core.x1; y1 = core.y1 }
 
--- The box and the key, moved: across the edges, and along them.
+-- The box and the key, displaced across the edges and along them.
 abbrev pub moved_box : Point → Box2 → Box2
 moved_box d b = record { x0 = b.x0 +ℤ d.x; y0 = b.y0 +ℤ d.y; x1 = b.x1 +ℤ d.x; y1 = b.y1 +ℤ d.y }
 
@@ -71,26 +71,26 @@ moved_key d k = record {
   y1 = k.y1 +ℤ d.y;
 }
 
--- The way as it is seen along an axis.
+-- The displacement as it is seen along an axis.
 abbrev pub seen_way : Axis → Point → Point
 seen_way V d = d
 seen_way H d = record { x = d.y; y = d.x }
 
--- The core is the other one, or lies within it.
+-- The first core lies within the second, or is equal to it.
 pub record IsInside (core outer : Box2) : Type 0 where
   pub left : outer.x0 ≤ℤ core.x0
   pub right : core.x1 ≤ℤ outer.x1
   pub bottom : outer.y0 ≤ℤ core.y0
   pub top : core.y1 ≤ℤ outer.y1
 
--- The third number is the sum of the others; the second core is the first, moved.
+-- The third number is the sum of the others; the second core is the first, displaced.
 abbrev pub IsSum : (a b sum : ℤ) → Type 0
 IsSum a b sum = sum ≡ (a +ℤ b)
 
 abbrev pub IsMovedCore : Point → (core other : Box2) → Type 0
 IsMovedCore d core other = other ≡ moved_box d core
 
--- The parts of a core left and right of a place, or below and above a row.
+-- The parts of a core left and right of a position, or below and above a row.
 pub record IsCutAcross (core : Box2) (at : ℤ) (first second : Box2) : Type 0 where
   pub low : core.x0 ≤ℤ at
   pub high : at ≤ℤ core.x1
@@ -106,16 +106,16 @@ pub record IsCutAlong (core : Box2) (at : ℤ) (first second : Box2) : Type 0 wh
 abbrev pub IsCut : (core first second : Box2) → Type 0
 IsCut core first second = (at : ℤ) × (IsCutAcross core at first second ⊎ IsCutAlong core at first second)
 
--- ---- what things show
+-- ---- the content of entries
 
--- The layout as it is seen along an axis, and what things show of it.
+-- The layout as it is seen along an axis, and the content of entries, seen so too.
 abbrev pub seen_layout : Layout → Axis → Coverage
 seen_layout l axis = seen_on axis (shown_on (shown l.snapshot.now))
 
 abbrev pub seen_things : Layout → Axis → List Thing → Coverage
 seen_things l axis things = seen_on axis (shown_on (things_items l.snapshot.now.shelf things))
 
--- The numbers are in order, and neither is far off.
+-- The numbers are in order, and both are within bounds.
 pub record IsSpan (low high : ℤ) : Type 0 where
   pub bottom : neg_ℤ (pos (2 ^ 42)) ≤ℤ low
   pub ordered : low ≤ℤ high
@@ -125,12 +125,12 @@ pub record IsSpan (low high : ℤ) : Type 0 where
 abbrev pub smaller : Box2 → Box2
 smaller b = record { x0 = b.x0 +ℤ pos 1; y0 = b.y0 +ℤ pos 1; x1 = b.x1 -ℤ pos 1; y1 = b.y1 -ℤ pos 1 }
 
--- What has a unit square of the window meets the other box.
+-- What has a unit square of the window touches the other box.
 abbrev pub MeetsSquaresOf : (window met : Box2) → Type 0
 MeetsSquaresOf window met = (b : Box2) (s : Square) → has_square window s ≡ true
     → has_square b s ≡ true → do_meet b met ≡ true
 
--- The things show in the core's window, on the layers of the rules, just what the layout does, and the areas of shapes are their boxes.
+-- In the core's window, on the layers of the rules, the entries have exactly what the layout has, and the areas of shapes are their boxes.
 pub record AreThingsIn (l : Layout) (axis : Axis) (core : Box2) (things : List Thing) : Type 0 where
   pub shows : AgreeIn l.layers.now (across core (l.distance + 1)) (seen_layout l axis) (seen_things l axis things)
   pub boxed : All (IsBoxed l.snapshot.now.shelf) things
@@ -143,11 +143,11 @@ abbrev pub AddsLayoutPieces : Layout → Axis → Box2 → (old new : List Key) 
 AddsLayoutPieces l axis core old new =
     AddsPieces l.snapshot.now.deck.rules axis (seen_layout l axis) core old new
 
--- The rectangles have there just the squares that the layout has.
+-- The rectangles have there exactly the squares that the layout has.
 abbrev pub AreRectanglesIn : Layout → Axis → Box2 → List Rectangle → Type 0
 AreRectanglesIn l axis core rectangles = AgreeIn l.layers.now (across core (l.distance + 1)) (seen_layout l axis) (listed_on rectangles)
 
--- A core that is kept has the pieces of what its things show.
+-- A core that is held has the pieces of its entries.
 abbrev pub IsSolved : Layout → Axis → Solved → Type 0
 IsSolved l axis s = ArePieces l.snapshot.now.deck.rules axis (seen_things l axis s.things) s.core s.keys.items
 

@@ -1,4 +1,4 @@
--- What private functions and proofs need of this: which instances of an array miss a window, and an array without them.
+-- For private functions and proofs: which instances of an array miss a window, and an array without them.
 use Rattle.std.specs.Prelude.{◌≡◌, ◌<◌, ◌≤◌, ◌+◌, ◌-◌, ◌⊎◌, ℕ, ℤ, pos, ◌+ℤ◌, ◌*ℤ◌, Bool, false, int_le}
 use Rattle.std.specs.Int.{int_min, int_max}
 use Rattle.mpw_geom.specs.Plane.{IsInPlane}
@@ -14,7 +14,7 @@ use Rattle.mpw_contents.specs.Things.{reference_of}
 
 -- ---- along an axis
 
--- An interval so many steps on, and whether two share a number.
+-- An interval some steps on, and whether two intervals share a number.
 abbrev pub span_on : Span → (step : ℤ) → ℕ → Span
 span_on a step k = record { low = a.low +ℤ (pos k *ℤ step); high = a.high +ℤ (pos k *ℤ step) }
 
@@ -27,12 +27,12 @@ IsOutside p k = (k < p.from) ⊎ (p.end ≤ k)
 abbrev pub IsEither : Places → Places → ℕ → Type 0
 IsEither a b k = IsOutside a k ⊎ IsOutside b k
 
--- Of so many intervals those at other places share no number with a window.
+-- Of the first `most` intervals, those at indices outside `p` share no number with a window.
 abbrev pub SpansMissed : (there window : Span) (step : ℤ) → ℕ → Places → Type 0
 SpansMissed there window step most p =
     (k : ℕ) → k < most → IsOutside p k → do_share (span_on there step k) window ≡ false
 
--- The same wherever they stand across.
+-- The same wherever they are along the other steps.
 abbrev pub AlongMissed : (there window : Span) (step other : ℤ) → ℕ → Places → Type 0
 AlongMissed there window step other most p =
     (k n : ℕ) → k < most → IsOutside p k
@@ -63,7 +63,7 @@ RowsMissed there window a p =
     (row column : ℕ) → row < a.rows → IsOutside p row
     → do_meet (box_at there a row column) window ≡ false
 
--- An array of columns and rows of another one.
+-- An array of some columns and rows of another one.
 pub record IsCut (a : Array) (columns rows : Places) (b : Array) : Type 0 where
   pub structure : b.structure ≡ a.structure
   pub node : b.node ≡ a.node
@@ -73,7 +73,7 @@ pub record IsCut (a : Array) (columns rows : Places) (b : Array) : Type 0 where
       ≡ instance (reference_of a) (rows.from + row) (columns.from + column)
   pub near : IsInPlane b.first.by
 
--- An instance whose structure has that extent misses a window.
+-- An instance of an array whose structure has that extent misses a window.
 abbrev pub IsInstanceAway : Array → (window extent : Box2) → (row column : ℕ) → Type 0
 IsInstanceAway a window extent row column =
     do_meet (placed_box (instance (reference_of a) row column) extent) window ≡ false
@@ -82,7 +82,7 @@ abbrev pub IsAway : Array → (window extent : Box2) → Type 0
 IsAway a window extent =
     (row column : ℕ) → row < a.rows → column < a.columns → IsInstanceAway a window extent row column
 
--- An instance of another array.
+-- An instance of one array is an instance of another array.
 pub record IsInstanceOf (b a : Array) (row column : ℕ) : Type 0 where
   pub at_row : ℕ
   pub at_column : ℕ

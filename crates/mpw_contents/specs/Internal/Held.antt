@@ -1,11 +1,11 @@
--- What private functions and proofs need of this: the boxes of one structure.
+-- For private functions and proofs: the boxes of one structure.
 use Rattle.std.specs.Prelude.{◌≡◌, ℕ, slice_get, Option, Some}
 use Rattle.std.specs.Global.{Vec}
 use Rattle.mpw_geom.specs.declared.plane.Box2.{Box2}
 use Rattle.mpw_structures.specs.declared.structures.Structure.{Structure}
 use Rattle.mpw_contents.specs.Boxes.{box_of}
 
--- What stands in the list is the box of the element at that place.
+-- Each box in the list is that of the element at that index.
 abbrev pub HoldsBoxes : Structure → Vec (Option Box2) → Type 0
 HoldsBoxes s boxes =
     (place : ℕ) (b : Option Box2) → slice_get boxes.items place ≡ Some b

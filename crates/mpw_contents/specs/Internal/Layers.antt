@@ -1,4 +1,4 @@
--- What private functions and proofs need of this: things without the shapes of other layers.
+-- For private functions and proofs: entries without the shapes on other layers.
 use Rattle.std.specs.Prelude.{List, All, Contains}
 use Rattle.mpw_geom.specs.declared.plane.Layer.{Layer}
 use Rattle.mpw_hier.specs.Items.{Item}
@@ -11,12 +11,12 @@ use Rattle.mpw_contents.specs.Things.{things_items}
 abbrev pub ShowsNone : List Layer → List Item → Type 0
 ShowsNone layers items = (i : Item) → Contains items i → IsOn layers i.element → ⊥
 
--- All of these that are on the layers are shown, and nothing else.
+-- All of these that are on the layers are included, and nothing else.
 pub record KeepsOn (layers : List Layer) (all shown : List Item) : Type 0 where
   pub kept : (i : Item) → Contains all i → IsOn layers i.element → Contains shown i
   pub sound : AreSound all shown
 
--- Things without the shapes of other layers.
+-- Entries without the shapes on other layers.
 pub record AreLayered (ss : List Submission) (layers : List Layer) (all things : List Thing)
     : Type 0 where
   pub keeps : KeepsOn layers (things_items ss all) (things_items ss things)

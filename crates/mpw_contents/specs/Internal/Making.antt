@@ -1,4 +1,4 @@
--- What private functions and proofs need of this: things as they are made.
+-- For private functions and proofs: entries while they are made.
 use Rattle.std.specs.Prelude.{◌≡◌, ℕ, List, ◌++◌, All, slice_get, Option, Some, IfSome}
 use Rattle.mpw_geom.specs.Plane.{IsInPlane}
 use Rattle.mpw_geom.specs.declared.plane.Box2.{Box2}
@@ -22,7 +22,7 @@ pub record IsLayout (l : Layout) : Type 0 where
   pub structures : l.structures.now ≡ nodes.submission.library
   pub boxes : IfSome l.boxes (λ b. AreBoxesOf l.shelf.now b.now)
 
--- What stands in the list is the box of the structure's element at that place.
+-- Each box in the list is that of the structure's element at that index.
 abbrev pub HaveBoxes : Layout → ℕ → List (Option Box2) → Type 0
 HaveBoxes l structure boxes =
     (place : ℕ) (b : Option Box2) → slice_get boxes place ≡ Some b
@@ -50,7 +50,7 @@ pub record IsArray (nodes : List Node) (a : Array) : Type 0 where
   pub structure : node.structure ≡ a.structure
   pub near : IsInPlane a.first.by
 
--- The array's structure is one of the nodes', which has that extent.
+-- The array's structure is one of the nodes', with that extent.
 pub record HasExtent (nodes : List Node) (a : Array) (extent : Box2) : Type 0 where
   pub node : Node
   pub at : slice_get nodes a.node ≡ Some node
@@ -61,12 +61,12 @@ abbrev pub IsThing : List Node → Thing → Type 0
 IsThing nodes (things.Shape shape) = IsInPlane shape.placing.by
 IsThing nodes (things.Array a) = IsArray nodes a
 
--- A list shows all of another that meets the window, and nothing else.
+-- A list includes all items of another that touch the window, and nothing else.
 pub record Shows (window : Box2) (all shown : List Item) : Type 0 where
   pub whole : AreWhole window all shown
   pub sound : AreSound all shown
 
--- Things were added at the end that show so of a list.
+-- At the end, entries were added that include a list in this way.
 pub record Adds (l : Layout) (items : List Item) (old new : List Thing) : Type 0 where
   pub made : List Thing
   pub is : new ≡ old ++ made

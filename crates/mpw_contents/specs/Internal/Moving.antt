@@ -1,8 +1,8 @@
--- What private functions and proofs need of this: the ways between things.
+-- For private functions and proofs: the displacements between entries.
 use Rattle.std.specs.Prelude.{◌^◌, ◌≤ℤ◌, ℤ, pos, neg_ℤ, ◌-ℤ◌}
 use Rattle.mpw_geom.specs.declared.plane.Point.{Point}
 
--- At most 2^49 nm, as the way between two coordinates is.
+-- At most 2^49 nm, as the distance between two coordinates is.
 pub record IsWay (z : ℤ) : Type 0 where
   pub low : neg_ℤ (pos (2 ^ 49)) ≤ℤ z
   pub high : z ≤ℤ pos (2 ^ 49)

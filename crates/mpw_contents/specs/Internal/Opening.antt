@@ -1,4 +1,4 @@
--- What private functions and proofs need of this: what the names of a submission show, and its top.
+-- For private functions and proofs: the content of a submission's names and of its top.
 use Rattle.std.specs.Prelude.{◌≡◌, ℕ, List, [], ◌∷◌, map, pos, slice_get, Option, Some, None, IsSomeAnd, false}
 use Rattle.std.specs.List.{flat_map}
 use Rattle.mpw_geom.specs.declared.placing.Placing.{Placing}
@@ -23,7 +23,7 @@ use Rattle.mpw_contents.specs.Things.{drawn, element_at, place_shown}
 abbrev pub own_shapes : ℕ → Structure → List Item
 own_shapes number s = own_items number s.elements
 
--- A name shows what its structure shows, and a submission what its top does. Extents hold what is shown, and are placed with it.
+-- A name has the content of its structure, and a submission that of its top. Extents contain the content, and are placed with it.
 pub record NamesAreOpened : Type 0 where
   pub own : OwnNamesAreShown
   pub tops : TopsAreListed own_shapes placed_items
@@ -38,12 +38,12 @@ some_item = record {
   element = elements.Boundary (record { layer = record { layer = 0; datatype = 0 }; points = [] });
 }
 
--- What a name shows to the first submission.
+-- The content of a name for the first submission.
 abbrev pub name_shown : List Submission → List ℕ → List Item
 name_shown [] name = []
 name_shown (s ∷ ss) name = structure_items [] s name
 
--- Shapes by their places among elements, placed.
+-- Shapes by their indices among elements, placed.
 abbrev pub shapes_shown : Placing → List Element → List ℕ → List Item
 shapes_shown t es places = flat_map (λ place. drawn t (slice_get es place)) places
 
@@ -54,7 +54,7 @@ as_reference (Some (elements.Boundary b)) = None
 as_reference (Some (elements.Path p)) = None
 as_reference (Some (elements.Reference r)) = Some r
 
--- What a reference places, where the names show that.
+-- What a reference places, given the content of the names.
 abbrev pub reference_shown : (List ℕ → List Item) → Option Reference → List Item
 reference_shown below None = []
 reference_shown below (Some r) = placed_items r (below r.name)
@@ -62,7 +62,7 @@ reference_shown below (Some r) = placed_items r (below r.name)
 abbrev pub child_shown : (List ℕ → List Item) → Option Element → List Item
 child_shown below e = reference_shown below (as_reference e)
 
--- The same of the elements of a structure, of which a node tells the places.
+-- The same for the elements of a structure whose indices a node has.
 abbrev pub structure_shapes : Placing → Option Structure → List ℕ → List Item
 structure_shapes t s places = flat_map (λ place. drawn t (element_at s place)) places
 
@@ -72,12 +72,12 @@ structure_children t below s children =
     flat_map (λ (c : Child). map (placed_item t) (child_shown below (element_at s c.element)))
     children
 
--- What instances of the structure at a place show.
+-- The content of instances of the structure at an index.
 abbrev pub instances_shown : List Submission → ℕ → List Placing → List Item
 instances_shown ss structure ts =
     flat_map (λ t. map (placed_item t) (place_shown ss structure)) ts
 
--- The box that is held at a place misses the window.
+-- The stored box at an index misses the window.
 pub record IsMissed (seen : Seen) (place : ℕ) : Type 0 where
   pub b : Box2
   pub at : slice_get seen.boxes.now place ≡ Some (Some b)

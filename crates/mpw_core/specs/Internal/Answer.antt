@@ -1,4 +1,4 @@
--- What private functions and proofs need of this: what a prepared answer has to be.
+-- Definitions for private functions and proofs: what a prepared answer must be.
 use Rattle.std.specs.Prelude.{◌≡◌, ◌<◌, ◌+◌, ◌^◌, ⊤, ℕ, Bool, true, false, List, [], Option, None, Some, if◌then◌else◌}
 use Rattle.mpw_rbac.specs.declared.refusal.PolicyFault.{PolicyFault}
 use Rattle.mpw_rbac.specs.declared.refusal.PolicyFault.TheVariants.{Refused, Memory}
@@ -20,7 +20,7 @@ use Rattle.mpw_run.specs.Laws.{finishes}
 use Rattle.mpw_events.specs.Step.{State, Outcome, reply_of}
 use Rattle.mpw_core.specs.Answer.{state_of_tables}
 
--- the refusal is told, and nothing changes; want of memory gives no answer
+-- the response is the refusal, and nothing changes; out of memory gives no answer
 abbrev pub IsRefusal : PolicyFault → Response → Next → Type 0
 IsRefusal (Refused refusal) answered next =
     (answered ≡ response.Told (reply_of refusal)) × (next ≡ Nothing)
@@ -44,7 +44,7 @@ state_with state (Sign place signer) =
 state_with state Restart =
     record state { policy = end_sessions state.policy; run = restarted state.run }
 
--- whether something moves in that has to be kept
+-- whether the change that is moved in must be stored
 abbrev pub is_change : Next → Bool
 is_change Nothing = false
 is_change (NextPolicy policy) = true
@@ -58,7 +58,7 @@ is_change (Ask place asker) = true
 is_change (Sign place signer) = true
 is_change Restart = false
 
--- what was prepared for the run may be made to it
+-- the run can make the prepared change
 abbrev pub Fits : Run → Next → Type 0
 Fits run Nothing = ⊤
 Fits run (NextPolicy policy) = ⊤
@@ -84,12 +84,12 @@ pub record Gives (state : State) (outcome : Outcome) (answered : Response) (next
 abbrev pub open_state : Tables → State
 open_state tables = state_of_tables tables false
 
--- so many calls leave room for the number of one more run
+-- after that many calls there is room for the number of one more run
 unfoldable pub most_calls : ℕ
 most_calls = 2147483648
 
--- what an event of the run and a request over it may rest on: what is placed is on the shelf, and one more run and one more hand-out
--- of each tile can be counted
+-- what an event and a request of the run may assume: the placements are on the shelf, and one more run and
+-- one more hand-out of each tile can be counted
 pub record IsRunReady (shelf : List Submission) (placed : List Placement) (run : Run) :
     Type 0 where
   pub placings : ArePlacings shelf placed
@@ -99,12 +99,13 @@ pub record IsRunReady (shelf : List Submission) (placed : List Placement) (run :
 abbrev pub IsReady : Tables → Type 0
 IsReady tables = IsRunReady tables.shelf tables.wafer.placings tables.run
 
--- the places for waivers of a run that the prepared change finishes
+-- the entries for waivers of a run that the prepared change finishes
 abbrev pub places_for : Run → Prepared → Option (List (Option Waiver))
 places_for run prepared = if finishes prepared.reply
     then Some (none_asked (book_size (applied prepared.change run).phase)) else None
 
--- what moves in of what was prepared for the run: what finishes the run has to be kept, and has places for waivers
+-- the change that a prepared change of the run moves in: one that finishes the run must be stored, and has
+-- entries for waivers
 abbrev pub move_or_finish : Prepared → Option (List (Option Waiver)) → Next
 move_or_finish prepared None = Move prepared
 move_or_finish prepared (Some waivers) = Finish prepared waivers

@@ -17,7 +17,7 @@ use Rattle.mpw_edges.specs.Pieces.{IsInCore}
 abbrev pub IsInRow : Edge → ℤ → Type 0
 IsInRow e j = (e.y0 ≤ℤ j) × (j <ℤ e.y1)
 
--- the second coordinate is behind the first, or at it where touching counts, and nearer than the distance
+-- the second coordinate is after the first, or equal to it if touching counts, and nearer than the distance
 abbrev pub IsNear : Limits → ℤ → ℤ → Type 0
 IsNear limits x1 x2 =
     MatchBool limits.touching (x1 ≤ℤ x2) (x1 <ℤ x2) × ((x2 -ℤ x1) <ℤ pos limits.distance)
@@ -26,7 +26,7 @@ IsNear limits x1 x2 =
 abbrev pub IsInRows : Box2 → Edge → Edge → ℤ → Type 0
 IsInRows core from to j = IsInRow from j × IsInRow to j × (core.y0 ≤ℤ j) × (j <ℤ core.y1)
 
--- the line of the two edges, in a row of both and of the core, where the first edge lies in the core
+-- the line of the two edges, in a row of both and of the core, if the first edge lies in the core
 abbrev pub IsPairPlace : ℕ → Limits → Edge → Edge → Line → ℤ → Type 0
 IsPairPlace side limits from to line j =
     (line ≡ record { side = side; first = from.x; second = to.x }) × IsNear limits from.x to.x
@@ -58,7 +58,7 @@ abbrev pub IsEdgeAt : End → Squares → ℤ → ℤ → Type 0
 IsEdgeAt Rise squares = IsRise squares
 IsEdgeAt Fall squares = IsFall squares
 
--- the edges that a separation and an enclosing pair
+-- the edges that a separation pairs, and those that an enclosing pairs
 abbrev pub separation_ends : Ends
 separation_ends =
     record { forth_from = Fall; forth_to = Rise; back_from = Fall; back_to = Rise }
@@ -67,7 +67,7 @@ abbrev pub enclosing_ends : Ends
 enclosing_ends =
     record { forth_from = Rise; forth_to = Rise; back_from = Fall; back_to = Fall }
 
--- an edge of one layer and one of the other at it or later, nearer than the distance, in the core: on side 0 forth, on side 1 back
+-- an edge of one layer and one of the other at it or later, nearer than the distance, in the core: side 0 forth, side 1 back
 abbrev pub IsBetween : Ends → Squares → Squares → ℕ → Box2 → Line → ℤ → Type 0
 IsBetween ends a b distance core line j =
     (((line.first ≤ℤ line.second)

@@ -1,10 +1,10 @@
--- What private functions and proofs need of this: what a read element satisfies.
+-- For private functions and proofs: the properties of an element that was read.
 use Rattle.std.specs.Prelude.{◌≡◌, ℕ, ◌*◌, ◌≤◌, IsTrue, ℤ, pos, List, length, All}
 use Rattle.mpw_geom.specs.declared.plane.Point.{Point}
 use Rattle.mpw_structures.specs.Element.{IsWithinReach, IsPointWithinReach, is_manhattan_step, each_step, closed, is_segment}
 use Rattle.mpw_elements.specs.declared.path.Breadth.{Breadth}
 
--- Corners: at least one, and each edge, the closing one too, is horizontal or vertical.
+-- Corners: at least one, and each edge, including the closing one, is horizontal or vertical.
 pub record IsRing (ps : List Point) : Type 0 where
   pub corners : 1 ≤ length ps
   pub manhattan : IsTrue (each_step is_manhattan_step (closed ps))
@@ -22,7 +22,7 @@ pub record IsWidth (z : ℤ) : Type 0 where
   pub value : z ≡ pos (2 * half)
   pub within_reach : IsWithinReach z
 
--- The width of a path, and how far its ends are lengthened.
+-- The width of a path, and the extensions of its ends.
 pub record IsBreadth (b : Breadth) : Type 0 where
   pub width : IsWidth b.width
   pub begin : IsWithinReach b.begin

@@ -1,4 +1,4 @@
--- What private functions and proofs need of this: parts of the elements by their records.
+-- For private functions and proofs: parts of the elements by their records.
 use Rattle.std.specs.Prelude.{ℕ, ◌||◌, ◌==◌, pos, Bool, true, false, List, Option, Some, None, Result, Ok, Err, if◌then◌else◌}
 use Rattle.mpw_geom.specs.declared.plane.Layer.{Layer}
 use Rattle.mpw_geom.specs.declared.plane.Orient.{Orient}
@@ -14,7 +14,7 @@ use Rattle.mpw_elements.specs.Grammar.{orientation, ignored}
 use Rattle.mpw_structures.specs.Coordinates.{no_point}
 use Rattle.mpw_elements.specs.Values.{short_of, corners_of, centre_of, origin_of, path_type_of, width_of, extension_of, lengthening, name_of, counts_of, grid_of}
 
--- A value that a record tells, and the next record.
+-- The value of a record, and the next record.
 abbrev pub and_field : {V : Type 0} → ℕ → Result V ReadFault → List RecordOutcome
     → Reading (V × RawRecord)
 and_field start value rs = do
@@ -29,13 +29,13 @@ layer start datatype_kind rs = do
   datatype ← expected start datatype_kind layer.1
   Ok (record { layer = short_of layer.0; datatype = short_of datatype.0 }, datatype.1)
 
--- ENDEL behind an element.
+-- ENDEL after an element.
 unfoldable pub end_element : (start : ℕ) → Element → List RecordOutcome → Reading (Option Element)
 end_element start element rs = do
   last ← expected start ENDEL rs
   Ok (Some element, last.1)
 
--- A boundary by its layer, and what stands behind.
+-- A boundary by its layer, and what comes after.
 unfoldable pub boundary_by_layer : (start unit datatype_kind : ℕ) → List RecordOutcome
     → Reading (Option Element)
 boundary_by_layer start unit datatype_kind rs = do
@@ -44,7 +44,7 @@ boundary_by_layer start unit datatype_kind rs = do
   corners ← corners_of unit xy.0
   end_element start (elements.Boundary (record { layer = first.0; points = corners })) xy.1
 
--- [PATHTYPE] [WIDTH] [BGNEXTN] [ENDEXTN], and the record behind them.
+-- [PATHTYPE] [WIDTH] [BGNEXTN] [ENDEXTN], and the record after them.
 unfoldable pub breadth : (start unit : ℕ) → List RecordOutcome → Reading (Breadth × RawRecord)
 breadth start unit rs = do
   next ← field start rs
@@ -64,7 +64,7 @@ breadth start unit rs = do
     end.1,
   )
 
--- A path by its layer and its breadth, and what stands behind.
+-- A path by its layer and its breadth, and what comes after.
 unfoldable pub path_by_breadth : (start unit : ℕ) → List RecordOutcome → Reading (Option Element)
 path_by_breadth start unit rs = do
   first ← layer start DATATYPE rs
@@ -113,7 +113,7 @@ array_behind start unit name orient r rs = do
     row_step = grid.row_step;
   })) xy.1
 
--- SNAME and the orientation of an SREF or an AREF, and what stands behind.
+-- SNAME and the orientation of an SREF or an AREF, and what comes after.
 unfoldable pub reference : (start unit : ℕ) (is_array : Bool) → List RecordOutcome
     → Reading (Option Element)
 reference start unit is_array rs = do

@@ -1,4 +1,4 @@
--- What private functions and proofs need of this: what the data of a record tells, and the faults of a value, at its record.
+-- For private functions and proofs: the values of a record, and their faults.
 use Rattle.std.specs.Prelude.{◌<◌, ◌^◌, unsigned_abs}
 use Rattle.mpw_geom.specs.declared.plane.Point.{Point}
 use Rattle.mpw_structures.specs.Element.{IsPointWithinReach}

@@ -1,4 +1,4 @@
--- The nodes of a submission while they are built.
+-- The nodes of a submission while they are being made.
 use Rattle.std.specs.Prelude.{◌≡◌, ℕ, ◌<◌, ◌≤◌, ◌-◌, ◌++◌, true, false, List, [], ◌∷◌, length, take, slice_get, slice_index_or, Option, Some, None}
 use Rattle.std.specs.BTreeMap as tree
 use Rattle.std.specs.BTreeMap.{BTreeMap}
@@ -23,16 +23,16 @@ use Rattle.mpw_hier.specs.Values.{bound_number, structure_items, flats, heights}
 pub record ShowsBindings (table : BTreeMap (List ℕ) ℕ) (bindings : List Binding) : Type 0 where
   pub at : (name : List ℕ) → tree.get name_cmp table name ≡ bound_number bindings name
 
--- The numbers of the nodes, by the places of their structures.
+-- The numbers of the nodes, by the indices of their structures.
 abbrev pub number_at : List (Option ℕ) → ℕ → Option ℕ
 number_at numbers place = slice_index_or numbers place None
 
--- The size that a name has for a submission behind others.
+-- The size that a name has for a submission after others.
 abbrev pub IsSizeHere : List Submission → Submission → List ℕ → Size → Type 0
 IsSizeHere ss s name size =
     IsSizeOf (structure_items (flats ss) s name) (structure_levels (heights ss) s name) size
 
--- Nodes, and their numbers by the places of their structures, for a submission behind others.
+-- Nodes, and their numbers by the indices of their structures, for a submission after others.
 pub record AreLinked (ss : List Submission) (s : Submission) (table : BTreeMap (List ℕ) ℕ)
     (numbers : List (Option ℕ)) (nodes : List Node) : Type 0 where
   pub bindings : ShowsBindings table s.bound
@@ -66,24 +66,24 @@ AreKnown ss s numbers es =
 abbrev pub AreSizesHere : List Submission → Submission → List Element → List Size → Type 0
 AreSizesHere ss s es sizes = AllZip (IsSizeHere ss s) (referenced_names es) sizes
 
--- A place of a library where a structure stands that is found by its name.
+-- An index of a library whose structure is found by its name.
 pub record IsPlace (library : List Structure) (place : ℕ) : Type 0 where
   pub structure : Structure
   pub is : slice_get library place ≡ Some structure
   pub named : place_of library structure.name ≡ Some place
 
--- What the structure of a place refers to is known.
+-- What the structure at an index refers to is known.
 abbrev pub IsReady : List Submission → Submission → List (Option ℕ) → ℕ → Type 0
 IsReady ss s numbers place = (structure : Structure) → slice_get s.library place ≡ Some structure
     → AreKnown ss s numbers structure.elements
 
--- One node more, which is that of a place.
+-- One more node, which is that of the structure at an index.
 pub record IsOneMore (place : ℕ) (before after : List Node) : Type 0 where
   pub node : Node
   pub added : after ≡ before ++ node ∷ []
   pub at : node.structure ≡ place
 
--- The structure of a place reaches beyond 2^30 nm, in its own coordinates.
+-- The structure at an index exceeds 2^30 nm in its own coordinates.
 pub record IsFarHere (ss : List Submission) (s : Submission) (place : ℕ) : Type 0 where
   pub structure : Structure
   pub is : slice_get s.library place ≡ Some structure

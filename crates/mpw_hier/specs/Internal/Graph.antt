@@ -1,13 +1,13 @@
--- What private functions and proofs need of this: places that lead to others, by number, as structures do by their references.
+-- For private functions and proofs: facts about graphs.
 use Rattle.std.specs.Prelude.{ℕ, ◌<◌, List, length, slice_index, Contains}
 use Rattle.mpw_hier.specs.Graph.{targets, Leads}
 
--- Each place leads to places of the graph alone.
+-- Each place leads only to places of the graph.
 abbrev pub IsGraph : List (List ℕ) → Type 0
 IsGraph graph = (place index : ℕ) → place < length graph → index < length (targets graph place)
     → slice_index (targets graph place) index < length graph
 
--- A place to which the top leads, with a target that leads back to it.
+-- A place that the top reaches, with a target that leads back to it.
 pub record HasCycle (graph : List (List ℕ)) (top : ℕ) : Type 0 where
   pub place : ℕ
   pub next : ℕ

@@ -1,4 +1,4 @@
--- What stands beside the submissions of a shelf: the table of the present ones, and the nodes of each.
+-- What a shelf has in addition to its submissions: the table of the present ones, and the nodes of each.
 use Rattle.std.specs.Prelude.{◌≡◌, ℕ, List, length, slice_get, Some, if◌then◌else◌}
 use Rattle.std.specs.Ordering.{is_eq}
 use Rattle.std.specs.BTreeMap as tree

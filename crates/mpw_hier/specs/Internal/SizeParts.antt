@@ -36,7 +36,7 @@ array_total r t = record {
   extent = array_extent r t.extent;
 }
 
--- What an element shows, where the first of these belongs to its target, if it is a reference; and those behind it.
+-- The total of an element, and the totals that are left after it. If it is a reference, the first total is its target's.
 abbrev pub part_total : Element → List Total → Total
 part_total (elements.Boundary b) ts = shape_total (elements.Boundary b)
 part_total (elements.Path p) ts = shape_total (elements.Path p)
@@ -48,7 +48,7 @@ behind (elements.Boundary b) ts = ts
 behind (elements.Path p) ts = ts
 behind (elements.Reference r) ts = drop 1 ts
 
--- How far the last instance of an array may lie from the first, in nm.
+-- The greatest distance of the last instance of an array from the first, in nm.
 pub record IsWide (z : ℤ) : Type 0 where
   pub above : neg_ℤ (pos (2 ^ 63)) ≤ℤ z
   pub below : z ≤ℤ pos (2 ^ 63)
@@ -61,6 +61,6 @@ pub record IsWideBox (b : WideBox) : Type 0 where
 
 -- ---- paths
 
--- The least box of the rectangles with area along a centre line.
+-- The least box of the rectangles along a centre line that have an area.
 abbrev pub wires_box : (half before end : ℤ) → List Point → Option Box2
 wires_box half before end ps = hull_of (filter has_area (wire_boxes half before end ps))

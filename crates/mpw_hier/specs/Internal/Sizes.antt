@@ -1,4 +1,4 @@
--- What private functions and proofs need of this: the size of what a structure shows, up to the limits.
+-- For private functions and proofs: the sizes of names.
 use Rattle.std.specs.Prelude.{◌≡◌, ℕ, false, List, Option, Some}
 use Rattle.std.specs.List.{AllZip}
 use Rattle.mpw_geom.specs.declared.plane.Box2.{Box2}
@@ -12,7 +12,7 @@ pub record IsExtentFar (extent : Option Box2) : Type 0 where
   pub is : extent ≡ Some box
   pub far : is_box_near box ≡ false
 
--- Each size tells what its name shows.
+-- Each size represents the content of its name.
 abbrev pub AreToldBy : (List ℕ → List Item) → (List ℕ → ℕ) → List (List ℕ) → List Size → Type 0
 AreToldBy items heights names sizes =
     AllZip (λ name size. IsToldBy (total_of (items name) (heights name)) size) names sizes

@@ -1,4 +1,4 @@
--- What private functions and proofs need of this: the numbers of shapes on a layer of nodes and submissions, up to the greatest number of
+-- For private functions and proofs: the numbers of shapes on a layer of nodes and submissions, up to the greatest number of
 -- 64 bits.
 use Rattle.std.specs.Prelude.{ℕ, ◌+◌, cond, List, slice_index}
 use Rattle.std.specs.List.{sum_by}

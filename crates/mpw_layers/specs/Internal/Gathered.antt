@@ -1,4 +1,4 @@
--- What private functions and proofs need of this: the layers of nodes and submissions that no rule names, at most 64 of each.
+-- For private functions and proofs: the layers of nodes and submissions that no rule names, at most 64 of each.
 use Rattle.std.specs.Prelude.{ℕ, List, [], fold, slice_index_or}
 use Rattle.mpw_deck.specs.declared.rule.Rule.{Rule}
 use Rattle.mpw_geom.specs.declared.plane.Layer.{Layer}
@@ -29,7 +29,7 @@ abbrev pub node_layers : List Rule → List (List Layer) → List Element → Li
 node_layers rules outer es own children =
     fold (with_child rules own outer) (with_shapes rules [] es) children
 
--- Those of a flat list, and of the first submissions.
+-- The layers of a flat list, and those of the first submissions.
 abbrev pub gathered : List Rule → List Item → List Layer
 gathered rules items = with_items rules [] items
 

@@ -1,4 +1,4 @@
--- What private functions and proofs need of this: values of nodes of any kind, each from those of the nodes before it.
+-- For private functions and proofs: values of nodes of any kind, each from those of the nodes before it.
 use Rattle.std.specs.Prelude.{◌≡◌, ℕ, ◌<◌, List, length, take, slice_get, slice_index_or, Some}
 use Rattle.mpw_structures.specs.declared.element.Element.{Element}
 use Rattle.mpw_structures.specs.declared.structures.Structure.{Structure}
@@ -11,7 +11,7 @@ use Rattle.mpw_hier.specs.Items.{Item}
 use Rattle.mpw_hier.specs.Values.{flat}
 use Rattle.mpw_seen.specs.Internal.Counts.{elements_of}
 
--- The values of the first nodes of a submission. `step` tells that of a node from its elements, the values before it and its children.
+-- The values of the first nodes of a submission. `step` gives that of a node from its elements, the values before it and its children.
 pub record AreValues {V : Type 0} (step : List Element → List V → List Child → V)
     (library : List Structure) (nodes : List Node) (many : ℕ) (values : List V) : Type 0 where
   pub many_are : length values ≡ many
@@ -19,12 +19,12 @@ pub record AreValues {V : Type 0} (step : List Element → List V → List Child
       → slice_get values k ≡ Some (step (elements_of (slice_get library node.structure))
       (take k values) node.children.items)
 
--- The value of a target, by those of the nodes before it and of the submissions before its own; `nothing` where there is none.
+-- The value of a target, by those of the nodes before it and of the submissions before its own; `nothing` if there is none.
 abbrev pub target_value : {V : Type 0} → V → List V → List V → Target → V
 target_value nothing own outer (targets.Own place) = slice_index_or own place nothing
 target_value nothing own outer (targets.Outer number) = slice_index_or outer number nothing
 
--- The values of the first submissions. `tell` tells that of a flat list.
+-- The values of the first submissions. `tell` gives that of a flat list.
 pub record AreOfFirst {V : Type 0} (nothing : V) (tell : List Item → V) (ss : List Submission)
     (many : ℕ) (values : List V) : Type 0 where
   pub many_are : length values ≡ many

@@ -1,4 +1,5 @@
--- What private functions and proofs need of this: what functions of the rows over the shelf answer.
+-- Definitions for private functions and proofs: the answers of the functions of the layouts'
+-- decision tables.
 use Rattle.std.specs.Prelude.{◌≡◌, ℕ, List, [], ◌∷◌, ◌++◌, Result, Ok}
 use Rattle.mpw_hier.specs.declared.fault.HierFault.{HierFault}
 use Rattle.mpw_hier.specs.declared.fault.HierFault.TheVariants as hier
@@ -9,7 +10,7 @@ use Rattle.mpw_replies.specs.declared.row.Ending.TheVariants as ending
 use Rattle.mpw_replies.specs.declared.row.Fault.{Fault}
 use Rattle.mpw_replies.specs.declared.row.Fault.TheVariants as fault
 
--- a fault of the shelf as what ends a row
+-- the fault of a decision table for a fault of the shelf
 abbrev pub fault_of : HierFault → Fault
 fault_of hier.Memory = fault.Memory
 fault_of hier.NoTop = fault.Told (ending.Refused code.NoTop)
@@ -20,7 +21,7 @@ fault_of hier.Shapes = fault.Told (ending.Refused code.Shapes)
 fault_of hier.Deep = fault.Told (ending.Refused code.Deep)
 fault_of hier.Full = fault.Told (ending.Refused code.Full)
 
--- a shelf with one more submission, which is that of the row, and its version
+-- a shelf with one more submission, which is that of the decision table, and its version
 pub record IsShelved (shelf : List Submission) (row : Result Submission Ending)
     (next : List Submission) (version : ℕ) : Type 0 where
   pub submission : Submission

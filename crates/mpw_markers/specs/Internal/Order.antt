@@ -1,4 +1,4 @@
--- What private functions and proofs need of this: the order of markers.
+-- For private functions and proofs: the order of markers.
 use Rattle.std.specs.Prelude.{◌≡◌, ◌≤ℤ◌, List, AllPairs, ◌⊎◌}
 use Rattle.std.specs.declared.cmp.Ordering.TheVariants.{Less}
 use Rattle.mpw_markers.specs.declared.marker.Marker.{Marker}
@@ -10,6 +10,6 @@ abbrev pub BeginsFirst : Marker → Marker → Type 0
 BeginsFirst m n =
     (line_cmp (line_of m) (line_of n) ≡ Less) ⊎ ((line_of m ≡ line_of n) × (m.y0 ≤ℤ n.y0))
 
--- markers by line, and on a line by where they begin
+-- markers by line, and on a line by their beginnings
 abbrev pub AreInOrder : List Marker → Type 0
 AreInOrder markers = AllPairs BeginsFirst markers

@@ -1,4 +1,4 @@
--- Where markers stand in a book.
+-- The position of a marker in a book's order.
 use Rattle.std.specs.Prelude.{ℕ}
 use Rattle.mpw_edges.specs.declared.run.Axis.{Axis}
 use Rattle.mpw_edges.specs.declared.run.Axis.TheVariants.{V, H}

@@ -7,7 +7,7 @@ use Rattle.mpw_markers.specs.Met.{IsAscending}
 use Rattle.mpw_markers.specs.Markers.{line_of_key, key_of, CoversRow, LiesIn}
 use Rattle.mpw_markers.specs.Order.{StandsBefore}
 
--- the marker of that key that meets these submissions
+-- the marker with that key that touches these submissions
 abbrev pub marker_of : Key → List ℕ → Marker
 marker_of k met = record {
   rule = k.rule;
@@ -20,34 +20,34 @@ marker_of k met = record {
   met = met;
 }
 
--- a marker of that key that meets nothing
+-- a marker with that key that touches nothing
 abbrev pub bare : Key → Marker
 bare k = marker_of k []
 
--- the run, lengthened to the end of the marker
+-- the run, extended to the end of the marker
 abbrev pub lengthened : Key → Marker → Key
 lengthened k m = record k { y1 = int_max k.y1 m.y1 }
 
--- the run has just the rows of the markers, and each lies in it
+-- the run has exactly the rows of the markers, and each lies in it
 pub record IsRunOf (markers : List Marker) (run : Key) : Type 0 where
   pub filled : run.y0 <ℤ run.y1
   pub rows : (j : ℤ) → run.y0 ≤ℤ j → j <ℤ run.y1 → CoversRow markers (line_of_key run) j
   pub within : (m : Marker) → Contains markers m → LiesIn m (bare run)
 
--- the run of the first markers, that many; the others stand behind it, with a gap
+-- the run of the first markers, that many; the others come after it, with a gap
 pub record IsFirstRun (markers : List Marker) (count : ℕ) (first : Key) : Type 0 where
   pub some : 1 ≤ count
   pub within : count ≤ length markers
   pub run : IsRunOf (take count markers) first
   pub others : (m : Marker) → Contains (drop count markers) m → StandsBefore (bare first) m
 
--- the numbers are those of the submissions that the markers meet
+-- the numbers are those of the submissions that the markers touch
 pub record AreMetBy (markers : List Marker) (numbers : List ℕ) : Type 0 where
   pub ascending : IsAscending numbers
   pub exact : (origin : ℕ) → Contains numbers origin
       ↔ ((m : Marker) × Contains markers m × Contains m.met origin)
 
--- to the markers was added that of the run of the first ones of the list
+-- the marker of the list's first run was added to the markers
 pub record AddsRun (markers : List Marker) (count : ℕ) (old new : List Marker) : Type 0 where
   pub marker : Marker
   pub added : new ≡ old ++ marker ∷ []

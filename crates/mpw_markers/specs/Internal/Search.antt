@@ -1,4 +1,4 @@
--- How the origins of boxes are looked for.
+-- How the origins of boxes are found.
 use Rattle.std.specs.Prelude.{◌≡◌, ◌≤ℤ◌, ◌<◌, ℕ, true, List, [], length, slice_index_or, Contains, ◌⊎◌, ◌↔◌}
 use Rattle.mpw_geom.specs.declared.plane.Box2.{Box2}
 use Rattle.mpw_geom.specs.declared.plane.Point.{Point}
@@ -16,7 +16,7 @@ abbrev pub IsMetBy : List Rectangle → Box2 → ℕ → Type 0
 IsMetBy rectangles b origin =
     (r : Rectangle) × Contains rectangles r × (r.origin ≡ origin) × SharePoint r.area b
 
--- the origin is one of those, or is met by the rectangles
+-- the origin is one of those, or is touched by the rectangles
 abbrev pub IsAnswer : List ℕ → List Rectangle → Box2 → ℕ → Type 0
 IsAnswer common rectangles b origin = Contains common origin ⊎ IsMetBy rectangles b origin
 
@@ -40,11 +40,11 @@ AreAlikeIn hull common other rectangles others =
     (b : Box2) (origin : ℕ) → IsOrdered b → IsWithin b hull → IsAnswer other others b origin
     ↔ IsAnswer common rectangles b origin
 
--- a box that waits for its answer, and where that goes
+-- a box that waits for its answer, and the answer's index
 abbrev pub CanBeFilled : ℕ → List Item → Type 0
 CanBeFilled count items = (i : Item) → Contains items i → (i.place < count) × IsOrdered i.area
 
--- the answers of the items stand in their places, and nothing else was changed
+-- the answers of the items are at their indices, and nothing else was changed
 pub record Fills (common : List ℕ) (rectangles : List Rectangle) (items : List Item)
     (old new : List (List ℕ)) : Type 0 where
   pub count : length new ≡ length old
@@ -56,7 +56,7 @@ pub record Fills (common : List ℕ) (rectangles : List Rectangle) (items : List
       → (j : Item) × Contains items j × (j.place ≡ i.place)
       × Answers common rectangles j.area (slice_index_or new i.place [])
 
--- each box with its place, and no others
+-- each box with its index, and no others
 pub record AreItemsOf (boxes : List Box2) (items : List Item) : Type 0 where
   pub complete : (k : ℕ) (d : Box2) → k < length boxes → (i : Item) × Contains items i
       × (i.place ≡ k)

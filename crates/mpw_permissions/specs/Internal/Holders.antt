@@ -1,4 +1,4 @@
--- The holders of a permission, by the places of their roles.
+-- The holders of a permission, by the indexes of their roles.
 use Rattle.std.specs.Prelude.{◌≡◌, ◌⊎◌, ℕ, ◌<◌, ◌/◌, ◌%◌, Bool, true, false, not, ◌&&◌, ◌==◌, List, [], ◌∷◌, ◌++◌, length, filter, fold, nat_lt, slice_index_or, Option, None, Some, if◌then◌else◌}
 use Rattle.std.specs.Hash as fed
 use Rattle.std.specs.Hash.FoldHasher as folding
@@ -14,13 +14,13 @@ use Rattle.mpw_permissions.specs.declared.permission.Object.TheVariants.{Cell, D
 use Rattle.mpw_permissions.specs.declared.permission.Grant.{Grant}
 use Rattle.mpw_permissions.specs.Grant.{operation_index, object_eq, grant_eq}
 
--- whether the grant is of the operation with that place among all, on this object, to this role
+-- whether the grant is of the operation at that index among all, on this object, to this role
 abbrev pub is_grant_of : ℕ → Object → Name → Grant → Bool
 is_grant_of operation object role grant =
     (operation == operation_index grant.operation)
     && (object_eq object grant.object && name_eq role grant.role)
 
--- whether the place is that of a role to which the operation on the object was granted
+-- whether the index is that of a role with a grant of the operation on the object
 abbrev pub is_place_granted : List Name → List Grant → ℕ → Object → ℕ → Bool
 is_place_granted roles granted operation object place =
     nat_lt place (length roles) && list_any
@@ -34,7 +34,7 @@ unfoldable pub hash : Object → ℕ
 hash Desk = 0
 hash (Cell name) = name_hash name
 
--- the group of an object's bucket, and the bucket's place in it
+-- the group of an object's bucket, and the bucket's index in it
 unfoldable pub group_of : Object → ℕ
 group_of object = hash object / 16 % 32
 
@@ -47,11 +47,11 @@ mask_in [] object = None
 mask_in (held ∷ others) object =
     if object_eq object held.object then Some held.mask else mask_in others object
 
--- whether the place is in the mask of an object of one bucket
+-- whether the index is in the mask of an object of one bucket
 abbrev pub holds_in : List Held → Object → ℕ → Bool
 holds_in bucket object place = option_map_or (λ mask. has mask place) (mask_in bucket object) false
 
--- whether the place is in the mask of an object of one group of buckets
+-- whether the index is in the mask of an object of one group of buckets
 abbrev pub holds_within : List (List Held) → Object → ℕ → Bool
 holds_within group object place =
     holds_in (slice_index_or group (bucket_of object) []) object place
@@ -60,7 +60,7 @@ holds_within group object place =
 abbrev pub Buckets : Type 0
 Buckets = List (List (List Held))
 
--- whether the place is in the mask of an object
+-- whether the index is in the mask of an object
 abbrev pub holds : Buckets → Object → ℕ → Bool
 holds buckets object place = holds_within (slice_index_or buckets (group_of object) []) object place
 
@@ -70,7 +70,7 @@ pub record IsHeld (roles : List Name) (granted : List Grant) (operation : ℕ) (
   pub exact : (object : Object) (place : ℕ)
       → holds buckets object place ≡ is_place_granted roles granted operation object place
 
--- and so for each operation
+-- the same for each operation
 pub record AreHeld (roles : List Name) (granted : List Grant) (tables : List Buckets) : Type 0 where
   pub all : length tables ≡ 11
   pub exact : (operation : ℕ) → operation < 11
@@ -81,13 +81,13 @@ abbrev pub grants_after : Bool → List Grant → Grant → List Grant
 grants_after more granted grant =
     if more then granted ++ grant ∷ [] else filter (λ other. not (grant_eq grant other)) granted
 
--- whatever the grants were, the masks of one operation that were theirs are those after the change
+-- if the masks of one operation were those of some grants, they are those of the grants after the change
 pub record IsHeldAfter (more : Bool) (roles : List Name) (grant : Grant) (operation : ℕ)
     (old new : Buckets) : Type 0 where
   pub after : (granted : List Grant) → IsHeld roles granted operation old
       → IsHeld roles (grants_after more granted grant) operation new
 
--- and so for each operation
+-- the same for each operation
 pub record AreHeldAfter (more : Bool) (roles : List Name) (grant : Grant) (old new : List Buckets) :
     Type 0 where
   pub all : length new ≡ 11

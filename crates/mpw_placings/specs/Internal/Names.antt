@@ -1,4 +1,4 @@
--- What a placing is known by, and that a cell and a label which are lent stand for it in a map.
+-- What identifies a placement, and that a borrowed cell and label can be used for it in a map.
 use Rattle.std.specs.Prelude.{◌≡◌, ℕ, Bool, true, false, ◌&&◌, List, ◌++◌, refl}
 use Rattle.std.specs.Cmp.Lexicographic.{bytes_decides, nat_list_eq_equiv}
 use Rattle.std.specs.Hash as fed
@@ -20,14 +20,14 @@ named_parts cell label name is =
     let both = both_of (name_eq name.cell cell) (name_eq name.label label) is in
     ((bytes_decides name.cell cell).0 both.0, (bytes_decides name.label label).0 both.1)
 
--- they are hashed alike
+-- their hashes are equal
 pub named_alike : (cell label : List ℕ) (name : PlacementName) → is_named cell label name ≡ true
     → fed.str cell ++ fed.str label ≡ fed.str name.cell ++ fed.str name.label
 named_alike cell label name is =
     let parts = named_parts cell label name is in
     λ i. fed.str (sym parts.0 i) ++ fed.str (sym parts.1 i)
 
--- and stand for that name alone
+-- and they equal that name alone
 pub named_once : (cell label : List ℕ) (x y : PlacementName) → is_named cell label x ≡ true
     → is_named cell label y ≡ (name_eq x.cell y.cell && name_eq x.label y.label)
 named_once cell label x y is =

@@ -1,4 +1,5 @@
--- What private functions and proofs need of separation: the rows of a set of either kind.
+-- Definitions for private functions and proofs of separation: the decision tables of a set of either
+-- kind.
 use Rattle.std.specs.Prelude.{ℕ, not, List, [], ◌∷◌, ◌++◌, length, nat_lt, Result}
 use Rattle.std.specs.List.{list_all}
 use Rattle.mpw_roles.specs.Decided.{decided}
@@ -34,12 +35,12 @@ with_sets kind policy new =
     policy_of policy.users policy.roles policy.granted (sets_with kind (all_sets policy) new)
     policy.sessions
 
--- whom the sets of the kind bind: the users' assigned roles, or the sessions' active ones
+-- the lists that the sets of the kind bind: the users' assigned roles, or the sessions' active ones
 abbrev pub bound_lists : Kind → Policy → List (List Name)
 bound_lists Static policy = assigned_lists policy.users
 bound_lists Dynamic policy = active_lists policy.sessions
 
--- how a broken set of the kind is told
+-- the refusal of a broken set of the kind
 abbrev pub set_refusal : Kind → Name → Refusal
 set_refusal Static name = Ssd name
 set_refusal Dynamic name = Dsd name
@@ -58,7 +59,7 @@ make_set kind policy connection set =
     ∷ [])
     (with_sets kind policy sets)
 
--- a set of the kind goes
+-- a set of the kind is removed
 abbrev pub remove_set : Kind → Policy → ℕ → Name → Result Policy Refusal
 remove_set kind policy connection name =
     decided

@@ -1,4 +1,4 @@
--- The row of a change of an immediate pair, and the tests of the sets behind it.
+-- The decision table of a change of an immediate pair, and the tests of the sets after it.
 use Rattle.std.specs.Prelude.{Result, ◌∷◌, []}
 use Rattle.mpw_roles.specs.Decided.{decided}
 use Rattle.mpw_roles.specs.Hierarchy.{Name, Hierarchy}

@@ -1,4 +1,5 @@
--- What private functions and proofs need of this: a policy of users and roles alone, and what a trim of a session by it is.
+-- Definitions for private functions and proofs: a policy that has only users and roles, and how it trims a
+-- session.
 use Rattle.std.specs.Prelude.{◌≡◌, Bool, List, []}
 use Rattle.mpw_roles.specs.Hierarchy.{Name, Hierarchy}
 use Rattle.mpw_rbac.specs.Masked.{IsBelow, KeptUsers, AreAuthorized}
@@ -11,7 +12,8 @@ abbrev pub users_and_roles : List (Name × User) → Hierarchy → Policy
 users_and_roles users roles =
     record { users = users; roles = roles; granted = []; ssd = []; dsd = []; sessions = [] }
 
--- the session keeps what its user is authorized for, and its mask is that of its roles; told is whether the user is there
+-- the session keeps the active roles that its user is authorized for, and its mask is that of its roles; the
+-- result is whether the user exists
 abbrev pub IsTrimmed : Hierarchy → KeptUsers → Active → Active → Bool → Type 0
 IsTrimmed hierarchy kept old new there =
     (there ≡ is_user (users_and_roles kept.users hierarchy) old.session.user)

@@ -25,7 +25,7 @@ pub record IsLeastEnd (boxes : List Box2) (row least : ℤ) : Type 0 where
   pub ends : All (λ b. least ≤ℤ b.y1) boxes
   pub above : (low : ℤ) → low <ℤ row → All (λ b. low <ℤ b.y1) boxes → low <ℤ least
 
--- the boxes stand in the order of their lowest rows; of those that the sweep has come to, it holds the ones that end above its row
+-- the boxes are sorted by their lowest rows; of those that the sweep has reached, the list has those that end above its row
 pub record IsSweep (s : Sweep) : Type 0 where
   pub within : s.next ≤ length s.boxes.items
   pub ordered : AllPairs BeginsBelow s.boxes.items

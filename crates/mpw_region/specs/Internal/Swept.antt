@@ -1,4 +1,4 @@
--- What the bands below a row have.
+-- What the bands below a row cover.
 use Rattle.std.specs.Prelude.{ℤ, ◌≤ℤ◌, ◌<ℤ◌, List, All, AllPairs, Contains, drop, ◌⊎◌, ◌↔◌}
 use Rattle.std.specs.Int.{int_max}
 use Rattle.mpw_geom.specs.declared.plane.Box2.{Box2}
@@ -28,11 +28,11 @@ IsInBand rows boxes i j = ((rows.y0 ≤ℤ j) × (j <ℤ rows.y1)) × HasColumn 
 abbrev pub interval_of : Box2 → Rows → Box2
 interval_of b rows = record { x0 = b.x0; y0 = rows.y0; x1 = b.x1; y1 = rows.y1 }
 
--- the first box, lengthened to where the second ends
+-- the first box, extended to the end of the second
 abbrev pub lengthened : Box2 → Box2 → Box2
 lengthened a b = record { x0 = a.x0; y0 = a.y0; x1 = int_max a.x1 b.x1; y1 = a.y1 }
 
--- to bands below the rows was added the band of the rows, with just the columns of the boxes
+-- to bands below the rows the band of the rows was added, with exactly the columns of the boxes
 pub record AddsBand (old new boxes : List Box2) (rows : Rows) : Type 0 where
   pub squares : (i j : ℤ) → IsCovered new i j ↔ (IsCovered old i j ⊎ IsInBand rows boxes i j)
   pub banded : AreBands new
@@ -43,13 +43,13 @@ abbrev pub HasNoBorderWithin : Rows → Box2 → Type 0
 HasNoBorderWithin rows b =
     ((b.y0 ≤ℤ rows.y0) ⊎ (rows.y1 ≤ℤ b.y0)) × ((b.y1 ≤ℤ rows.y0) ⊎ (rows.y1 ≤ℤ b.y1))
 
--- bands that have just the squares of the boxes below the row
+-- bands that have exactly the squares of the boxes below the row
 pub record IsSweptTo (boxes out : List Box2) (row : ℤ) : Type 0 where
   pub squares : (i j : ℤ) → IsCovered out i j ↔ (IsCovered boxes i j × (j <ℤ row))
   pub banded : AreBands out
   pub below : All (λ b. b.y1 ≤ℤ row) out
 
--- A sweep that has come to all borders up to its row, and bands that have just the squares below it.
+-- A sweep that has reached all borders up to its row, and bands that have exactly the squares below it.
 pub record SweepsUp (s : Sweep) (out : List Box2) : Type 0 where
   pub sweeps : IsSweep s
   pub ahead : All (λ b. s.row <ℤ b.y0) (drop s.next s.boxes.items)

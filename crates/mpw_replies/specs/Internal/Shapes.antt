@@ -1,4 +1,4 @@
--- What private functions and proofs need of this: a shape of a listing, as it is given, and its line.
+-- Definitions for private functions and proofs: a shape of a listing, as it is given, and its line.
 use Rattle.std.specs.Prelude.{List, [], ◌∷◌, Option, None, Some}
 use Rattle.mpw_replies.specs.declared.listing.ShapeView.{ShapeView}
 use Rattle.mpw_replies.specs.Listing.{Listed}

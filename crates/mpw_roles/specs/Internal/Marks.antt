@@ -1,4 +1,5 @@
--- What private functions and proofs need of this: marks beside the roles: a list of tests, one for each role at its place.
+-- Definitions for private functions and proofs: marks of the roles, a list of tests with one at the index of
+-- each role.
 use Rattle.std.specs.Prelude.{Bool, false, [], ◌∷◌, if◌then◌else◌}
 use Rattle.mpw_geom.specs.Names.{name_eq}
 use Rattle.mpw_roles.specs.Hierarchy.{Name, Hierarchy}

@@ -1,4 +1,4 @@
--- What private functions and proofs need of this: the numbers of seen shapes of nodes and submissions, up to the greatest number of 64 bits.
+-- For private functions and proofs: the numbers of seen shapes of nodes and submissions, up to the greatest number of 64 bits.
 use Rattle.std.specs.Prelude.{◌≡◌, ℕ, ◌+◌, ◌*◌, ◌-◌, ◌^◌, ◌<◌, min, Bool, true, false, List, [], length, take, slice_get, slice_index, slice_index_or, Option, None, Some, if◌then◌else◌}
 use Rattle.std.specs.List.{sum_by}
 use Rattle.mpw_structures.specs.declared.element.Element.{Element}
@@ -12,17 +12,17 @@ use Rattle.mpw_hier.specs.declared.submission.Submission.{Submission}
 use Rattle.mpw_hier.specs.Values.{bound_number, flat}
 use Rattle.mpw_seen.specs.Seen.{seen_items}
 
--- A number up to the greatest of 64 bits, which stands for all beyond.
+-- A number up to the greatest of 64 bits, which represents all numbers beyond.
 abbrev pub told : ℕ → ℕ
 told n = min n (2 ^ 64 - 1)
 
--- ---- one node, by numbers of the nodes before it and of the submissions before its own; 0 where there is none
+-- ---- one node, by numbers of the nodes before it and of the submissions before its own; 0 if there is none
 
 abbrev pub target_number : List ℕ → List ℕ → Target → ℕ
 target_number own outer (targets.Own place) = slice_index own place
 target_number own outer (targets.Outer number) = slice_index outer number
 
--- As many for each instance of a reference.
+-- A number times the instances of a reference.
 abbrev pub array_number : Option Element → ℕ → ℕ
 array_number None n = 0
 array_number (Some (elements.Boundary b)) n = 0
@@ -33,7 +33,7 @@ abbrev pub child_number : List Element → List ℕ → List ℕ → Child → �
 child_number es own outer c =
     array_number (slice_get es c.element) (target_number own outer c.target)
 
--- Its own shapes, where they are seen, and those of its children.
+-- Its own shapes if they are seen, and those of its children.
 abbrev pub own_number : Bool → Node → ℕ
 own_number seen node = if seen then length node.shapes else 0
 
@@ -43,12 +43,12 @@ node_number es own outer seen node =
 
 -- ---- the nodes of a submission
 
--- The elements of a structure that may be there.
+-- The elements of a structure, if there is one.
 abbrev pub elements_of : Option Structure → List Element
 elements_of None = []
 elements_of (Some s) = s.elements
 
--- The numbers of the first nodes of a submission, each by those before it.
+-- The numbers of the first nodes of a submission, each from those before it.
 pub record AreNumbers (library : List Structure) (outer : List ℕ) (seen : Bool)
     (nodes : List Node) (many : ℕ) (numbers : List ℕ) : Type 0 where
   pub many_are : length numbers ≡ many

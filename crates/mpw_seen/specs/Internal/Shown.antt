@@ -1,4 +1,4 @@
--- What private functions and proofs need of this: what the names of a submission show, and its top.
+-- For private functions and proofs: the contents of a submission's names, and of its top.
 use Rattle.std.specs.Prelude.{◌≡◌, ℕ, List, [], length, pos}
 use Rattle.mpw_geom.specs.declared.plane.Orient.TheVariants.{R0}
 use Rattle.mpw_structures.specs.declared.element.Element.TheVariants as elements
@@ -12,7 +12,7 @@ use Rattle.mpw_hier.specs.Values.{flats}
 abbrev pub own_shapes : ℕ → Structure → List Item
 own_shapes number s = own_items number s.elements
 
--- A name shows what its structure, or the top of its submission, shows; a submission shows what its top does.
+-- The content of a name is that of its structure, or of the top of its submission. The content of a submission is that of its top.
 pub record NamesAreShown : Type 0 where
   pub own : OwnNamesAreShown
   pub outer : OuterNamesAreShown

@@ -18,7 +18,7 @@ rises_left s e = int_le e.x s.column && rises_in s.row e
 unfoldable pub falls_left : Square → Edge → Bool
 falls_left s e = int_le e.x s.column && falls_in s.row e
 
--- the edges wind round the square: left of it as many don't go up as go down
+-- the edges wind around the square: left of it the numbers of those that go up and down differ
 unfoldable pub edges_have : List Edge → Square → Bool
 edges_have edges s = not (count_by (rises_left s) edges == count_by (falls_left s) edges)
 
@@ -36,7 +36,7 @@ abbrev pub AreFromBelow : List ℤ → Type 0
 AreFromBelow rows =
     (i j : ℕ) (d : ℤ) → i ≤ j → j < length rows → slice_index_or rows i d ≤ℤ slice_index_or rows j d
 
--- from below, no two the same
+-- from below, all different
 abbrev pub AreApart : List ℤ → Type 0
 AreApart rows =
     (i j : ℕ) (d : ℤ) → i < j → j < length rows → slice_index_or rows i d <ℤ slice_index_or rows j d

@@ -1,4 +1,4 @@
--- The rows of a boundary right of the edges that were passed.
+-- The rows of a boundary right of the edges that were processed.
 use Rattle.std.specs.Prelude.{ℕ, ◌<◌, ◌+◌, ◌-◌, ◌/◌, Bool, ◌&&◌, ◌⊎◌, ℤ, pos, negsuc, neg_ℤ, ◌+ℤ◌, ◌≤ℤ◌, int_le, int_lt, if◌then◌else◌, List, slice_index_or}
 use Rattle.std.specs.Int.{int_max}
 use Rattle.std.specs.Ordering.{int_eq}
@@ -29,20 +29,20 @@ past e s = record {
 unfoldable pub right_of : Edge → ℤ → State → State
 right_of e row s = if crosses e row then past e s else s
 
--- the edge ends at the column the squares of a row that it crosses
+-- the edge ends, at the column, the squares of a row that it crosses
 unfoldable pub closes : Edge → State → ℤ → Bool
 closes e s c =
     int_eq (s.winding +ℤ (turn_of e).winding) (pos 0) && (int_le s.since c && int_lt c e.x)
 
--- a row with more turns round it
+-- a row with more turns around it
 unfoldable pub raised : Added → State → State
 raised a s = record { winding = s.winding +ℤ a.winding; since = s.since }
 
--- where the places of a node are halved
+-- where the indices of a node are halved
 abbrev pub middle : ℕ → ℕ → ℕ
 middle from to = from + (to - from) / 2
 
--- the row, of a node of the places between two
+-- the row, of a node of the indices between two
 abbrev pub state_at : Rows → List ℤ → ℕ → ℕ → ℤ → State
 state_at (Alike s) rows from to row = s
 state_at (Parted' p below above added gap) rows from to row =
@@ -50,7 +50,7 @@ state_at (Parted' p below above added gap) rows from to row =
     then state_at below rows from (middle from to) row else state_at above rows (middle from to) to
     row)
 
--- the row, of two halves of the places between two
+-- the row, of two halves of the indices between two
 abbrev pub half_at : Rows → Rows → List ℤ → ℕ → ℕ → ℤ → State
 half_at below above rows from to row = if int_lt row (slice_index_or rows (middle from to) (pos 0))
     then state_at below rows from (middle from to) row else state_at above rows (middle from to) to
@@ -60,7 +60,7 @@ half_at below above rows from to row = if int_lt row (slice_index_or rows (middl
 abbrev pub IsOutside : Gap → ℤ → Type 0
 IsOutside gap w = (w ≤ℤ gap.down) ⊎ (gap.up ≤ℤ w)
 
--- each gap of a node of the places between two holds of its rows, and a node in halves has a place to halve it at
+-- each gap of a node of the indices between two is correct for its rows, and a node in halves has an index to halve it at
 abbrev pub IsBuilt : Rows → List ℤ → ℕ → ℕ → Type 0
 IsBuilt (Alike s) rows from to = Unit {0}
 IsBuilt (Parted' p below above added gap) rows from to = (from + 1 < to)
@@ -72,7 +72,7 @@ IsBuilt (Parted' p below above added gap) rows from to = (from + 1 < to)
 unfoldable pub size_of : ℤ → ℤ
 size_of z = int_max z (neg_ℤ z)
 
--- no winding number of the node is larger, with either sign, nor is what is summed up to it
+-- no winding number of the node is larger, with either sign, including what is still to be added
 abbrev pub reach : Rows → ℤ
 reach (Alike s) = size_of s.winding
 reach (Parted' p below above added gap) =

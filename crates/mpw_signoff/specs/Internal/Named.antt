@@ -1,7 +1,7 @@
--- What private functions and proofs need of this: the markers that requests name, by the names of their rules.
+-- Definitions for private functions and proofs: the markers that requests name, by the names of their rules.
 use Rattle.mpw_signoff.specs.declared.named.Named.{Named as NamedLook}
 use Rattle.mpw_signoff.specs.Named.{Named}
 
--- What a function's look at such a marker shows.
+-- The named marker that a function's view shows.
 abbrev pub seen_named : NamedLook → Named
 seen_named n = record { place = n.place; marker = n.marker.now }

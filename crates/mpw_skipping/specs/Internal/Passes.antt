@@ -3,11 +3,11 @@ use Rattle.std.specs.Prelude.{◌≡◌, ◌≤◌, ◌⊎◌, ℕ, true, false,
 use Rattle.mpw_skipping.specs.Structures.{Link, Leads, has_name, is_linked}
 use Rattle.mpw_skipping.specs.declared.link.Link as declared
 
--- A reference without where its names lie in memory.
+-- A reference by its names, without their addresses in memory.
 abbrev pub link_of : declared.Link → Link
 link_of l = (l.from.now, l.to.now)
 
--- All names are led to from one, where all links are some of these.
+-- One name reaches all of these names; and all links of the first list are in the second.
 abbrev pub AreLed : List Link → List ℕ → List (List ℕ) → Type 0
 AreLed links top names = (name : List ℕ) → has_name names name ≡ true → Leads links top name
 
@@ -15,7 +15,7 @@ abbrev pub AreSome : (links all : List Link) → Type 0
 AreSome links all =
     (from to : List ℕ) → is_linked links from to ≡ true → is_linked all from to ≡ true
 
--- The links so far were passed: those of names that are there added theirs, and the others are left.
+-- The links so far were processed: those whose structure's name was in the list added theirs, and the others are left.
 pub record IsPass (before names : List (List ℕ)) (passed left : List Link) : Type 0 where
   pub kept : (name : List ℕ) → has_name before name ≡ true → has_name names name ≡ true
   pub handled : (from to : List ℕ) → is_linked passed from to ≡ true

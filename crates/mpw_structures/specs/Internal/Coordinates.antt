@@ -1,4 +1,4 @@
--- The points that a list of points is of.
+-- The points in a text that a list of points refers to.
 use Rattle.std.specs.Prelude.{◌≡◌, ℕ, zero, suc, ◌+◌, ◌*◌, ◌^◌, ◌<◌, ◌≤◌, List, [], ◌∷◌, length}
 use Rattle.mpw_geom.specs.declared.plane.Point.{Point}
 use Rattle.mpw_structures.specs.declared.coordinates.Text.{Text}
@@ -6,7 +6,7 @@ use Rattle.mpw_structures.specs.declared.coordinates.Coordinates.{Coordinates}
 use Rattle.mpw_structures.specs.declared.coordinates.Coordinates.TheVariants.{Shared, Own}
 use Rattle.mpw_structures.specs.Coordinates.{point_from}
 
--- So many points of a text, from a byte on.
+-- The points of a text from an offset on: the unit, the bytes, the offset and the number of points.
 abbrev pub points_from : ℕ → List ℕ → ℕ → ℕ → List Point
 points_from unit bytes at zero = []
 points_from unit bytes at (suc n) = point_from unit bytes at ∷ points_from unit bytes (at + 8) n
@@ -20,7 +20,7 @@ pub record IsWithin (text : Text) (at count : ℕ) : Type 0 where
   pub unit : text.unit ≤ 1000
   pub there : at + 8 * count ≤ length text.bytes.value.items
 
--- The text has just these points there.
+-- The text has exactly these points there.
 pub record ArePoints (text : Text) (at count : ℕ) (points : List Point) : Type 0 where
   pub within : IsWithin text at count
   pub same : points_from text.unit text.bytes.value.items at count ≡ points
@@ -37,7 +37,7 @@ abbrev pub Fits : Coordinates → ℕ → ℕ → Type 0
 Fits (Shared text) at count = IsWithin text at count
 Fits (Own points) at count = Unit {0}
 
--- So many points stand before one of them, and so many there are.
+-- The number of points before one of them, and the number of all points.
 pub record IsFrom (from count : ℕ) (ps : List Point) : Type 0 where
   pub all : count ≡ length ps
   pub within : from ≤ count

@@ -1,7 +1,7 @@
--- Stretches of an axis, as grids divide them.
+-- Intervals of an axis, as grids divide them.
 use Rattle.std.specs.Prelude.{◌^◌, ℤ, pos, neg_ℤ, ◌≤ℤ◌, ◌<ℤ◌}
 
--- from low to high: some way, and none of it far off, as of a box of the plane with a margin
+-- from low to high: in order and within bounds, as for a box of the plane with a margin
 pub record IsStretch (low high : ℤ) : Type 0 where
   pub near : neg_ℤ (pos (2 ^ 50)) ≤ℤ low
   pub some : low <ℤ high

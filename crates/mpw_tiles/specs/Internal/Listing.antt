@@ -1,4 +1,4 @@
--- What private functions and proofs need of this: rectangles that windows list.
+-- For private functions and proofs: rectangles that windows list.
 use Rattle.std.specs.Prelude.{◌≡◌, ◌≤◌, ◌<◌, ℕ, true, List, [], length, slice_index_or, Contains, ◌⊎◌, ◌↔◌}
 use Rattle.mpw_geom.specs.declared.plane.Layer.{Layer}
 use Rattle.mpw_geom.specs.declared.plane.Box2.{Box2}
@@ -27,7 +27,7 @@ abbrev pub IsInRows : Cells → Block → (to : ℕ) → ℕ → Type 0
 IsInRows g block to tile = (block.column0 ≤ column_of g tile) × (column_of g tile < block.column1)
     × (block.row0 ≤ row_of g tile) × (row_of g tile < to)
 
--- To each tile's window were added rectangles that have just the squares of P in it, and each of them has one there.
+-- To each tile's window rectangles were added that have exactly the squares of P in it, and each of them has one there.
 pub record AddsSquares (plan : Tiling) (old new : List (List Rectangle)) (P : Layer → ℕ → Square
     → Type 0) : Type 0 where
   pub count : length new ≡ length old

@@ -1,4 +1,4 @@
--- What private functions and proofs need of this: placed rectangles, as far as they lie in the plane.
+-- For private functions and proofs: placed rectangles, cut to the plane.
 use Rattle.mpw_geom.specs.declared.plane.Point.{Point}
 use Rattle.mpw_tiles.specs.Placed.{nearest}
 

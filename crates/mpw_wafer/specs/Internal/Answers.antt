@@ -1,4 +1,5 @@
--- What private functions and proofs need of this: what functions of the rows over the wafer answer.
+-- Definitions for private functions and proofs: the answers of the functions of the wafer's
+-- decision tables.
 use Rattle.mpw_placings.specs.declared.fault.PlacingFault.{PlacingFault}
 use Rattle.mpw_placings.specs.declared.fault.PlacingFault.TheVariants as placing
 use Rattle.mpw_replies.specs.declared.reply.Code.TheVariants as code
@@ -6,7 +7,7 @@ use Rattle.mpw_replies.specs.declared.row.Ending.TheVariants as ending
 use Rattle.mpw_replies.specs.declared.row.Fault.{Fault}
 use Rattle.mpw_replies.specs.declared.row.Fault.TheVariants as fault
 
--- Why a placing is refused, as what ends a row.
+-- The fault of a decision table for a refused placement.
 abbrev pub fault_of : PlacingFault → Fault
 fault_of placing.NoCell = fault.Told (ending.Refused code.NoCell)
 fault_of placing.Known = fault.Told (ending.Refused code.Known)

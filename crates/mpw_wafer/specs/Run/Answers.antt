@@ -1,4 +1,4 @@
--- What answers to requests over the checking run are.
+-- The answers to requests of the checking run.
 use Rattle.std.specs.Prelude.{◌≡◌, ⊤, Bool, true, false}
 use Rattle.mpw_run.specs.Prepared.{applied, IsFitting}
 use Rattle.mpw_run.specs.Step.{Run, cancelled}
@@ -7,7 +7,7 @@ use Rattle.mpw_wafer.specs.declared.run.answer.NextRun.TheVariants.{Same, Start,
 use Rattle.mpw_wafer.specs.declared.run.answer.RunAnswer.{RunAnswer}
 use Rattle.mpw_wafer.specs.Run.Checking.{Outcome}
 
--- The run behind an answer.
+-- The run after an answer.
 abbrev pub run_after : Run → NextRun → Run
 run_after run Same = run
 run_after run (Start prepared) = applied prepared.change run
@@ -18,7 +18,7 @@ is_change Same = false
 is_change (Start prepared) = true
 is_change Cancel = true
 
--- What is prepared may be made to the run.
+-- The run can make the prepared change.
 abbrev pub Fits : Run → NextRun → Type 0
 Fits run Same = ⊤
 Fits run (Start prepared) = IsFitting prepared.change run

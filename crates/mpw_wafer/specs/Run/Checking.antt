@@ -1,4 +1,4 @@
--- The requests over the checking run: each with its tests in order, and what it gives where all pass.
+-- The requests of the checking run: each with its tests in order, and its result if all pass.
 use Rattle.std.specs.Prelude.{ℕ, ◌+◌, Bool, true, false, List, [], ◌∷◌, map, Option, None, Some, Result, Ok, Err}
 use Rattle.mpw_deck.specs.Decks.{Deck}
 use Rattle.mpw_hier.specs.declared.submission.Submission.{Submission}
@@ -33,21 +33,21 @@ use Rattle.mpw_placings.specs.declared.wafer.Wafer.{Wafer}
 
 -- ---- tests
 
--- No run goes on.
+-- No run is going on.
 abbrev pub at_rest : Phase → Result (Unit {0}) Ending
 at_rest Idle = Ok tt
 at_rest (Cutting planned) = Err (ending.Refused code.Running)
 at_rest (Checking c) = Err (ending.Refused code.Running)
 at_rest (Finished f) = Ok tt
 
--- A run goes on.
+-- A run is going on.
 abbrev pub going_on : Phase → Result (Unit {0}) Ending
 going_on Idle = Err (ending.Refused code.NoRun)
 going_on (Cutting planned) = Ok tt
 going_on (Checking c) = Ok tt
 going_on (Finished f) = Err (ending.Refused code.NoRun)
 
--- What is placed shows a shape, and at most 4096 tiles cover it.
+-- The placed cells have a shape, and at most 4096 tiles cover them.
 abbrev pub cover_test : Snapshot → Option Tiling → Result Planned Ending
 cover_test snapshot None = Err (ending.Refused code.Tiles)
 cover_test snapshot (Some plan) = Ok (record { snapshot = snapshot; plan = plan })
@@ -56,16 +56,16 @@ abbrev pub planning_over : Snapshot → List Item → Result Planned Ending
 planning_over snapshot [] = Err (ending.Refused code.Empty)
 planning_over snapshot (item ∷ items) = cover_test snapshot (plan_for snapshot)
 
--- ---- rows
+-- ---- decision tables
 
--- What a run looks at: the deck, the submissions that are placed, in order, and the shelf that they are on.
+-- What a run checks: the deck, the placed submissions, in order, and their shelf.
 abbrev pub snapshot_of : Deck → List Placement → List Submission → Snapshot
 snapshot_of deck placings shelf = record { deck = deck; roots = roots_of placings; shelf = shelf }
 
 abbrev pub planning : Snapshot → Result Planned Ending
 planning snapshot = planning_over snapshot (shown snapshot)
 
--- The row of `run`: what a new run looks at, with the plan of its tiles.
+-- The decision table of `run`: what a new run checks, with the plan of its tiles.
 unfoldable pub run_row : Policy → List Submission → Wafer → Run → ℕ → Result Planned Ending
 run_row policy shelf wafer run connection = do
   allowed ← permitted policy connection operation.Run object.Desk
@@ -73,7 +73,7 @@ run_row policy shelf wafer run connection = do
   deck ← needed code.NoDeck wafer.deck
   planning (snapshot_of deck wafer.placings shelf)
 
--- The row of `cancel`.
+-- The decision table of `cancel`.
 unfoldable pub cancel_row : Policy → Run → ℕ → Result (Unit {0}) Ending
 cancel_row policy run connection = do
   allowed ← permitted policy connection operation.Run object.Desk
@@ -86,28 +86,28 @@ phase_line number (Cutting planned) = line.Cutting number
 phase_line number (Checking c) = line.Checking number (answered c.tiles) (tiles c.planned.plan)
 phase_line number (Finished f) = line.Finished number
 
--- The row of `status`.
+-- The decision table of `status`.
 unfoldable pub status : Policy → Run → ℕ → Result (List Listed) Ending
 status policy run connection = do
   inside ← session_test policy connection
   Ok (stored (phase_line run.number run.phase) ∷ [])
 
--- The markers of a finished run, as far as the session may read the cells that they meet.
+-- The markers of a finished run, as far as the session may read the cells that they touch.
 abbrev pub checked_lines : Policy → ℕ → Checked → List Listed
 checked_lines policy connection f =
     let shelf = f.planned.snapshot.shelf in
     book_lines f.planned.snapshot.deck.rules shelf (seen_by policy connection shelf) f.book
 
--- The row of `markers`.
+-- The decision table of `markers`.
 unfoldable pub markers : Policy → Run → ℕ → Result (List Listed) Ending
 markers policy run connection = do
   inside ← session_test policy connection
   f ← needed code.NotFinished (findings run.phase)
   Ok (checked_lines policy connection f)
 
--- ---- what comes of a request
+-- ---- the outcome of a request
 
--- A reply with the run that it leaves, and whether that is a change, which has to be kept.
+-- A reply with the run after it, and whether that is a change, which must be stored.
 pub record Outcome : Type 0 where
   pub reply : Reply
   pub run : Run
@@ -119,7 +119,7 @@ no_change told run = record { reply = told; run = run; changes = false }
 abbrev pub acceptance : List Line → Run → Outcome
 acceptance lines run = record { reply = reply.Ok (map stored lines); run = run; changes = true }
 
--- A new run is told its number.
+-- The reply to an accepted `run` has the run's number.
 abbrev pub begun_outcome : Run → Result Planned Ending → Outcome
 begun_outcome run (Ok planned) = acceptance (line.Run (run.number + 1) ∷ []) (started run planned)
 begun_outcome run (Err ending) = no_change (ended_by ending) run
@@ -132,7 +132,7 @@ abbrev pub listing_outcome : Run → Result (List Listed) Ending → Outcome
 listing_outcome run (Ok lines) = no_change (reply.Ok lines) run
 listing_outcome run (Err ending) = no_change (ended_by ending) run
 
--- Each request by its row.
+-- Each request by its decision table.
 abbrev pub outcome_of : Policy → List Submission → Wafer → Run → ℕ → RunRequest → Outcome
 outcome_of policy shelf wafer run connection ask.Run =
     begun_outcome run (run_row policy shelf wafer run connection)

@@ -1,4 +1,4 @@
--- Laws of the requests over the checking run.
+-- Laws of the requests of the checking run.
 use Rattle.std.specs.Prelude.{◌≤◌, ℕ, ◌+◌, List}
 use Rattle.mpw_hier.specs.declared.submission.Submission.{Submission}
 use Rattle.mpw_rbac.specs.Policy.{Policy}
@@ -14,12 +14,12 @@ EachOutcome holds =
     (request : RunRequest)
     → holds policy run connection (outcome_of policy shelf wafer run connection request)
 
--- A request raises the number of runs by one at most.
+-- A request raises the number of runs by at most one.
 abbrev pub NumbersAreCounted : Type 0
 NumbersAreCounted = EachOutcome (λ policy run connection outcome.
     outcome.run.number ≤ run.number + 1)
 
--- A request hands nothing out: what bounds the hand-outs of each tile before bounds them after.
+-- A request hands out nothing: a bound on the hand-outs of each tile before is one after.
 abbrev pub NothingIsHandedOut : Type 0
 NothingIsHandedOut = EachOutcome (λ policy run connection outcome.
     (most : ℕ) → TakenAtMost most run.phase → TakenAtMost most outcome.run.phase)

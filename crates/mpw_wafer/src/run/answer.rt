@@ -1,4 +1,4 @@
-//! The answers to requests over the checking run.
+//! The answers to requests of the checking run.
 ghost use Rattle.std.specs.Prelude.{◌≡◌, ◌+◌, ◌<◌, ◌^◌, List, Result, IfOk};
 ghost use Rattle.mpw_wafer.specs.Run.Answers.{Gives};
 ghost use Rattle.mpw_wafer.specs.Run.Checking.{outcome_of, begun_outcome, left_off_outcome, listing_outcome};
@@ -18,27 +18,27 @@ use mpw_requests::RunRequest;
 use mpw_run::{Planned, Prepared, Run};
 use std::alloc::{AllocError, Global};
 
-/// What a request changes in the run.
+/// The change of the run by a request.
 #[derive(Drop)]
 pub enum NextRun {
     /// Nothing.
     Same,
     /// A new run begins.
     Start(Prepared),
-    /// The run is left.
+    /// The run is cancelled.
     Cancel,
 }
 
-/// The reply to a request over the run, and what it changes in the run.
+/// The reply to a request of the run, and the change of the run.
 #[derive(Drop)]
 pub struct RunAnswer {
-    /// What the request is answered.
+    /// The reply to the request.
     pub reply: Reply,
-    /// What has to be done to the run for it; nothing where it lists, or is denied or refused.
+    /// The change of the run. It is `Same` if the request lists, or is denied or refused.
     pub next: NextRun,
 }
 
-/// The answer to what lists.
+/// The answer to a request that lists.
 fn listing(run: &Run, made: Result<Lines, Fault>) -> Result<RunAnswer, AllocError>
     ensures { (row : Result (List Listed) AnyEnding) → Answers (λ lines. lines) made row
         → IfOk result (λ answer. Gives run.now (listing_outcome run.now row) answer) }
@@ -47,7 +47,7 @@ fn listing(run: &Run, made: Result<Lines, Fault>) -> Result<RunAnswer, AllocErro
     Ok(no_change(listing_reply(made)?))
 }
 
-/// The answer to what begins a run.
+/// The answer to a request that begins a run.
 fn beginning(
     alloc: Global,
     run: &Run,
@@ -69,7 +69,7 @@ fn beginning(
     }
 }
 
-/// The answer to what leaves a run.
+/// The answer to a request that cancels a run.
 fn leaving(run: &Run, made: Result<(), Fault>) -> Result<RunAnswer, AllocError>
     ensures { (row : Result (Unit {0}) AnyEnding) → Answers (λ x. x) made row
         → IfOk result (λ answer. Gives run.now (left_off_outcome run.now row) answer) }
@@ -84,7 +84,7 @@ fn leaving(run: &Run, made: Result<(), Fault>) -> Result<RunAnswer, AllocError>
     }
 }
 
-/// A reply that leaves the run.
+/// A reply that leaves the run unchanged.
 fn no_change(reply: Reply) -> RunAnswer
     ensures { (result.reply ≡ reply) × (result.next ≡ NextRun.Same) }
 {
@@ -94,11 +94,11 @@ fn no_change(reply: Reply) -> RunAnswer
     }
 }
 
-/// The answer to a request over the run. A `run` is linear in the placings and the deck's rules, `status` in the run's tiles;
-/// `markers` takes a look-up for each submission on the run's shelf, and a listing of the run's book.
+/// The answer to a request of the run. `run` is linear in the placements and the deck's rules, `status` in the run's tiles. `markers` costs
+/// a look-up for each submission on the run's shelf, and a listing of the run's book.
 ///
 /// # Errors
-/// Where there is no room for it.
+/// Out of memory.
 pub fn answer_request(
     alloc: Global,
     policy: &Policy,

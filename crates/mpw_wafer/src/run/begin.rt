@@ -1,6 +1,6 @@
-//! The row of `run`: what a new run looks at.
+//! The decision table of `run`: what a new run checks.
 //!
-//! It is a function that gives its value, or what ends the row, or tells want of memory. Its parts have the same form.
+//! It is a function. It returns its value, or the test that failed, or out of memory. Its parts have the same form.
 ghost use Rattle.std.specs.Prelude.{◌≡◌, IfOk, length};
 ghost use Rattle.mpw_wafer.specs.Run.Checking as row;
 ghost use Rattle.mpw_placings.specs.Placements.{ArePlacings, roots_of};
@@ -19,7 +19,7 @@ use mpw_tiles::Snapshot;
 use mpw_walk::roots_show_what_their_submissions_do;
 use std::alloc::{AllocError, Global};
 
-/// No run goes on.
+/// No run is going on.
 fn rest(phase: &Phase) -> Result<(), Fault>
     ensures { Answers (λ x. x) result (row.at_rest phase.now) }
 {
@@ -41,7 +41,7 @@ fn deck(deck: &Option<Deck>) -> Result<Deck, Fault>
     }
 }
 
-/// What a run over the placings looks at.
+/// The snapshot of a run over the placements.
 fn snapshot(
     alloc: Global,
     deck: Deck,
@@ -56,7 +56,7 @@ fn snapshot(
     Snapshot::new(alloc, deck, roots, shelf)
 }
 
-/// How many shapes are shown.
+/// The number of shapes of a snapshot.
 fn shape_count(snapshot: &Snapshot) -> u64
     ensures { result ≡ length (shown snapshot.now) }
 {
@@ -85,7 +85,7 @@ fn plan(snapshot: Snapshot) -> Result<Planned, Fault>
     }
 }
 
-/// What a new run looks at, with the plan of its tiles. Linear in the placings and the deck's rules.
+/// What a new run checks, with the plan of its tiles. Linear in the placements and the deck's rules.
 #[tactic(auto, unfolding(crate::specs::Run::Checking::run_row))]
 pub(crate) fn begin(
     alloc: Global,

@@ -1,6 +1,6 @@
-//! The rows of `cancel`, `status` and `markers`.
+//! The decision tables of `cancel`, `status` and `markers`.
 //!
-//! Each is a function that gives its value, or what ends the row, or tells want of memory. Its parts have the same form.
+//! Each is a function. It returns its value, or the test that failed, or out of memory. Its parts have the same form.
 ghost use Rattle.std.specs.Prelude.{◌≡◌, IfOk};
 ghost use Rattle.mpw_wafer.specs.Run.Checking as row;
 ghost use Rattle.mpw_replies.specs.Rows.{Answers};
@@ -12,7 +12,7 @@ use mpw_replies::{Code, Fault, Line, Lines, MarkerListing, need};
 use mpw_run::{Checked, Phase, Run};
 use std::alloc::{AllocError, Global};
 
-/// A run goes on.
+/// A run is going on.
 fn goes_on(phase: &Phase) -> Result<(), Fault>
     ensures { Answers (λ x. x) result (row.going_on phase.now) }
 {
@@ -24,7 +24,7 @@ fn goes_on(phase: &Phase) -> Result<(), Fault>
     }
 }
 
-/// Whether the run may be left: it goes on, and the session may do so.
+/// Whether the run may be cancelled: it is going on, and the session may do so.
 #[tactic(auto, unfolding(crate::specs::Run::Checking::cancel_row))]
 pub(crate) fn leave(policy: &Policy, run: &Run, connection: u32) -> Result<(), Fault>
     ensures { Answers (λ x. x) result (row.cancel_row policy.now run.now connection) }
@@ -64,7 +64,7 @@ pub(crate) fn status(
     Ok(Lines::of_line(alloc, phase_line(run))?)
 }
 
-/// The lines of what a finished run found, as far as the session may read the cells.
+/// The lines of a finished run's markers, as far as the session may read the cells.
 fn checked_lines(
     alloc: Global,
     policy: &Policy,
@@ -82,7 +82,7 @@ fn checked_lines(
     Lines::of_markers(alloc, listing)
 }
 
-/// The lines of `markers`: a look-up for each submission on the run's shelf, and what the listing takes.
+/// The lines of `markers`. Cost: a look-up for each submission on the run's shelf, and that of the listing.
 #[tactic(auto, unfolding(crate::specs::Run::Checking::markers))]
 pub(crate) fn markers(
     alloc: Global,

@@ -2,7 +2,7 @@
 use Rattle.mpw_hier.specs.Holding.{ExtentsAreOrdered, ExtentsHoldItems, ExtentsAreLeast, ExtentsArePlaced}
 use Rattle.mpw_hier.specs.Placed.{BoxesArePlacedAgain, UnmovedShapesHaveTheirBoxes}
 
--- Extents are least boxes, and are placed with what they hold.
+-- Extents are least boxes, and are placed with their content.
 pub record ExtentsAreWalked : Type 0 where
   pub ordered : ExtentsAreOrdered
   pub holds : ExtentsHoldItems

@@ -1,4 +1,4 @@
--- What private functions and proofs need of this: a structure that a walk has entered, and the turns that are still to come of it.
+-- For private functions and proofs: a structure that a walk has entered, and its remaining turns.
 use Rattle.std.specs.Prelude.{◌≡◌, ◌<◌, ◌+◌, ℕ, List, take, slice_get, slice_index, nat_lt, Some, if◌then◌else◌}
 use Rattle.mpw_structures.specs.declared.element.Element.TheVariants as elements
 use Rattle.mpw_structures.specs.declared.element.Reference.{Reference}
@@ -14,7 +14,7 @@ use Rattle.mpw_walk.specs.declared.frame.Frame.{Frame}
 use Rattle.mpw_walk.specs.declared.root.Placed.{Placed}
 use Rattle.mpw_walk.specs.Frames.{named_turns, turns_within, IsWithin, IsFrame}
 
--- The frame of a node before any of its turns.
+-- The frame of a node before its first turn.
 pub record IsFront (ss : List Submission) (number : ℕ) (nodes : List Node) (place : ℕ) (f : Frame) :
     Type 0 where
   pub frame : IsFrame ss f
@@ -26,7 +26,7 @@ pub record IsFront (ss : List Submission) (number : ℕ) (nodes : List Node) (pl
   pub row : f.row ≡ 0
   pub column : f.column ≡ 0
 
--- A frame shows what a name means to a submission, and its node has the size of that.
+-- A frame has the content of a name for a submission, and its node has the size of that.
 pub record Shows (ss : List Submission) (number : ℕ) (s : Submission) (name : List ℕ) (f : Frame) :
     Type 0 where
   pub frame : IsFrame ss f
@@ -63,7 +63,7 @@ pub record IsShape (f : Frame) (placed : Placed) : Type 0 where
   pub element : slice_get f.elements.now (slice_index f.node.now.shapes f.shape)
       ≡ Some placed.element.now
 
--- The frame behind the next instance: the next column, the next row, or the next child.
+-- The frame after the next instance: the next column, the next row, or the next child.
 abbrev pub behind_instance : Frame → Reference → Frame
 behind_instance f r =
     if nat_lt (f.column + 1) r.columns then record f { column = f.column + 1 }

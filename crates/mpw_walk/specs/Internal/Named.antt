@@ -1,4 +1,4 @@
--- What names show to a submission, and the turns of that.
+-- The contents of names for a submission, and their turns.
 use Rattle.std.specs.Prelude.{◌≡◌, ℕ, List, length, map}
 use Rattle.mpw_structures.specs.declared.structures.Structure.{Structure}
 use Rattle.mpw_hier.specs.declared.submission.Submission.{Submission}
@@ -12,7 +12,7 @@ use Rattle.mpw_walk.specs.Turns.{Turn, give, placed_turns}
 abbrev pub own_turns : ℕ → Structure → List Turn
 own_turns number s = map give (own_items number s.elements)
 
--- A name shows what its structure, or the top of its submission, shows; and so do its turns.
+-- The content of a name is that of its structure, or of the top of its submission; and so are its turns.
 -- Extents are least boxes.
 pub record NamesAreWalked : Type 0 where
   pub own : OwnNamesAreShown

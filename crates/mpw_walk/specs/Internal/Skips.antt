@@ -1,4 +1,4 @@
--- What a walk within a window passes over at once: instances of an array that miss the window one after another.
+-- What a walk within a window skips at once: consecutive instances of an array that miss the window.
 use Rattle.std.specs.Prelude.{◌≡◌, ◌+◌, ◌<◌, ◌⊎◌, ℕ, ℤ, pos, ◌+ℤ◌, ◌-ℤ◌, ◌*ℤ◌, Bool, false, int_le, nat_lt, Option, Some, None, if◌then◌else◌}
 use Rattle.std.specs.Int.{int_min, int_max}
 use Rattle.mpw_geom.specs.declared.plane.Box2.{Box2}
@@ -12,7 +12,7 @@ use Rattle.mpw_walk.specs.Internal.Frames.{behind_instance}
 
 -- ---- along one axis
 
--- An interval so many steps on, and whether two share a number.
+-- An interval some steps on, and whether two intervals share a number.
 abbrev pub span_on : Span → (step : ℤ) → ℕ → Span
 span_on a step k =
     record { low = a.low +ℤ (pos k *ℤ step); high = a.high +ℤ (pos k *ℤ step) }
@@ -22,7 +22,7 @@ do_share a b = int_le (int_max a.low b.low) (int_min a.high b.high)
 
 -- ---- boxes
 
--- A box so many steps on.
+-- A box some steps on.
 abbrev pub box_on : Box2 → (step : Point) → ℕ → Box2
 box_on b step k = record {
   x0 = b.x0 +ℤ (pos k *ℤ step.x);
@@ -31,7 +31,7 @@ box_on b step k = record {
   y1 = b.y1 +ℤ (pos k *ℤ step.y);
 }
 
--- A box of one column at another.
+-- The box of one column at another column.
 abbrev pub box_at : Box2 → (step : Point) → (from to : ℕ) → Box2
 box_at b step from to = record {
   x0 = b.x0 +ℤ ((pos to *ℤ step.x) -ℤ (pos from *ℤ step.x));
@@ -40,7 +40,7 @@ box_at b step from to = record {
   y1 = b.y1 +ℤ ((pos to *ℤ step.y) -ℤ (pos from *ℤ step.y));
 }
 
--- So many boxes of a row miss a window, from one on; and so many rows, from that of one on, in each column.
+-- The first n boxes of a row, from the given one on, miss a window; and so do the first n rows, from that of the box on, in every column.
 abbrev pub MissColumns : (there window : Box2) (across : Point) → ℕ → Type 0
 MissColumns there window across n =
     (k : ℕ) → k < n → do_meet (box_on there across k) window ≡ false
@@ -51,14 +51,14 @@ MissRows there window across up n =
 
 -- ---- frames
 
--- The steps of an array from an instance to the next of its row, and to that of the next row, as the frame is placed.
+-- The steps of an array from an instance to the next one in its row, and to the one in the next row, as the frame is placed.
 abbrev pub across_of : Frame → Reference → Point
 across_of f r = oriented_point f.placing.orient r.column_step
 
 abbrev pub up_of : Frame → Reference → Point
 up_of f r = oriented_point f.placing.orient r.row_step
 
--- The frame behind so many rows, from the present one on, and behind so many columns.
+-- The frame after some rows, counting from the current one, and the frame after some columns.
 abbrev pub behind_rows : Frame → Reference → ℕ → Frame
 behind_rows f r n =
     if nat_lt (f.row + n) r.rows then record f { row = f.row + n; column = 0 }
@@ -69,7 +69,7 @@ behind_columns f r n =
     if nat_lt (f.column + n) r.columns then record f { column = f.column + n }
     else behind_rows f r 1
 
--- What the frame passes over misses the window, where the next instance has that box: rows, or columns of its row.
+-- What the frame skips misses the window, given the box of the next instance: rows, or columns of its row.
 pub record SkipsRows (f : Frame) (r : Reference) (there window : Box2) (g : Frame) : Type 0 where
   pub n : ℕ
   pub some : 0 < n

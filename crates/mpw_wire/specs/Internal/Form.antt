@@ -1,4 +1,4 @@
--- What private functions and proofs need of this: the request of the policy that two names make.
+-- Definitions for private functions and proofs: the policy request of two names.
 use Rattle.std.specs.Prelude.{ℕ, List}
 use Rattle.mpw_requests.specs.declared.policy.PolicyRequest.{PolicyRequest}
 use Rattle.mpw_requests.specs.declared.policy.PolicyRequest.TheVariants.{Assign, Deassign, Inherit, Uninherit}

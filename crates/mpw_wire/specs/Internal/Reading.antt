@@ -1,4 +1,4 @@
--- What private functions and proofs need of this: what reading a request does to a source.
+-- Definitions for private functions and proofs: what reading a request does to a source.
 use Rattle.std.specs.Prelude.{◌≡◌, ℕ, List, length, Option, None, Some}
 use Rattle.std.specs.Io.KnownBytes.{Consumes}
 use Rattle.mpw_wire.specs.declared.fault.WireFault.{WireFault}
@@ -12,7 +12,7 @@ Takes old new (taken.Line line) = TakesLine old new line.items
 Takes old new taken.Long = TakesLong old new
 Takes old new taken.End = TakesNothing old new
 
--- so many bytes are taken off the front
+-- that many bytes are taken off the front
 abbrev pub TakesPayload : Option (List ℕ) → Option (List ℕ) → ℕ → List ℕ → Type 0
 TakesPayload old new length_asked payload =
     (length payload ≡ length_asked) × Consumes old new payload

@@ -1,4 +1,4 @@
--- What private functions and proofs need of this: the words of a line.
+-- Definitions for private functions and proofs: the words of a line.
 use Rattle.std.specs.Prelude.{◌≡◌, ◌≤◌, ℕ, List, [], ◌∷◌, length}
 use Rattle.mpw_wire.specs.declared.words.Arguments.{Arguments}
 use Rattle.mpw_wire.specs.declared.words.Arguments.TheVariants.{Zero, One, Two, Three, More}

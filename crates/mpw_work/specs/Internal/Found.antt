@@ -1,4 +1,4 @@
--- What a search finds: first the keys of the markers, rule by rule, and then what each one meets.
+-- What a search finds: first the keys of the markers, rule by rule, and then what each one touches.
 use Rattle.std.specs.Prelude.{◌≡◌, ◌<◌, ◌++◌, ℕ, List, [], length, map, Contains, All, AllPairs, Some, slice_get, slice_index_or, ◌↔◌}
 use Rattle.std.specs.Ordering.{nat_cmp, ordering_then}
 use Rattle.std.specs.declared.cmp.Ordering.{Ordering}
@@ -21,7 +21,7 @@ use Rattle.mpw_job.specs.Internal.Keys.{run_at, key_box}
 abbrev pub met_of : Marker → List ℕ
 met_of m = m.met
 
--- To the keys were added those of the rule's runs in the core, in order.
+-- The rule's runs in the core were added to the keys, in order.
 pub record AddsRule (core : Box2) (on : Coverage) (place : ℕ) (rule : Rule) (old new : List Key) :
     Type 0 where
   pub runs : List Piece
@@ -29,13 +29,13 @@ pub record AddsRule (core : Box2) (on : Coverage) (place : ℕ) (rule : Rule) (o
   pub ordered : AllPairs IsPieceBefore runs
   pub is : new ≡ old ++ map (key_at place) runs
 
--- A maximal run of the rule at the key's place.
+-- A maximal run of the rule at the key's index.
 pub record IsKey (job : TileJob) (k : Key) : Type 0 where
   pub rule : Rule
   pub at : slice_get job.rules k.rule ≡ Some rule
   pub run : IsFoundIn job.core (listed_on job.window) rule (run_at k)
 
--- Keys by the rule's place, then as their runs.
+-- Keys by the rule's index, then as their runs.
 abbrev pub key_cmp : Key → Key → Ordering
 key_cmp k l = ordering_then (nat_cmp k.rule l.rule) (piece_cmp (run_at k) (run_at l))
 
@@ -53,7 +53,7 @@ pub record AreFirstKeys (job : TileJob) (n : ℕ) (keys : List Key) : Type 0 whe
 abbrev pub AreKeys : TileJob → List Key → Type 0
 AreKeys job keys = AreFirstKeys job (length job.rules) keys
 
--- For each key the origins that its closed box meets.
+-- For each key the origins that its closed box touches.
 pub record TellMet (listed : List Rectangle) (keys : List Key) (mets : List (List ℕ)) : Type 0 where
   pub count : length mets ≡ length keys
   pub ascending : All IsAscending mets
@@ -61,11 +61,11 @@ pub record TellMet (listed : List Rectangle) (keys : List Key) (mets : List (Lis
       → Contains (slice_index_or mets k []) origin
       ↔ IsMet (HasListed listed) (key_box (slice_index_or keys k d)) origin
 
--- The key's closed box meets some origin.
+-- The key's closed box touches some origin.
 abbrev pub MeetsSome : List Rectangle → Key → Type 0
 MeetsSome listed k = (origin : ℕ) × IsMet (HasListed listed) (key_box k) origin
 
--- The markers are those of the keys, each with what it meets.
+-- The markers are those of the keys, each with what it touches.
 pub record AreMarkersOfKeys (listed : List Rectangle) (keys : List Key) (markers : List Marker) :
     Type 0 where
   pub keys_are : map key_of markers ≡ keys

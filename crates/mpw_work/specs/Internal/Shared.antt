@@ -10,12 +10,12 @@ use Rattle.mpw_checks.specs.Strips.{AreStrips}
 use Rattle.mpw_work.specs.declared.shared.Shared.{Shared}
 use Rattle.mpw_job.specs.Layers.{Coverage, no_squares}
 
--- The squares of a layer, where there is one.
+-- The squares of a layer, if there is one.
 abbrev pub squares_on : Coverage → Option Layer → Squares
 squares_on on None = no_squares
 squares_on on (Some layer) = on layer
 
--- The check's first layer is the first one, and its second, where it has one, the second.
+-- The check's first layer is the first one, and its second layer, if it has one, is the second.
 abbrev pub LooksAt : Check → Layer → Option Layer → Type 0
 LooksAt (Width layer) first second = layer ≡ first
 LooksAt (Space layer) first second = layer ≡ first

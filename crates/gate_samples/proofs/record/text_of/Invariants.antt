@@ -2,7 +2,7 @@ use Rattle.std.proofs.Common.{◌≡◌, ◌++◌, drop, map}
 use Rattle.gate_samples.specs.Text.{raw, text_of, has_too_long}
 use Rattle.gate_samples.proofs.record.text_of.Given as goal
 
--- the records so far, and those to come
+-- the records so far, and those that are left
 abbrev pub invariant-loop-new : goal.invariant-loop-new
 invariant-loop-new l = record {
   same : l.text.items ++ text_of (map raw (drop l.new-index l.records))

@@ -1,4 +1,4 @@
--- A box lies in the plane where its four coordinates do.
+-- A box is in the plane if its four coordinates are.
 use Rattle.std.proofs.Common.{◌≡◌, ◌↔◌, Bool, true, false, ◌&&◌, ℤ, refl, subst, rules}
 use Rattle.std.proofs.lemmas.Bool.{false≢true}
 use Rattle.mpw_geom.specs.Plane.{IsCoordinate, IsBoxInPlane}
@@ -17,7 +17,7 @@ near b true false r s x0 y0 x1 y1 = (λ e. absurd (false≢true e), λ h. y0.1 h
 near b true true false s x0 y0 x1 y1 = (λ e. absurd (false≢true e), λ h. x1.1 h.x1)
 near b true true true false x0 y0 x1 y1 = (λ e. absurd (false≢true e), λ h. y1.1 h.y1)
 
--- the same of the number that the code hands on
+-- the same for the number that the code returns
 kept : (p : Bool) (z w : ℤ) → (p ≡ true) ↔ IsCoordinate w → w ≡ z → (p ≡ true) ↔ IsCoordinate z
 kept p z w h e = subst (λ v. (p ≡ true) ↔ IsCoordinate v) e h
 

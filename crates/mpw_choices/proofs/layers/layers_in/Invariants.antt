@@ -2,7 +2,7 @@ use Rattle.std.proofs.Common.{◌≡◌, ◌++◌, drop, map, option_map}
 use Rattle.mpw_choices.specs.Layers.{layers_in}
 use Rattle.mpw_choices.proofs.layers.layers_in.Given as goal
 
--- with those of the words that are left these are all
+-- with those of the remaining words these are all
 abbrev pub invariant-loop-word : goal.invariant-loop-word
 invariant-loop-word l =
     option_map (λ more. l.layers.items ++ more) (layers_in (map (λ x. x.now) (drop l.word-index l.words)))

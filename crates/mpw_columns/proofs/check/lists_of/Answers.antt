@@ -1,4 +1,4 @@
--- Each list is that of the column at its place.
+-- Each list is that of the column at its index.
 use Rattle.std.proofs.Common.{ap, ◌∙◌, sym, subst}
 use Rattle.std.specs.List.{AllZip}
 use Rattle.std.proofs.lemmas.Result.{MatchResult-weaker}

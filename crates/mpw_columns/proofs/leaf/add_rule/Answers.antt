@@ -13,7 +13,7 @@ use Rattle.mpw_edges.proofs.Maximal.{HoldJust}
 use Rattle.mpw_columns.proofs.Keyed.{rule_keys}
 use Rattle.mpw_columns.proofs.leaf.add_rule.Goals as goal
 
--- the runs hold the steps of what the bands cover
+-- the runs have the steps of what the bands cover
 held_of : (rule : Rule) (first : List Box2) (a : Squares) (second : List Box2) (b : Squares)
     (core : Box2) (runs : List Run) → covers first ≡ a → covers second ≡ b
     → HoldJust runs (λ line j. HasVerticalStep rule (covers first) (covers second) core line.side

@@ -1,4 +1,4 @@
--- Without a session the policy is what it would be after its end.
+-- Without a session the policy is the same as after its end.
 use Rattle.std.proofs.Common.{◌≡◌, ◌∙◌, false, sym, ap, refl}
 use Rattle.std.specs.Prelude.{is_some}
 use Rattle.mpw_rbac.specs.Policy.{Policy, session_of}

@@ -1,4 +1,4 @@
--- The row of the request is made on a copy.
+-- The decision table of the request applies to a copy.
 use Rattle.std.proofs.Common.{◌≡◌, subst, IfErr, OnOk, Ok}
 use Rattle.mpw_rbac.specs.Policy.{Policy}
 use Rattle.mpw_rbac.specs.Rows.{IsFaultOf}

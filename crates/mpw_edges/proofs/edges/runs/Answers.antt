@@ -16,7 +16,7 @@ abbrev StepsBy : Check → Rule → List Box2 → List Box2 → Box2 → Line �
 StepsBy check rule first second core line j = IsPairStep check rule.distance (covers first)
     (covers second) line.side line.first line.second j × IsInCore core line.first j
 
--- what a check finds, told of the rule that has it
+-- what a check finds, for the rule that has it
 by_check : {A E : Type 0} (found : Result A E) (items : A → List Run) (rule : Rule)
     (first second : List Box2) (core : Box2) (own check : Check) → own ≡ check
     → IfOk found (λ v. Finds (items v) (StepsBy check rule first second core))

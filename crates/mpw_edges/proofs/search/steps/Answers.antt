@@ -14,7 +14,7 @@ use Rattle.mpw_edges.specs.Edges.{Squares, exchanged}
 use Rattle.mpw_edges.specs.Pieces.{HasStep}
 use Rattle.mpw_edges.proofs.search.steps.Goals as goal
 
--- the runs hold just the steps
+-- the runs have exactly the steps
 abbrev HoldSteps : Rule → Squares → Squares → Box2 → Axis → List Run → Line → ℤ → Type 0
 HoldSteps rule a b core axis runs line j =
     CoversPlace runs line j ↔ HasStep rule a b core axis line.side line.first line.second j

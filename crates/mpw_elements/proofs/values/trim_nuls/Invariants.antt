@@ -2,7 +2,7 @@ use Rattle.std.proofs.Common.{◌≡◌, ◌≤◌, length, take}
 use Rattle.mpw_elements.specs.Values.{without_nuls}
 use Rattle.mpw_elements.proofs.values.trim_nuls.Given as goal
 
--- only NULs stand behind the end
+-- only NULs come after the end
 abbrev pub invariant-loop-end : goal.invariant-loop-end
 invariant-loop-end l = record {
   within : l.end ≤ length l.bytes;

@@ -15,7 +15,7 @@ use Rattle.mpw_markers.proofs.stitching.join.Goals as goal
 pub loop-start-init : goal.loop-start-init
 loop-start-init c = rw c.in_ok-book.ensures.items (Joins-start (seen c.args.markers.now))
 
--- what is left, as the call is given it
+-- what is left, as the call gets it
 left : (ms : List (Bor Marker)) (start : ℕ)
     → seen (take (length ms - start) (drop start ms)) ≡ drop start (seen ms)
 left ms start = ap seen (take_rest ms start) ∙ behind ms start

@@ -2,6 +2,6 @@ use Rattle.std.proofs.Common.{◌≡◌, drop}
 use Rattle.mpw_permissions.specs.Internal.Holders.{mask_in}
 use Rattle.mpw_permissions.proofs.bucket.mask_of.Given as goal
 
--- the mask is still to come
+-- the mask is among those that are left
 abbrev pub invariant-loop-held : goal.invariant-loop-held
 invariant-loop-held l = mask_in (drop l.held-index l.masks) l.object ≡ mask_in l.masks l.object

@@ -1,4 +1,4 @@
--- Each block is kept by itself.
+-- Each block is filtered by itself.
 use Rattle.std.proofs.Common.{◌∙◌, ◌++◌, not}
 use Rattle.mpw_permissions.specs.Grant.{grant_eq}
 use Rattle.mpw_permissions.proofs.BlockLemmas.{kept-next}

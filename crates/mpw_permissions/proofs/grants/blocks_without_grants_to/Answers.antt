@@ -1,4 +1,4 @@
--- Each block is kept by itself.
+-- Each block is filtered by itself.
 use Rattle.std.proofs.Common.{◌∙◌, ◌++◌, not}
 use Rattle.mpw_geom.specs.Names.{name_eq}
 use Rattle.mpw_permissions.specs.declared.permission.Grant.{Grant}

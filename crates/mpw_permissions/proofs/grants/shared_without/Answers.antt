@@ -1,4 +1,4 @@
--- Where the grant isn't there, nothing goes.
+-- If the grant isn't there, nothing is removed.
 use Rattle.std.proofs.Common.{◌∙◌, ap, sym}
 use Rattle.std.specs.List.{list_any, flat_map}
 use Rattle.std.proofs.lemmas.Result.{MatchResult-weaker}

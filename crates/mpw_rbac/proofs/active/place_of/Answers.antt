@@ -1,4 +1,4 @@
--- The first of the connections that is the one.
+-- The first entry with the connection.
 use Rattle.std.proofs.Common.{◌∙◌, sym, ap, arith}
 use Rattle.std.specs.List.{list_any}
 use Rattle.std.proofs.lemmas.Bool.{eq-eqb}

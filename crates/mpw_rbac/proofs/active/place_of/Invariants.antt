@@ -3,7 +3,7 @@ use Rattle.std.specs.List.{list_any}
 use Rattle.mpw_rbac.specs.declared.active.Active.{Active}
 use Rattle.mpw_rbac.proofs.active.place_of.Given as goal
 
--- none of the connections so far is the one
+-- none of the entries so far has the connection
 abbrev pub invariant-loop-place : goal.invariant-loop-place
 invariant-loop-place l =
     list_any (λ (e : ℕ × Active). l.connection == e.0) (take l.place l.table) ≡ false

@@ -1,10 +1,10 @@
--- The session at the place of the connection, or behind the others.
+-- The session at the index of the connection, or at the end.
 use Rattle.std.proofs.Common.{◌≡◌, ◌∙◌, ◌==◌, ℕ, List, Some, None, Option, ap, sym, position, slice_set}
 use Rattle.mpw_rbac.specs.declared.active.Active.{Active}
 use Rattle.mpw_rbac.proofs.SessionLemmas.{is_connected, put-at, put-last}
 use Rattle.mpw_rbac.proofs.active.put.Goals as goal
 
--- the place in the slice is that in the vector
+-- the index in the slice is that in the vector
 placed : (connection : ℕ) {o : Option ℕ} {es fs : List (ℕ × Active)}
     → o ≡ position (is_connected connection) es → es ≡ fs
     → o ≡ position (is_connected connection) fs

@@ -1,4 +1,4 @@
--- What stands at the place of the connection.
+-- The entry at the index of the connection.
 use Rattle.mpw_rbac.proofs.SessionLemmas.{found-at, found-nowhere}
 use Rattle.mpw_rbac.proofs.active.session_of.Goals as goal
 

@@ -1,4 +1,4 @@
--- A pair more or less leaves the roles in their order.
+-- Adding or removing a pair leaves the roles in their order.
 use Rattle.std.proofs.Common.{◌∙◌, ap, inl}
 use Rattle.mpw_roles.specs.Hierarchy.{role_names}
 use Rattle.mpw_rbac.proofs.PlacedLemmas.{names-changed}

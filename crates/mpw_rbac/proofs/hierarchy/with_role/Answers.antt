@@ -1,4 +1,4 @@
--- A role more goes last.
+-- A new role is added at the end.
 use Rattle.std.proofs.Common.{◌∙◌, ap, inr, [], ◌∷◌, ◌++◌}
 use Rattle.mpw_roles.specs.Hierarchy.{role_names}
 use Rattle.mpw_roles.proofs.RoleLemmas.{names-with_role}

@@ -1,4 +1,4 @@
--- Names are each there once without one of them too.
+-- Names that occur once also do so without one of them.
 use Rattle.std.proofs.Common.{◌∙◌, ap, List}
 use Rattle.mpw_geom.specs.Names.{without_name}
 use Rattle.mpw_roles.specs.Hierarchy.{Name}

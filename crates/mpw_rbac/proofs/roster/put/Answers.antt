@@ -1,4 +1,4 @@
--- The value stands at the place of the name, or at the end.
+-- The value is at the index of the name, or at the end.
 use Rattle.std.proofs.Common.{◌≡◌, ◌∙◌, ◌+◌, sym, ap, arith, is_some, [], ◌∷◌, ◌++◌, length, length-append}
 use Rattle.std.specs.Prelude.{zip}
 use Rattle.std.proofs.lemmas.Result.{on_ok_weaker}

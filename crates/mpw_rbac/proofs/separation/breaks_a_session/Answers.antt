@@ -1,4 +1,4 @@
--- Each turn asks one holder, by its mask.
+-- Each turn tests one holder, by its mask.
 use Rattle.std.proofs.Common.{◌≡◌, ◌∙◌, ℕ, Some, sym, ap, map, ◌≤◌, length, slice_index_or, arith}
 use Rattle.std.specs.Prelude.{slice_get}
 use Rattle.std.proofs.lemmas.Option.{slice_get-get_or}
@@ -14,7 +14,7 @@ use Rattle.mpw_rbac.proofs.PlacedLemmas.{acting-at}
 use Rattle.mpw_rbac.proofs.separation.breaks_a_session.Goals.{After-is_broken_at}
 use Rattle.mpw_rbac.proofs.separation.breaks_a_session.Goals as goal
 
--- the session at the place
+-- the session at the index
 abbrev place : After-is_broken_at → ℕ × Active
 place c = slice_index_or c.args.sessions.now c.loop-index.index c.index-sessions-index.result
 
@@ -22,7 +22,7 @@ at : (c : After-is_broken_at) → slice_get c.args.sessions.now c.loop-index.ind
 at c = slice_get-get_or c.args.sessions.now c.loop-index.index c.index-sessions-index.result
     c.loop-index-test.true
 
--- the call has asked about it
+-- the call has tested it
 asked : (c : After-is_broken_at) → c.is_broken_at.result ≡ breaks c.args.roles.now
     (place c).1.session.active c.args.set.now
 asked c =

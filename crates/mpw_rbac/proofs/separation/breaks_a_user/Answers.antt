@@ -1,4 +1,4 @@
--- Each turn asks one holder, by its mask.
+-- Each turn tests one holder, by its mask.
 use Rattle.std.proofs.Common.{◌≡◌, ◌∙◌, ◌<◌, sym, ap, List, [], length, get_or, arith}
 use Rattle.mpw_roles.specs.Hierarchy.{role_names}
 use Rattle.mpw_roles.specs.Mask.{has}
@@ -11,7 +11,7 @@ use Rattle.mpw_rbac.proofs.PlacedLemmas.{unbroken-list, broken-list}
 use Rattle.mpw_rbac.proofs.separation.breaks_a_user.Goals.{After-is_broken_at}
 use Rattle.mpw_rbac.proofs.separation.breaks_a_user.Goals as goal
 
--- the place is one of the users', and the call has asked about that user
+-- the index is that of a user, and the call has tested that user
 asked : (c : After-is_broken_at)
     → (c.loop-authorized.authorized-index < length (assigned_lists c.args.users.now.users))
     × (c.is_broken_at.result ≡ breaks c.args.roles.now (get_or

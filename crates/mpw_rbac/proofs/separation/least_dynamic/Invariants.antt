@@ -5,7 +5,7 @@ use Rattle.mpw_separation.specs.Separation.{broken_names}
 use Rattle.mpw_rbac.proofs.SessionLemmas.{active_in}
 use Rattle.mpw_rbac.proofs.separation.least_dynamic.Given as goal
 
--- the least name so far
+-- the first name in alphabetical order so far
 abbrev pub invariant-loop-index : goal.invariant-loop-index
 invariant-loop-index l = IsLeast (broken_names l.roles l.sets.sets.dsd
     (map active_in (take l.index l.sessions))) (option_copied l.least)

@@ -1,4 +1,4 @@
--- The sets of the other kind stay, so all do where those of the kind do.
+-- The sets of the other kind stay, so all do if those of the kind do.
 use Rattle.std.proofs.lemmas.Result.{on_err_weaker}
 use Rattle.mpw_rbac.proofs.separation.remove.Goals as goal
 

@@ -1,4 +1,4 @@
--- The names that are kept are those below the user's assigned roles.
+-- The names that stay are those below the user's assigned roles.
 use Rattle.std.proofs.Common.{◌∙◌, ap, filter}
 use Rattle.mpw_geom.specs.Names.{name_eq, contains_name}
 use Rattle.mpw_rbac.specs.Policy.{assigned_roles}

@@ -1,4 +1,4 @@
--- The mask at the place of the user.
+-- The mask at the index of the user.
 use Rattle.std.proofs.Common.{◌∙◌, sym, ap, map, [], Option, arith}
 use Rattle.std.specs.Option.{option_map_or}
 use Rattle.std.proofs.lemmas.List.Quantifiers.{position-Some}

@@ -9,7 +9,7 @@ use Rattle.mpw_region.specs.Internal.Sweep.{HoldsJust}
 use Rattle.mpw_region.proofs.Sweeping.{SweepsUp-more}
 use Rattle.mpw_region.proofs.cut.add_next.Goals as goal
 
--- the boxes that a sweep holds have area
+-- the boxes of a sweep's list have area
 wide : (boxes active : List Box2) (P : Box2 → Type 0) → All HasArea boxes → HoldsJust boxes P active
     → All (λ b. b.x0 <ℤ b.x1) active
 wide boxes active P filled just k d l = let a : HasArea (get_or active k d) =

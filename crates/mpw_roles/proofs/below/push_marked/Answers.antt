@@ -1,4 +1,4 @@
--- What is left of the marked names begins with the role, where it is marked.
+-- The rest of the marked names begins with the role, if it is marked.
 use Rattle.std.proofs.Common.{◌≡◌, ◌++◌, ◌+◌, ◌∙◌, sym, ap, cond, drop, [], ◌∷◌, append_assoc, arith, length}
 use Rattle.mpw_roles.specs.Marks.{marked_names}
 use Rattle.mpw_roles.proofs.MarksLemmas.{marked_names-drop}

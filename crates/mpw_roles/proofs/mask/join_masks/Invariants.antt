@@ -3,7 +3,7 @@ use Rattle.mpw_roles.specs.Mask.{has}
 use Rattle.mpw_roles.specs.Places.{mask_at}
 use Rattle.mpw_roles.proofs.mask.join_masks.Given as goal
 
--- the masks so far are joined, and the others are as they were
+-- the masks so far are joined, and the others are unchanged
 abbrev pub invariant-loop-k : goal.invariant-loop-k
 invariant-loop-k l = record {
   done : (p : ℕ) → p < l.k → (q : ℕ)

@@ -1,4 +1,4 @@
--- A number at the place of that number, and one that the loop finds, is at its only place.
+-- A number that is its own index, and one that the loop finds, is at its only index.
 use Rattle.std.proofs.Common.{◌∙◌, sym, ap, eqb, arith}
 use Rattle.std.specs.List.{list_any}
 use Rattle.std.proofs.lemmas.List.{take_all}

@@ -1,4 +1,4 @@
--- Each turn adds the place of one name.
+-- Each turn adds the index of one name.
 use Rattle.std.proofs.Common.{◌∙◌, ◌+◌, ◌||◌, sym, ap, drop}
 use Rattle.mpw_roles.specs.Hierarchy.{role_names}
 use Rattle.mpw_roles.specs.Mask.{has}

@@ -4,7 +4,7 @@ use Rattle.mpw_roles.specs.Mask.{has}
 use Rattle.mpw_roles.specs.Places.{is_place_of}
 use Rattle.mpw_roles.proofs.places.places_of.Given as goal
 
--- the places so far and those to come are all
+-- the indexes so far and those that are left are all
 abbrev pub invariant-loop-name : goal.invariant-loop-name
 invariant-loop-name l = (q : ℕ) → (has l.mask q
     || is_place_of (role_names l.table) (drop l.name-index l.names) q) ≡ is_place_of

@@ -1,4 +1,4 @@
--- The first of the names that is the one.
+-- The first name that is equal.
 use Rattle.std.proofs.Common.{◌∙◌, sym, ap, arith}
 use Rattle.std.specs.List.{list_any}
 use Rattle.std.proofs.lemmas.List.{take_all}

@@ -1,4 +1,4 @@
--- Both numbers have their places.
+-- Both numbers have their indexes.
 use Rattle.std.proofs.Common.{sym}
 use Rattle.mpw_roles.specs.Internal.Table.{has_number}
 use Rattle.mpw_roles.proofs.MaskedLemmas.{table-front, placed, masked-more}

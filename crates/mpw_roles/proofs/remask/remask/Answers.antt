@@ -1,4 +1,4 @@
--- At first each role has its own place, and then the pairs come one by one.
+-- At first each role has its own index. Then the pairs follow one by one.
 use Rattle.std.proofs.Common.{◌≡◌, ◌∙◌, ◌+◌, ◌++◌, ◌∷◌, [], sym, subst, take, get_or, arith}
 use Rattle.std.proofs.lemmas.List.{take_more}
 use Rattle.mpw_roles.specs.declared.pairs.Pair.{Pair}

@@ -1,4 +1,4 @@
--- The next name goes last.
+-- The next name is added at the end.
 use Rattle.std.proofs.Common.{◌∙◌, ◌++◌, ◌∷◌, [], sym, get_or, refl}
 use Rattle.std.proofs.lemmas.Option.{get_or_from_slice_get}
 use Rattle.mpw_roles.specs.Internal.Table.{name_of}

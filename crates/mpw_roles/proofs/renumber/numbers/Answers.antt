@@ -1,4 +1,4 @@
--- The next number goes last.
+-- The next number is added at the end.
 use Rattle.std.proofs.Common.{◌∙◌, ◌++◌, ◌∷◌, [], ap, sym, arith}
 use Rattle.mpw_roles.proofs.RenumberLemmas.{range-more}
 use Rattle.mpw_roles.proofs.renumber.numbers.Goals as goal

@@ -1,4 +1,4 @@
--- The next pair goes last.
+-- The next pair is added at the end.
 use Rattle.std.proofs.Common.{◌∙◌, ◌++◌, ◌∷◌, [], sym, get_or, refl}
 use Rattle.mpw_roles.specs.Internal.Table.{placed_pair}
 use Rattle.mpw_roles.specs.declared.pairs.Pair.{Pair}

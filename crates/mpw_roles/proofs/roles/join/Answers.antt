@@ -1,4 +1,4 @@
--- The places of both roles are found.
+-- The indexes of both roles are found.
 use Rattle.std.proofs.Common.{◌∙◌, sym, ap, true≢false}
 use Rattle.std.specs.Prelude.{position}
 use Rattle.mpw_geom.specs.Names.{name_eq}

@@ -1,4 +1,4 @@
--- Each turn adds the places below one senior.
+-- Each turn adds the indexes below one senior.
 use Rattle.std.proofs.Common.{◌∙◌, ◌+◌, ◌||◌, sym, ap, drop}
 use Rattle.mpw_roles.specs.Mask.{has}
 use Rattle.mpw_roles.specs.Places.{is_place_below}

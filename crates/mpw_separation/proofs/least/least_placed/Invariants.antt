@@ -7,7 +7,7 @@ use Rattle.mpw_separation.specs.Placed.{ArePlaced, IsBelow}
 use Rattle.mpw_separation.specs.Separation.{breaks, set_names}
 use Rattle.mpw_separation.proofs.least.least_placed.Given as goal
 
--- the least name of the sets so far
+-- the first name in alphabetical order of the sets so far
 abbrev pub invariant-loop-index : goal.invariant-loop-index
 invariant-loop-index l = (h : Hierarchy) (seniors : List (List ℕ)) → IsHierarchy h
     → ArePlaced (role_names h) l.sets l.masks → IsBelow h seniors l.below

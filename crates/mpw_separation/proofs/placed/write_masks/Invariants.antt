@@ -6,7 +6,7 @@ use Rattle.mpw_roles.specs.Places.{is_place_of, mask_at}
 use Rattle.mpw_separation.specs.Placed.{role_lists}
 use Rattle.mpw_separation.proofs.placed.write_masks.Given as goal
 
--- the masks so far are written
+-- the masks so far are made
 abbrev pub invariant-loop-index : goal.invariant-loop-index
 invariant-loop-index l = record {
   long : length l.masks ≡ length l.fn.masks;

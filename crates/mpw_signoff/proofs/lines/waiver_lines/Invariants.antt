@@ -2,7 +2,7 @@ use Rattle.std.proofs.Common.{◌≡◌, ◌≤◌, ◌++◌, length, drop}
 use Rattle.mpw_signoff.specs.WaiverLines.{lines_from}
 use Rattle.mpw_signoff.proofs.lines.waiver_lines.Given as goal
 
--- the lines so far, with those that are to come
+-- the lines so far, with those that are left
 abbrev pub invariant-loop-place : goal.invariant-loop-place
 invariant-loop-place l = record {
   within : l.place ≤ length l.book;

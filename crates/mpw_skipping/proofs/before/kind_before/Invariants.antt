@@ -2,7 +2,7 @@ use Rattle.std.proofs.Common.{◌≡◌, length}
 use Rattle.mpw_skipping.specs.Before.{kind_before, kind_until}
 use Rattle.mpw_skipping.proofs.before.kind_before.Given as goal
 
--- from the type so far what is left leads to the same
+-- from the type so far, the remaining records lead to the same result
 abbrev pub invariant-loop-found : goal.invariant-loop-found
 invariant-loop-found l = kind_until l.offset l.last l.finds ≡ kind_before l.text l.offset
 

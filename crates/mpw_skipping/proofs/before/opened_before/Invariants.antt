@@ -2,7 +2,7 @@ use Rattle.std.proofs.Common.{◌≡◌, length}
 use Rattle.mpw_skipping.specs.Before.{opened_before, opened_until}
 use Rattle.mpw_skipping.proofs.before.opened_before.Given as goal
 
--- from what is open here what is left leads to the same
+-- from what is open here, the remaining records lead to the same result
 abbrev pub invariant-loop-found : goal.invariant-loop-found
 invariant-loop-found l = opened_until l.offset l.opened l.finds ≡ opened_before l.text l.offset
 

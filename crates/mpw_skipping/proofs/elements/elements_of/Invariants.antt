@@ -2,7 +2,7 @@ use Rattle.std.proofs.Common.{◌≡◌, ◌++◌, length}
 use Rattle.mpw_skipping.specs.Elements.{elements_in, elements_of}
 use Rattle.mpw_skipping.proofs.elements.elements_of.Given as goal
 
--- with those in what is left these are all
+-- with those in the remaining records these are all
 abbrev pub invariant-loop-found : goal.invariant-loop-found
 invariant-loop-found l = l.spans.items ++ elements_in l.opened l.finds ≡ elements_of l.text
 

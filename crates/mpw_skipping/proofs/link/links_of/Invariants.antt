@@ -3,7 +3,7 @@ use Rattle.mpw_skipping.specs.Internal.Passes.{link_of}
 use Rattle.mpw_skipping.specs.Structures.{links_in, links_of}
 use Rattle.mpw_skipping.proofs.link.links_of.Given as goal
 
--- with those in what is left these are all
+-- with those in the remaining records these are all
 abbrev pub invariant-loop-found : goal.invariant-loop-found
 invariant-loop-found l =
     map link_of l.links.items ++ links_in l.text l.standing l.finds ≡ links_of l.text

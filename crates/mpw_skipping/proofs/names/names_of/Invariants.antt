@@ -2,7 +2,7 @@ use Rattle.std.proofs.Common.{◌≡◌, ◌++◌, length, map}
 use Rattle.mpw_skipping.specs.Names.{names_in, names_of}
 use Rattle.mpw_skipping.proofs.names.names_of.Given as goal
 
--- with those in what is left these are all
+-- with those in the remaining records these are all
 abbrev pub invariant-loop-found : goal.invariant-loop-found
 invariant-loop-found l =
     map (λ n. n.now) l.names.items ++ names_in l.kind l.opened l.finds ≡ names_of l.kind l.text

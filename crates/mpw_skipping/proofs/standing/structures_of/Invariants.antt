@@ -2,7 +2,7 @@ use Rattle.std.proofs.Common.{◌≡◌, ◌++◌, length}
 use Rattle.mpw_skipping.specs.Structures.{structures_in, structures_of}
 use Rattle.mpw_skipping.proofs.standing.structures_of.Given as goal
 
--- with those in what is left these are all
+-- with those in the remaining records these are all
 abbrev pub invariant-loop-found : goal.invariant-loop-found
 invariant-loop-found l =
     l.spans.items ++ structures_in l.standing l.finds ≡ structures_of l.text

@@ -6,7 +6,7 @@ use Rattle.mpw_geom.specs.Least.{IsLeast}
 use Rattle.mpw_waiver.specs.Signing.{own_cell}
 use Rattle.mpw_waiver.proofs.own.least_own_cell.Given as goal
 
--- the least of the numbers so far
+-- the first in alphabetical order of the numbers so far
 abbrev pub invariant-loop-number : goal.invariant-loop-number
 invariant-loop-number l =
     IsLeast (filter_map (λ number. own_cell l.user (slice_get l.shelf number))

@@ -2,7 +2,7 @@ use Rattle.std.proofs.Common.{◌≡◌, ◌≤◌, None, drop, length}
 use Rattle.mpw_wire.specs.Keys.{cut_last}
 use Rattle.mpw_wire.proofs.key.cut_last.Given as goal
 
--- what was looked at has no colon
+-- the part that was searched has no colon
 abbrev pub invariant-loop-at : goal.invariant-loop-at
 invariant-loop-at l = (cut_last (drop l.at l.word) ≡ None) × (l.at ≤ length l.word)
 

@@ -2,7 +2,7 @@ use Rattle.std.proofs.Common.{◌≡◌, length}
 use Rattle.std.specs.Io.KnownBytes.{Consumes}
 use Rattle.mpw_wire.proofs.line.take_bytes.Given as goal
 
--- the bytes so far, one a turn, are off the front
+-- the bytes so far, one each turn, are off the front
 abbrev pub invariant-loop : goal.invariant-loop
 invariant-loop g l =
     Consumes (g.R.Source.remaining l.initial.reader) (g.R.Source.remaining l.reader) l.bytes.items

@@ -3,7 +3,7 @@ use Rattle.std.specs.Io.KnownBytes.{Consumes}
 use Rattle.mpw_wire.specs.Reading.{IsUnbroken}
 use Rattle.mpw_wire.proofs.line.take_line.Given as goal
 
--- the bytes so far, one a turn, are off the front, and none of them is a line feed
+-- the bytes so far, one each turn, are off the front, and none of them is a line feed
 abbrev pub invariant-loop : goal.invariant-loop
 invariant-loop g l =
     Consumes (g.R.Source.remaining l.initial.reader) (g.R.Source.remaining l.reader) l.line.items

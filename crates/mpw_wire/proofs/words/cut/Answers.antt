@@ -1,4 +1,4 @@
--- What stands behind the first space.
+-- What comes after the first space.
 use Rattle.std.proofs.Common.{◌∷◌, ◌+◌, ◌-◌, length, take, drop, length-drop, sym, ap, ◌∙◌, arith}
 use Rattle.std.proofs.lemmas.List.{take_all}
 use Rattle.mpw_wire.specs.Words.{words}

@@ -1,4 +1,4 @@
--- Each answer is that of the job at its place.
+-- Each answer is that of the job at its index.
 use Rattle.std.proofs.Common.{ap, map, ◌∙◌}
 use Rattle.std.proofs.lemmas.Result.{MatchResult-weaker}
 use Rattle.rayon.proofs.ToStd.{slice-AllZip}

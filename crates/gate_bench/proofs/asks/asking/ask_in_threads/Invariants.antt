@@ -1,4 +1,4 @@
--- the name of the new desk is what it is made of: its blank's ledger and register, and its core
+-- the name of the new desk consists of the ledger and the register of its blank, and its core
 use Rattle.std.specs.Prelude.{None}
 use Rattle.mpw_events.specs.History.{kept_desk}
 use Rattle.gate_bench.proofs.asks.asking.ask_in_threads.Given as goal

@@ -1,4 +1,4 @@
--- The closure tells the name from the others.
+-- The closure distinguishes the name from the others.
 use Rattle.std.proofs.Common.{rules, not}
 use Rattle.std.proofs.lemmas.Fn.{filter_same}
 use Rattle.mpw_geom.specs.Names.{name_eq}

@@ -1,4 +1,4 @@
--- Each orientation takes a point's coordinates as they are or negated: both are as they should be, and stay in the plane.
+-- Each orientation takes a point's coordinates as they are or negated: both are correct, and stay in the plane.
 use Rattle.std.proofs.Common.{refl}
 use Rattle.mpw_geom.specs.Placing.{oriented_point}
 use Rattle.mpw_geom.proofs.Scalars.{kept, kept_twice, negated, negated_thrice, kept_coordinate, negated_coordinate}

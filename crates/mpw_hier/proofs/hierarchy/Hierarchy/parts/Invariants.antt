@@ -5,7 +5,7 @@ use Rattle.mpw_hier.specs.Internal.Building.{AreSizesHere}
 use Rattle.mpw_hier.specs.Values.{flats}
 use Rattle.mpw_hier.proofs.hierarchy.Hierarchy.parts.Given as goal
 
--- what stands before the element, and what is to come
+-- what comes before the element, and what follows
 abbrev pub invariant-loop-element : goal.invariant-loop-element
 invariant-loop-element l =
     (l.shapes.items ++ shape_places l.element (drop l.element l.elements) ≡ shape_places 0

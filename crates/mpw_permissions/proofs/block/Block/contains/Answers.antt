@@ -1,4 +1,4 @@
--- A grant one of whose slots isn't there is none of them.
+-- A grant with a slot that isn't there is none of them.
 use Rattle.std.proofs.Common.{◌∙◌, sym, ap}
 use Rattle.std.specs.List.{list_any}
 use Rattle.mpw_roles.specs.Mask.{has}

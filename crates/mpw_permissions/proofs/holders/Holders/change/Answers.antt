@@ -1,4 +1,4 @@
--- A grant of the operation to a role is a place more or less; others change nothing.
+-- A grant of the operation to a role is one index more or less; others change nothing.
 use Rattle.std.proofs.Common.{◌∙◌, sym, ap, ◌||◌, ◌&&◌, ◌==◌, not}
 use Rattle.std.proofs.lemmas.Result.{on_ok_weaker}
 use Rattle.mpw_roles.specs.Hierarchy.{role_names}

@@ -1,4 +1,4 @@
--- The masks of the operation tell whether the role was granted it.
+-- The masks of the operation say whether the role has the grant.
 use Rattle.std.proofs.Common.{◌≡◌, ◌∙◌, sym, ap, [], ◌<◌, length, get_or, arith}
 use Rattle.std.specs.List.{list_any}
 use Rattle.mpw_roles.specs.Hierarchy.{Hierarchy, role_names}

@@ -1,4 +1,4 @@
--- The masks meet where a grant is to a role at or below the seniors.
+-- The masks have a common index if a grant is to a role at or below the seniors.
 use Rattle.std.proofs.Common.{◌≡◌, ◌∙◌, sym, ap, [], ◌<◌, ℕ, length, get_or, arith}
 use Rattle.std.specs.List.{list_any}
 use Rattle.mpw_roles.specs.Hierarchy.{role_names}

@@ -1,4 +1,4 @@
--- The names behind are none of those in the map.
+-- The names after the map are none of those in it.
 use Rattle.std.proofs.Common.{◌≡◌, ◌∙◌, ◌++◌, AllPairs, ap, sym, subst}
 use Rattle.mpw_placings.specs.Internal.Maps.{placements_of}
 use Rattle.mpw_placings.specs.Placements.{DifferInName}

@@ -1,4 +1,4 @@
--- A name that the map has stands there once.
+-- A name that the map has occurs there once.
 use Rattle.std.proofs.Common.{◌≡◌, ◌∙◌, List, Option, None, Some, is_some, false, AllPairs, ap, sym, subst, refl}
 use Rattle.std.specs.Prelude.{filter, not}
 use Rattle.std.proofs.lemmas.Result.{IfOk-weaker}

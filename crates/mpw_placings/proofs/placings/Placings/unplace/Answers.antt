@@ -1,4 +1,4 @@
--- What is left of each part is left of the whole.
+-- Removing from each part removes from the whole.
 use Rattle.std.proofs.Common.{not}
 use Rattle.mpw_placings.specs.Placements.{is_at}
 use Rattle.mpw_placings.proofs.Maps.{apart_left, apart_right}

@@ -1,4 +1,4 @@
--- The mask, beside the session that it is of.
+-- The mask, next to its session.
 use Rattle.std.proofs.Common.{◌≡◌, ◌∙◌, ℕ, List, sym, ap, subst, option_map, Option, [], ◌==◌}
 use Rattle.std.specs.Map.{lookup}
 use Rattle.std.specs.Option.{option_map_or}

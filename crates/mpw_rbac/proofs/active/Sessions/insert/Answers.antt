@@ -1,4 +1,4 @@
--- One session changes, or comes last.
+-- One session changes, or is added at the end.
 use Rattle.std.proofs.Common.{◌∙◌, sym, ap, subst, ◌==◌}
 use Rattle.mpw_rbac.specs.Table.{insert_entry}
 use Rattle.mpw_rbac.specs.Masked.{AreActing, KeptSessions, sessions_in}

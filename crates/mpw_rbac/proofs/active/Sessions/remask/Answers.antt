@@ -1,4 +1,4 @@
--- Each session stays, and its mask is written.
+-- Each session stays, and its mask is made.
 use Rattle.std.proofs.Common.{rules, ◌∙◌, ap, true}
 use Rattle.mpw_rbac.specs.Masked.{KeptSessions, sessions_in}
 use Rattle.mpw_rbac.specs.declared.session.Session.{Session}

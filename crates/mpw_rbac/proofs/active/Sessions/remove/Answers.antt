@@ -1,4 +1,4 @@
--- One session goes, and the others stay.
+-- One session is removed, and the others stay.
 use Rattle.std.proofs.Common.{rules, ◌∙◌, ℕ, sym, ap, subst, not, ◌==◌}
 use Rattle.std.proofs.lemmas.Fn.{filter_same}
 use Rattle.mpw_rbac.specs.Masked.{AreActing, KeptSessions, sessions_in}

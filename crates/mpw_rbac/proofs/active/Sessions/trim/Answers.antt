@@ -1,4 +1,4 @@
--- Each session is kept by itself, and its mask is written.
+-- Each session is trimmed by itself, and its mask is made.
 use Rattle.std.proofs.Common.{rules, ◌∙◌, ap}
 use Rattle.mpw_rbac.specs.Masked.{AreAuthorized, KeptSessions}
 use Rattle.mpw_rbac.specs.Policy.{is_user, kept_roles, kept_sessions}

@@ -1,4 +1,4 @@
--- The mask that is kept beside the session.
+-- The mask that is stored next to the session.
 use Rattle.std.proofs.Common.{◌∙◌, ap}
 use Rattle.mpw_roles.specs.Places.{is_place_below}
 use Rattle.mpw_rbac.specs.Policy.{Policy}

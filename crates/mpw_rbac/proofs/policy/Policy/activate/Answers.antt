@@ -1,4 +1,4 @@
--- An authorized role becomes active, where no set is broken.
+-- An authorized role becomes active if no set is broken.
 use Rattle.std.proofs.Common.{◌≡◌, ◌∙◌, sym, ap, subst, true, false, Ok, Err, [], ◌∷◌, ◌++◌, ◌==◌, is_some}
 use Rattle.mpw_rbac.specs.Table.{insert_entry}
 use Rattle.mpw_geom.specs.Names.{contains_name}
@@ -16,7 +16,7 @@ use Rattle.mpw_rbac.specs.Masked.{IsBelow}
 use Rattle.mpw_rbac.proofs.policy.Policy.activate.Goals.{After-broken_by_active, In_ok-insert}
 use Rattle.mpw_rbac.proofs.policy.Policy.activate.Goals as goal
 
--- the tests before that of the sets, and whom that asks about
+-- the tests before that of the sets, and the session that it tests
 tested : (c : After-broken_by_active)
     → (is_some (session_of c.args.self.now c.args.connection) ≡ true)
     × (contains_name (authorized c.args.self.now (rows.user_of c.args.self.now c.args.connection))
@@ -39,7 +39,7 @@ tested c =
           ∙ ap (λ l. least_broken p.roles p.dsd (l ∷ [])) (sym asked),
     )
 
--- the row, and that the policy that it leaves is sound
+-- the decision table accepts, and the policy after it is sound
 accepted : (c : In_ok-insert)
     → Sound (record (shown c.self.inside) { sessions = c.insert.new.self.sessions })
     × (rows.activate c.args.self.now c.args.connection c.args.role.now

@@ -1,4 +1,4 @@
--- A new user goes last, without roles.
+-- A new user is added at the end, without roles.
 use Rattle.std.proofs.Common.{◌≡◌, ◌∙◌, sym, ap, subst, true, false, Ok, [], ◌∷◌, ◌++◌, length}
 use Rattle.std.specs.Prelude.{nat_lt}
 use Rattle.std.proofs.lemmas.Result.{err_from_is_err_and}

@@ -1,4 +1,4 @@
--- A user is assigned one more role, where no set is broken.
+-- A user is assigned one more role if no set is broken.
 use Rattle.std.proofs.Common.{◌≡◌, ◌∙◌, sym, ap, subst, true, false, Ok, Err, [], ◌∷◌, ◌++◌}
 use Rattle.mpw_rbac.specs.Table.{insert_entry}
 use Rattle.mpw_geom.specs.Names.{name_eq, contains_name}
@@ -16,7 +16,7 @@ use Rattle.mpw_rbac.specs.Masked.{AreAuthorized}
 use Rattle.mpw_rbac.proofs.policy.Policy.assign.Goals.{After-broken_by_assigned, In_ok-users}
 use Rattle.mpw_rbac.proofs.policy.Policy.assign.Goals as goal
 
--- the tests before that of the sets, and whom that asks about
+-- the tests before that of the sets, and the user that it tests
 tested : (c : After-broken_by_assigned) → (is_user c.args.self.now c.args.user.now ≡ true)
     × (is_role c.args.self.now.roles c.args.role.now ≡ true)
     × (contains_name (assigned_roles c.args.self.now c.args.user.now) c.args.role.now ≡ false)
@@ -37,7 +37,7 @@ tested c =
           ∙ ap (λ l. least_broken p.roles p.ssd (l ∷ [])) (sym asked),
     )
 
--- the row, and that the policy that it leaves is sound
+-- the decision table accepts, and the policy after it is sound
 accepted : (c : In_ok-users) → Sound
     (record (shown c.self.inside) { users = c.in_ok-users.users.users })
     × (rows.assign c.args.self.now c.args.connection c.args.user.now c.args.role.now

@@ -1,4 +1,4 @@
--- The roles at the places of the user's mask.
+-- The roles at the indexes of the user's mask.
 use Rattle.std.proofs.Common.{◌∙◌, sym, ap}
 use Rattle.mpw_roles.specs.Order.{roles_below}
 use Rattle.mpw_roles.specs.Places.{is_place_below}

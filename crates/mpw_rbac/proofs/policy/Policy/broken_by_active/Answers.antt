@@ -1,4 +1,4 @@
--- One holder, whose mask is kept.
+-- One holder, whose mask is stored.
 use Rattle.std.proofs.Common.{◌∙◌, sym, ap, subst, [], ◌∷◌}
 use Rattle.mpw_roles.specs.Order.{IsHierarchy}
 use Rattle.mpw_separation.specs.Separation.{least_broken}

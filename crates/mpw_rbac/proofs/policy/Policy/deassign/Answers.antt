@@ -1,4 +1,4 @@
--- The assignment goes, and then the sessions are trimmed.
+-- The assignment is removed, and then the sessions are trimmed.
 use Rattle.std.proofs.Common.{◌≡◌, ◌∙◌, sym, ap, subst, true, Ok}
 use Rattle.mpw_geom.specs.Names.{name_eq, contains_name, without_name}
 use Rattle.mpw_rbac.specs.Policy.{Policy, assigned_roles, trim, kept_sessions}
@@ -14,7 +14,7 @@ use Rattle.mpw_rbac.specs.Masked.{AreActing, AreAuthorized}
 use Rattle.mpw_rbac.proofs.policy.Policy.deassign.Goals.{After-trim}
 use Rattle.mpw_rbac.proofs.policy.Policy.deassign.Goals as goal
 
--- that the role is assigned, and what is left
+-- the role is assigned, and the policy after it
 left : (c : After-trim)
     → (contains_name (assigned_roles c.args.self.now c.args.user.now) c.args.role.now ≡ true)
     × (record (shown c.self.inside) {

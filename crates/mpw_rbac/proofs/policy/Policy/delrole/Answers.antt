@@ -1,4 +1,4 @@
--- The role goes everywhere, and then the sessions are trimmed.
+-- The role is removed everywhere, and then the sessions are trimmed.
 use Rattle.std.proofs.Common.{◌≡◌, ◌∙◌, sym, ap, subst, true, false, ◌||◌, Ok}
 use Rattle.mpw_roles.specs.Hierarchy.{is_role, role_names}
 use Rattle.mpw_separation.specs.Separation.{uses_role}
@@ -16,7 +16,7 @@ use Rattle.mpw_rbac.proofs.Shown.{shown}
 use Rattle.mpw_rbac.proofs.policy.Policy.delrole.Goals.{After-place}
 use Rattle.mpw_rbac.proofs.policy.Policy.delrole.Goals as goal
 
--- that no set uses the role, and what is left
+-- no set uses the role, and the policy after it
 left : (c : After-place)
     → ((uses_role (shown c.self.inside).ssd c.args.role.now || uses_role (shown c.self.inside).dsd
     c.args.role.now) ≡ false)

@@ -1,4 +1,4 @@
--- The user goes, and then the sessions are trimmed.
+-- The user is removed, and then the sessions are trimmed.
 use Rattle.std.proofs.Common.{◌≡◌, ◌∙◌, sym, subst}
 use Rattle.mpw_geom.specs.Names.{name_eq}
 use Rattle.mpw_rbac.specs.Policy.{policy_of, trim, kept_sessions}

@@ -12,7 +12,7 @@ use Rattle.mpw_rbac.specs.Masked.{IsBelow}
 use Rattle.mpw_rbac.proofs.policy.Policy.drop_role.Goals.{In_ok-insert}
 use Rattle.mpw_rbac.proofs.policy.Policy.drop_role.Goals as goal
 
--- the row, and that the policy that it leaves is sound
+-- the decision table accepts, and the policy after it is sound
 accepted : (c : In_ok-insert)
     → Sound (record (shown c.self.inside) { sessions = c.insert.new.self.sessions })
     × (rows.drop_role c.args.self.now c.args.connection c.args.role.now

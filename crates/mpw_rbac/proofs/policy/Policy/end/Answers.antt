@@ -1,4 +1,4 @@
--- The connection's session goes, and the others stay.
+-- The connection's session is removed, and the others stay.
 use Rattle.std.proofs.Common.{sym, ap, subst}
 use Rattle.mpw_rbac.specs.Policy.{policy_of}
 use Rattle.mpw_rbac.specs.Sound.{Sound}

@@ -1,4 +1,4 @@
--- The permissions of the row move in.
+-- The permissions of the decision table are moved in.
 use Rattle.std.proofs.Common.{◌≡◌, ◌∙◌, sym, ap, subst, Ok}
 use Rattle.mpw_rbac.specs.Policy.{Policy, policy_of}
 use Rattle.mpw_rbac.specs.Rows as rows
@@ -11,7 +11,7 @@ use Rattle.mpw_separation.specs.Placed.{AreSetsPlaced}
 use Rattle.mpw_rbac.proofs.policy.Policy.grant.Goals.{In_ok-permissions}
 use Rattle.mpw_rbac.proofs.policy.Policy.grant.Goals as goal
 
--- the row of the policy that the fields show, and its roles
+-- the decision table of the policy that the fields show, and its roles
 accepted : (c : In_ok-permissions)
     → (rows.grant (shown c.self.inside) c.args.connection c.args.grant
     ≡ Ok (record (shown c.self.inside) { granted = c.in_ok-permissions.permissions.granted }))

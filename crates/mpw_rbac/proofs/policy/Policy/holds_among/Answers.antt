@@ -1,4 +1,5 @@
--- The sets are placed for the other hierarchy too, and the least name of a broken one is told.
+-- The sets' masks are right in the other hierarchy too, and the first broken set in alphabetical
+-- order is returned.
 use Rattle.std.proofs.Common.{◌≡◌, ◌∙◌, ℕ, List, sym, ap, subst, Err}
 use Rattle.mpw_roles.specs.Hierarchy.{role_names}
 use Rattle.mpw_separation.specs.Placed.{AreSetsPlaced}
@@ -26,7 +27,7 @@ least_dynamic-requires c =
     (sym (c.requires.roles ∙ ap (λ (p : Policy). role_names p.roles) (sym c.self.view_is)))
     c.self.invariant.placed
 
--- whom the sets are asked of
+-- the lists that the sets test
 asked : (c : After-least_static)
     → least_broken c.args.roles.now c.self.inside.sets.sets.ssd
     (assigned_lists c.args.users.now.users)

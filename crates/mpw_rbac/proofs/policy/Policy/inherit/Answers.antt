@@ -19,7 +19,7 @@ use Rattle.mpw_rbac.proofs.Shown.{shown}
 use Rattle.mpw_rbac.proofs.policy.Policy.inherit.Goals.{After-remask}
 use Rattle.mpw_rbac.proofs.policy.Policy.inherit.Goals as goal
 
--- that no set is broken, and what is left
+-- no set is broken, and the policy after it
 paired : (c : After-remask)
     → (least_broken (with_pair (shown c.self.inside).roles c.args.senior.now c.args.junior.now)
     (shown c.self.inside).ssd (assigned_lists (shown c.self.inside).users) ≡ None)

@@ -1,4 +1,4 @@
--- The masks beside the sessions are theirs.
+-- The masks of the sessions are right.
 use Rattle.std.proofs.Common.{sym, subst, ℕ, List}
 use Rattle.mpw_roles.specs.Hierarchy.{Hierarchy}
 use Rattle.mpw_roles.specs.declared.mask.Mask.{Mask}

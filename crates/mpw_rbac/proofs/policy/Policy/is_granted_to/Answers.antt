@@ -1,4 +1,4 @@
--- What the roles and grants answer, of the policy.
+-- The answer of the roles and grants is that of the policy.
 use Rattle.std.proofs.Common.{◌∙◌, sym, ap}
 use Rattle.std.specs.List.{list_any}
 use Rattle.mpw_roles.specs.Order.{roles_below}

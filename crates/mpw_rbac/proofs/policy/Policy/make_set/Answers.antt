@@ -13,7 +13,7 @@ use Rattle.mpw_rbac.proofs.Shown.{with-sets}
 use Rattle.mpw_rbac.proofs.policy.Policy.make_set.Goals.{After-is_broken, In_ok-make}
 use Rattle.mpw_rbac.proofs.policy.Policy.make_set.Goals as goal
 
--- the row, behind its tests of the name and of the roles
+-- the decision table, after its tests of the name and of the roles
 row : (c : After-is_broken) → TellsSet c.args.kind c.args.self.now c.args.connection c.args.set
 row c =
     let q = c.args.self.now in
@@ -21,7 +21,7 @@ row c =
     (subst Sound c.self.view_is c.self.invariant.sound)
     c.in_ok-may_make_set.ensures.new c.in_ok-may_make_set.ensures.roles
 
--- the policy that it leaves
+-- the policy after it
 abbrev left : In_ok-make → Policy
 left c =
     let p = c.self.inside in

@@ -12,7 +12,7 @@ use Rattle.mpw_rbac.specs.Masked.{IsBelow}
 use Rattle.mpw_rbac.proofs.policy.Policy.open.Goals.{In_ok-insert}
 use Rattle.mpw_rbac.proofs.policy.Policy.open.Goals as goal
 
--- what was tested of the policy that the fields show, and its sessions then
+-- what was tested of the policy that the fields show, and its sessions after that
 opened : (c : In_ok-insert)
     → (rows.is_login (shown c.self.inside) c.args.user.now c.args.digest.now ≡ true)
     × (is_some (session_of (shown c.self.inside) c.args.connection) ≡ false)

@@ -1,4 +1,4 @@
--- The set goes, and the others stay.
+-- The set is removed, and the others stay.
 use Rattle.std.proofs.Common.{sym, subst}
 use Rattle.mpw_separation.specs.Separation.{sets_of, without_set}
 use Rattle.mpw_rbac.specs.Internal.Kinds.{all_sets, kind_sets}

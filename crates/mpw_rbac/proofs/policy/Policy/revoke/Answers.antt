@@ -1,4 +1,4 @@
--- The grant goes, and the others stay.
+-- The grant is removed, and the others stay.
 use Rattle.std.proofs.Common.{◌≡◌, ◌∙◌, sym, ap, subst, true, Ok, not, filter}
 use Rattle.std.specs.List.{list_any}
 use Rattle.mpw_permissions.specs.Grant.{grant_eq}

@@ -1,4 +1,4 @@
--- The pair goes, and then the sessions are trimmed.
+-- The pair is removed, and then the sessions are trimmed.
 use Rattle.std.proofs.Common.{◌≡◌, ◌∙◌, sym, ap, subst, true, Ok}
 use Rattle.mpw_roles.specs.Hierarchy.{is_immediate, without_pair}
 use Rattle.mpw_rbac.specs.Policy.{Policy, policy_of, trim, kept_sessions}
@@ -15,7 +15,7 @@ use Rattle.mpw_rbac.proofs.PlacedLemmas.{names-uninherited}
 use Rattle.mpw_rbac.proofs.policy.Policy.uninherit.Goals.{After-trim}
 use Rattle.mpw_rbac.proofs.policy.Policy.uninherit.Goals as goal
 
--- that the pair was there, and what is left
+-- the pair existed, and the policy after it
 left : (c : After-trim) → (is_immediate (shown c.self.inside).roles c.args.senior.now
     c.args.junior.now ≡ true)
     × (policy_of c.in_ok-users.users.users c.in_ok-permissions.permissions.roles

@@ -1,4 +1,4 @@
--- The mask is made anew.
+-- The mask is made again.
 use Rattle.std.proofs.Common.{◌∙◌, ap, subst}
 use Rattle.mpw_rbac.specs.Masked.{IsBelow}
 use Rattle.mpw_rbac.specs.Policy.{Policy}

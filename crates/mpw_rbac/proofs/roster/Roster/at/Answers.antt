@@ -1,4 +1,4 @@
--- The user stands at the place.
+-- The user at the index.
 use Rattle.std.proofs.Common.{◌∙◌, sym, ap, length, Some, true≢false, inl, inr}
 use Rattle.std.specs.Prelude.{slice_get}
 use Rattle.std.proofs.lemmas.Bool.{cases_lt, lt-ltb}

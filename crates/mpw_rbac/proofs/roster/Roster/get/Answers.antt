@@ -1,4 +1,4 @@
--- The value at the place of the name.
+-- The value at the index of the name.
 use Rattle.std.proofs.Common.{◌∙◌}
 use Rattle.mpw_rbac.proofs.RosterLemmas.{value-at-place, value-nowhere}
 use Rattle.mpw_rbac.proofs.roster.Roster.get.Goals as goal

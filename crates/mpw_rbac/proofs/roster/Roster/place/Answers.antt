@@ -1,4 +1,4 @@
--- The number of a name is the place of its user.
+-- The number of a name is the index of its user.
 use Rattle.std.proofs.Common.{◌∙◌, ◌<◌, sym, ap, subst, length}
 use Rattle.std.specs.Prelude.{position, IfSome}
 use Rattle.mpw_geom.specs.Names.{name_eq}

@@ -1,4 +1,4 @@
--- The roles stand in the values.
+-- The roles are in the values.
 use Rattle.std.proofs.Common.{◌∙◌, sym, ap, map}
 use Rattle.mpw_rbac.specs.declared.session.User.{User}
 use Rattle.mpw_rbac.proofs.RosterLemmas.{zip-roles}

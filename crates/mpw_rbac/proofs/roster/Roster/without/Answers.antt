@@ -1,4 +1,4 @@
--- The user goes from both lists.
+-- The user is removed from both lists.
 use Rattle.std.proofs.Common.{◌≡◌, ◌∙◌, sym, ap, subst, is_some, List, length}
 use Rattle.std.specs.Prelude.{IfOk, remove, zip}
 use Rattle.mpw_geom.specs.Names.{name_eq}

@@ -1,4 +1,4 @@
--- The mask of the user is put beside the others.
+-- The mask of the user is put among the others.
 use Rattle.std.proofs.Common.{◌≡◌, ◌∙◌, sym, ap, subst, List, [], ◌∷◌, ◌++◌, map}
 use Rattle.std.specs.Prelude.{position, slice_set}
 use Rattle.std.specs.Option.{option_map_or}

@@ -3,7 +3,7 @@ use Rattle.mpw_roles.specs.Marks.{marked_names}
 use Rattle.mpw_roles.specs.Places.{marks_from}
 use Rattle.mpw_roles.proofs.below.Below.names.Given as goal
 
--- the names so far and those to come are all
+-- the names so far and those that are left are all
 abbrev pub invariant-loop-index : goal.invariant-loop-index
 invariant-loop-index l = l.names ++ marked_names (drop l.index l.self-inside.table.now)
     (drop l.index (marks_from 0 (length l.self-inside.table.now) l.self-inside.mask))

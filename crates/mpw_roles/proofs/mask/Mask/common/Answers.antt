@@ -1,4 +1,4 @@
--- Each turn adds the places of a word.
+-- Each turn adds the indexes of a word.
 use Rattle.std.proofs.Common.{◌≡◌, ◌∙◌, ◌+◌, ◌*◌, ◌^◌, ◌<◌, sym, ap, arith, get_or}
 use Rattle.std.specs.Prelude.{bit_and, count_ones}
 use Rattle.std.proofs.lemmas.Nat.{and_le_l}

@@ -1,4 +1,4 @@
--- The name is one of those in the set, or stands behind them.
+-- The name is one of those in the set, or comes after them.
 use Rattle.std.proofs.Common.{◌∙◌, ◌+◌, sym, ap, length, Some}
 use Rattle.std.specs.Prelude.{position}
 use Rattle.std.specs.Option.{option_map}

@@ -1,4 +1,4 @@
--- A new role goes last, without pairs.
+-- A new role is added at the end, without pairs.
 use Rattle.std.proofs.Common.{◌≡◌, ◌∙◌, sym, ap, subst, arith, false, ◌<◌, length, eqb}
 use Rattle.mpw_roles.specs.Hierarchy.{is_role, with_role}
 use Rattle.mpw_roles.specs.Mask.{has}

@@ -1,4 +1,4 @@
--- Two places, and the bit of the mask at the one.
+-- Two indexes, and the bit of the mask at the one.
 use Rattle.std.proofs.Common.{◌∙◌, sym, ap, arith, is_some}
 use Rattle.mpw_roles.specs.Mask.{has}
 use Rattle.mpw_roles.specs.Order.{at_least}

@@ -1,4 +1,4 @@
--- The roles whose places the mask has.
+-- The roles whose indexes the mask has.
 use Rattle.std.proofs.Common.{◌∙◌, sym, ap}
 use Rattle.mpw_roles.specs.Order.{roles_below}
 use Rattle.mpw_roles.specs.Places.{is_place_below}

@@ -1,4 +1,4 @@
--- The roles whose places the joined masks have.
+-- The roles whose indexes the joined masks have.
 use Rattle.std.proofs.Common.{◌∙◌, sym, ap}
 use Rattle.mpw_roles.specs.Order.{roles_below}
 use Rattle.mpw_roles.specs.Places.{is_place_below}

@@ -1,4 +1,4 @@
--- A new pair goes behind the others of its senior.
+-- A new pair is added after the others of its senior.
 use Rattle.std.proofs.Common.{◌≡◌, ◌∙◌, sym, ap, arith, length, subst, true, false}
 use Rattle.mpw_roles.specs.Hierarchy.{role_names, with_pair, is_role, is_immediate}
 use Rattle.mpw_roles.specs.Order.{at_least}

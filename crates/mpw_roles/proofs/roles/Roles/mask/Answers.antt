@@ -1,4 +1,4 @@
--- The mask at the place of the role.
+-- The mask at the index of the role.
 use Rattle.std.proofs.Common.{◌∙◌, sym, ap, arith}
 use Rattle.mpw_roles.specs.Mask.{has}
 use Rattle.mpw_roles.specs.Places.{is_place_under}

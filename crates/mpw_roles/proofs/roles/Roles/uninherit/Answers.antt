@@ -1,4 +1,4 @@
--- The pair goes, and the others of its senior stay.
+-- The pair is removed, and the others of its senior stay.
 use Rattle.std.proofs.Common.{◌≡◌, ◌∙◌, sym, subst, true, arith, ap, length}
 use Rattle.mpw_roles.specs.Hierarchy.{is_role, is_immediate, without_pair}
 use Rattle.mpw_roles.specs.Order.{IsHierarchy}
@@ -22,7 +22,7 @@ remove_pair-requires-clause-junior c =
     ∙ sym c.is_immediate.ensures ∙ c.if-not-is_immediate.false in
     c.self.invariant.kept.pairs_of_roles c.args.senior.now c.args.junior.now pair
 
--- the pair was there, its senior is a role, and the roles are those without it
+-- the pair existed, its senior is a role, and the roles are those without it
 gone : (c : After-remove_pair) → (is_immediate c.args.self.now c.args.senior.now c.args.junior.now
     ≡ true) × (is_role c.args.self.now c.args.senior.now ≡ true)
     × (c.remove_pair.new.self ≡ without_pair c.args.self.now c.args.senior.now c.args.junior.now)

@@ -1,4 +1,4 @@
--- The new number goes last, and no pair has it.
+-- The new number is added at the end, and no pair has it.
 use Rattle.std.proofs.Common.{◌≡◌, ◌∙◌, ◌<◌, ℕ, sym, ap, subst, false, true, inl, inr, arith, length, eqb}
 use Rattle.std.proofs.lemmas.Result.{err_from_is_err_and}
 use Rattle.mpw_geom.proofs.Linked.{or_cases}
@@ -10,7 +10,7 @@ use Rattle.mpw_roles.proofs.NumberLemmas.{eqb-back, has-more, once-more, name-nu
 use Rattle.mpw_roles.proofs.table.Table.add.Goals.{After-number_of, In_ok-number}
 use Rattle.mpw_roles.proofs.table.Table.add.Goals as goal
 
--- a name more leaves the roles
+-- one more name leaves the roles unchanged
 same : (c : After-number_of) → entries_of c.number_of.new.names c.self.inside.pairs.items
     c.self.inside.order.items ≡ c.args.self.now
 same c =

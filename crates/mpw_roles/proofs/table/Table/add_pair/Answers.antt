@@ -1,4 +1,4 @@
--- Both names have numbers, and the new pair goes behind the others.
+-- Both names have numbers, and the new pair is added after the others.
 use Rattle.std.proofs.Common.{◌≡◌, ◌∙◌, sym, ap, subst, true, true≢false}
 use Rattle.mpw_roles.specs.Hierarchy.{with_pair}
 use Rattle.mpw_roles.specs.Internal.Table.{IsTable, entries_of, has_number}

@@ -1,4 +1,4 @@
--- The names in the order of the roles, and the pairs by places.
+-- The names in the order of the roles, and the pairs by indexes.
 use Rattle.std.proofs.Common.{◌≡◌, ◌∙◌, sym, ap, subst, map, length, arith}
 use Rattle.std.specs.List.{range_with_len}
 use Rattle.mpw_roles.specs.Internal.Table.{IsTable, entries_of, name_of, placed_pair}

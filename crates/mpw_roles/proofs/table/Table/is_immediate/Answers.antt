@@ -1,4 +1,4 @@
--- A pair is one of numbers.
+-- A pair is stored as two numbers.
 use Rattle.std.proofs.Common.{◌∙◌, sym, ap}
 use Rattle.std.specs.List.{list_any}
 use Rattle.mpw_geom.specs.Names.{contains_name}

@@ -1,4 +1,4 @@
--- The name with the number at the place.
+-- The name with the number at the index.
 use Rattle.std.proofs.Common.{◌∙◌, sym, arith, length, ap, get_or, true≢false, inl, inr}
 use Rattle.std.proofs.lemmas.Bool.{cases_lt, lt-ltb}
 use Rattle.mpw_roles.proofs.EntryLemmas.{name-at-place, no-name-at}

@@ -1,4 +1,4 @@
--- A role's place is that of its name's number.
+-- A role's index is that of its name's number.
 use Rattle.std.proofs.Common.{◌∙◌, sym, ap, is_some, eqb}
 use Rattle.std.specs.Prelude.{position}
 use Rattle.mpw_geom.specs.Names.{name_eq}

@@ -1,4 +1,4 @@
--- The role's number goes, and each pair with it.
+-- The role's number is removed, and each pair with it.
 use Rattle.std.proofs.Common.{◌∙◌, sym, ap, subst, not, eqb, true≢false, filter}
 use Rattle.mpw_roles.specs.Hierarchy.{without_role}
 use Rattle.mpw_roles.specs.Internal.Table.{IsTable, entries_of, has_number, is_end}

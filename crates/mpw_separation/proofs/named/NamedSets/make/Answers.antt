@@ -1,4 +1,4 @@
--- The new set goes last.
+-- The new set is added at the end.
 use Rattle.std.proofs.Common.{◌≡◌, ◌∙◌, ◌++◌, ◌∷◌, [], ap, sym, false, true, Ok, arith}
 use Rattle.std.specs.Map.{values_of}
 use Rattle.std.specs.Prelude.{nat_lt, length}

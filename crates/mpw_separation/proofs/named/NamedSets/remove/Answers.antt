@@ -1,4 +1,4 @@
--- The set goes, and the others stay.
+-- The set is removed, and the others stay.
 use Rattle.std.proofs.Common.{◌≡◌, ◌∙◌, ap, sym, subst, is_some, None, Ok, refl}
 use Rattle.std.specs.Map.{lookup, values_of}
 use Rattle.mpw_geom.specs.Names.{name_eq}

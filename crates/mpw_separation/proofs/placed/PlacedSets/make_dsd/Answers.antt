@@ -1,4 +1,4 @@
--- The dynamic sets are placed as the kind's; the static sets stay.
+-- The masks of the dynamic sets are made as those of the kind; the static sets stay.
 use Rattle.std.proofs.Common.{sym, subst}
 use Rattle.mpw_roles.specs.Hierarchy.{role_names}
 use Rattle.mpw_separation.specs.Placed.{ArePlaced, AreSetsPlaced}

@@ -1,4 +1,4 @@
--- The static sets are placed as the kind's; the dynamic sets stay.
+-- The masks of the static sets are made as those of the kind; the dynamic sets stay.
 use Rattle.std.proofs.Common.{sym, subst}
 use Rattle.mpw_roles.specs.Hierarchy.{role_names}
 use Rattle.mpw_separation.specs.Placed.{ArePlaced, AreSetsPlaced}

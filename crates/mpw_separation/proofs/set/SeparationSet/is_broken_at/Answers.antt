@@ -1,4 +1,4 @@
--- The places in common are the roles that are reached.
+-- The indexes in common are those of the roles that are reached.
 use Rattle.std.proofs.Common.{◌≡◌, ◌∙◌, ap, subst, true}
 use Rattle.std.specs.Prelude.{nat_le}
 use Rattle.mpw_roles.specs.Mask.{common}
