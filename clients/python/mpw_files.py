@@ -1,12 +1,26 @@
 """Files that are read, and files that are written whole or not at all."""
 import os
+import re
+import signal
 import stat
-import tempfile
 from contextlib import contextmanager
 
 
 class FileFault(Exception):
     """A file can't be read or written."""
+
+
+def end_cleanly():
+    """Has the signals TERM and HUP end the program as an exception does, so that no file is left half written. What ignores them, as
+    under nohup, goes on to ignore them."""
+
+    def end(number, _):
+        raise SystemExit(128 + number)
+
+    for name in "SIGTERM", "SIGHUP":
+        number = getattr(signal, name, None)
+        if number is not None and signal.getsignal(number) is signal.SIG_DFL:
+            signal.signal(number, end)
 
 
 def read_file(path, read):
@@ -37,15 +51,38 @@ def mode_of(path, most=0o666):
     return stat.S_IMODE(found)
 
 
+def is_alive(number):
+    """Whether there is a process of this number, of any user."""
+    try:
+        os.kill(number, 0)
+    except ProcessLookupError:
+        return False
+    except (OSError, OverflowError):
+        pass
+    return True
+
+
+def remove_leftovers(path):
+    """Removes the half files next to a path that killed programs left."""
+    folder, name = os.path.split(path)
+    for other in os.listdir(folder):
+        found = re.fullmatch(re.escape(name) + r"\.([0-9]{1,10})\.new", other)
+        if found and int(found[1]) and (int(found[1]) == os.getpid() or not is_alive(int(found[1]))):
+            os.unlink(os.path.join(folder, other))
+
+
 @contextmanager
 def whole_file(path, most=0o666):
-    """A new binary file next to the path. If the block ends without a fault, the file takes its place: the path has the
-    old file or the new one, each whole. A file that wasn't there gets at most these permissions."""
+    """A new binary file next to the path, with this process's number in its name. If the block ends without a fault, the file takes
+    its place: the path has the old file or the new one, each whole. A file that wasn't there gets at most these permissions."""
     beside = None
     try:
+        if os.path.islink(path) and not os.path.exists(path):
+            raise OSError(0, "it is a link to a file that isn't there")
         path = os.path.realpath(path)
         mode = mode_of(path, most)
-        with tempfile.NamedTemporaryFile("wb", prefix=".mpw-", dir=os.path.dirname(path), delete=False) as file:
+        remove_leftovers(path)
+        with open(f"{path}.{os.getpid()}.new", "xb", opener=lambda name, flags: os.open(name, flags, 0o600)) as file:
             beside = file.name
             yield file
             file.flush()

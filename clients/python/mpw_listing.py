@@ -49,11 +49,11 @@ class Rule:
     def __init__(self, name, line=""):
         words = line.split(" ")
         self.name, self.check, self.asked = name, words[0] or "marker", int(words[-1]) if words[-1].isdecimal() else None
-        self.count = self.masked = 0
+        self.count = self.known = self.masked = 0
         self.shortest, self.first = None, []
 
     def add(self, marker, most):
-        """Counts a marker, and holds it if it is one of the first."""
+        """Counts a marker that isn't known, and holds it if it is one of the first."""
         self.count += 1
         distance = marker.key.distance
         self.shortest = distance if self.shortest is None else min(distance, self.shortest)
@@ -69,6 +69,7 @@ class Rule:
         """What a listing has of the rule, in words."""
         parts = [counted(self.count, "marker")] if self.count or not self.masked else []
         parts += [counted(self.masked, "masked marker")] if self.masked else []
+        parts += [counted(self.known, "known marker")] if self.known else []
         if self.count:
             asked = "" if self.asked is None else f"; the rule asks for {self.asked} nm"
             return f"{', '.join(parts)}, the shortest distance is {self.shortest} nm{asked}"
@@ -85,21 +86,28 @@ def counted(count, what):
 
 
 class Summary:
-    """The rules of a listing: those of the deck in its order, and then any other that has markers."""
+    """The rules of a listing: those of the deck in its order, and then any other that has markers. `known` has the accepted markers,
+    which are only counted."""
 
-    def __init__(self, deck="", most=100):
-        self.rules, self.most = {name: Rule(name, line) for name, line in rules_of(deck)}, most
+    def __init__(self, deck="", most=100, known=None):
+        self.rules, self.most, self.known = {name: Rule(name, line) for name, line in rules_of(deck)}, most, known
 
     def add(self, marker):
-        """Counts a marker, or the masked ones of a rule."""
+        """Counts a marker, or the masked ones of a rule. Whether it is known."""
         name = marker.key.rule if isinstance(marker, Marker) else marker.rule
         if name not in self.rules:
             self.rules[name] = Rule(name)
         rule = self.rules[name]
-        if isinstance(marker, Marker):
-            rule.add(marker, self.most)
-        else:
+        if not isinstance(marker, Marker):
             rule.masked += marker.number
+            if self.known is not None:
+                self.known.masked += marker.number
+            return False
+        if self.known is not None and self.known.has(str(marker.key), marker_text(marker)):
+            rule.known += 1
+            return True
+        rule.add(marker, self.most)
+        return False
 
     @property
     def count(self):
@@ -113,14 +121,15 @@ class Summary:
 # JSON lines.
 
 
-def json_line(marker):
-    """A marker as an object, or the masked ones of a rule."""
+def json_line(marker, is_known=None):
+    """A marker as an object, with whether it is known if that was asked; or the masked ones of a rule."""
     if not isinstance(marker, Marker):
         return json.dumps({"rule": marker.rule, "masked": marker.number})
     key = marker.key
     return json.dumps({
         "key": str(key), "rule": key.rule, "axis": key.axis.value, "side": key.side, "x1": key.x1, "x2": key.x2,
-        "y0": key.y0, "y1": key.y1, "distance": key.distance, "box": key.box, "cells": marker.cells})
+        "y0": key.y0, "y1": key.y1, "distance": key.distance, "box": key.box, "cells": marker.cells,
+        **({} if is_known is None else {"known": is_known})})
 
 
 # JUnit XML.
@@ -153,7 +162,7 @@ def case_of(rule, name):
 
 
 def junit_of(summary, name):
-    """A test case for each rule, which fails if the rule has markers."""
+    """A test case for each rule, which fails if the rule has markers that aren't known."""
     rules = list(summary.rules.values()) or [Rule(NO_RULE)]
     failures = sum(rule.has_failed for rule in rules)
     cases = "".join(case_of(rule, name) for rule in rules)
@@ -174,11 +183,12 @@ def row(*fields):
     return f"| {' | '.join(map(str, fields))} |\n"
 
 
-def rule_row(rule):
+def rule_row(rule, has_known):
     """The row of a rule in the table of rules."""
     shortest = "" if rule.shortest is None else f"{rule.shortest} nm"
     asked = "" if rule.asked is None else f"{rule.asked} nm"
-    return row(code(rule.name), rule.check, rule.count, rule.masked, shortest, asked)
+    known = [rule.known] if has_known else []
+    return row(code(rule.name), rule.check, rule.count, *known, rule.masked, shortest, asked)
 
 
 def marker_table(rule):
@@ -189,11 +199,14 @@ def marker_table(rule):
 
 
 def markdown_of(summary, name):
-    """A table of the rules, and the first markers of each."""
+    """A table of the rules, and the first markers of each. With known markers the others are the new ones."""
+    has_known = summary.known is not None
+    known = f", {summary.known.found} known" if has_known else ""
     masked = f", {summary.masked} masked" if summary.masked else ""
-    head = f"# {name}: {counted(summary.count, 'marker')}{masked}\n"
+    head = f"# {name}: {counted(summary.count, 'new marker' if has_known else 'marker')}{known}{masked}\n"
     if not summary.rules:
         return head
-    rows = "".join(map(rule_row, summary.rules.values()))
-    table = f"\n| Rule | Check | Markers | Masked | Shortest | Asked for |\n|-|-|-|-|-|-|\n{rows}"
+    rows = "".join(rule_row(rule, has_known) for rule in summary.rules.values())
+    columns = ["Rule", "Check", *(["New", "Known"] if has_known else ["Markers"]), "Masked", "Shortest", "Asked for"]
+    table = f"\n{row(*columns)}{'|-' * len(columns)}|\n{rows}"
     return head + table + "".join(marker_table(rule) for rule in summary.rules.values() if rule.first)

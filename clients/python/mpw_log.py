@@ -84,7 +84,7 @@ class LogSummary:
             self.denials[shown(user), host_of(line["peer"]), f"{verb}: {reply}"] += 1
         self.requests += 1
         self.since += 1
-        # The number keeps requests of the same time in order.
+        # The number orders requests of the same time.
         heapq.heappush(self.slowest, (milliseconds, -self.requests, time, shown(user), verb, reply))
         if len(self.slowest) > LISTED:
             heapq.heappop(self.slowest)

@@ -78,7 +78,7 @@ class Rules(unittest.TestCase):
 
 class LeftOut(unittest.TestCase):
     def left(self, line, reason, before="m1 = input(1, 0)\nm2 = input(2, 0)\n"):
-        """A line behind two layers is left out for a reason that has these words."""
+        """A line after two layers is left out for a reason that has these words."""
         found = reasons_of(f"{before}{line}\n")
         number = before.count("\n") + 1
         self.assertEqual(list(found), [number], line)

@@ -8,7 +8,7 @@ import subprocess
 import tempfile
 import time
 
-# What is kept of what the browser tells: errors and other words of the console, and what is loaded.
+# Which of the browser's messages are held: errors and other words of the console, and what is loaded.
 KEPT = ("Runtime.exceptionThrown", "Runtime.consoleAPICalled", "Log.entryAdded", "Network.requestWillBeSent")
 NAMES = ("chromium", "chromium-browser", "google-chrome", "google-chrome-stable")
 
@@ -19,7 +19,7 @@ def installed():
 
 
 class Browser:
-    """One tab of a browser, with what its console was told."""
+    """One tab of a browser, with what its console got."""
 
     def __init__(self, size=(1440, 900)):
         self.folder = tempfile.mkdtemp(prefix="mpw-browser-")
@@ -69,7 +69,7 @@ class Browser:
                 return told["result"]
 
     def message(self, seconds=60):
-        """The next message; what is an error of the page or a request of it is kept."""
+        """The next message; errors and requests of the page are held."""
         end = time.monotonic() + seconds
         while b"\0" not in self.rest:
             if not select.select([self.given], [], [], max(0, end - time.monotonic()))[0]:

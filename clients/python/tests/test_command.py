@@ -27,6 +27,7 @@ class Command(unittest.TestCase):
             shutil.copytree(os.path.join(TOP, "crates", "mpw_firm", name), self.file("crates", "mpw_firm", name))
         for name in "mpw", "crates.txt":
             shutil.copy2(os.path.join(TOP, name), self.file(name))
+        os.symlink(os.path.join(TOP, "clients"), self.file("clients"))
         os.mkdir(self.file("bin"))
         self.write(self.file("bin", "rt"), "#!/bin/sh\n")
         self.source = self.file("crates", "mpw_firm", "src", "main.rt")

@@ -55,7 +55,7 @@ class CutLines(unittest.TestCase):
         self.assertEqual((self.is_there("ann"), self.is_there("annabel")), (True, True))
 
     def test_given_up(self):
-        """A client that can't finish a request leaves nothing of it behind."""
+        """A client that can't finish a request leaves nothing of it."""
         with self.service.desk() as desk:
             end, sendall = desk.channel.end, desk.channel.end.sendall
 

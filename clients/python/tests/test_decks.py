@@ -110,7 +110,7 @@ class Sent(WithFiles):
         """The lines of docs/deck.md, with a stand-in for mpw check."""
         with open(os.path.join(TOP, "docs", "deck.md"), encoding="utf-8") as page:
             text = page.read()
-        self.write(text.split("\nThe client also takes a deck like this one:\n\n```text\n")[1].split("```")[0].encode())
+        self.write(text.split("\nThe client and `mpw check` also take a deck like this one:\n\n```text\n")[1].split("```")[0].encode())
         lines = text.split("\n```sh\nclients/")[1].split("```")[0]
         os.symlink(os.path.join(TOP, "clients"), self.file("clients"))
         with open(self.file("mpw"), "w", encoding="ascii") as file:

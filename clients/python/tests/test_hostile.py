@@ -20,7 +20,7 @@ SCRIPTS = os.path.join(TOP, "crates", "gate_desk", "data")
 
 
 def ended(words, **more):
-    """What a program printed, its exit status, and what it told of faults."""
+    """What a program printed, its exit status, and what it printed of faults."""
     found = subprocess.run(words, capture_output=True, timeout=60, **more)
     return found.stdout, found.returncode, found.stderr.decode("latin1")
 
@@ -49,7 +49,7 @@ class Devices(unittest.TestCase):
 @unittest.skipUnless(os.access(memory.store.MPW, os.X_OK), f"{memory.store.MPW} isn't built")
 class Memory(unittest.TestCase):
     def test_limits_of_the_address_space(self):
-        """Whatever it may have, replies are the model's, or tell that memory is wanting."""
+        """Whatever it may have, replies are the model's, or say that it is out of memory."""
         for size in (8, 16, 24, 32, 64, 128):
             with self.subTest(megabytes=size):
                 self.assertNotIn("DIFFERS", memory.try_limit(("large", size << 20)))

@@ -110,6 +110,13 @@ class Command(Installed):
         for words in [link], [os.path.join(folder, "mpw")], ["env", f"PATH={folder}:{os.environ['PATH']}", "mpw"]:
             self.assertEqual(run(*words, "check", cwd="/"), (0, "mpw-check check\n", ""))
 
+    def test_lost_client(self):
+        """Without the client's files no check runs, and the status isn't that of markers."""
+        with tempfile.TemporaryDirectory() as folder:
+            shutil.copytree(self.prefix, os.path.join(folder, "prefix"), symlinks=True)
+            os.remove(os.path.join(folder, "prefix", "share", "mpw", "python", "mpw_checking.sh"))
+            self.assertEqual(run(os.path.join(folder, "prefix", "bin", "mpw"), "check")[:2], (70, ""))
+
     def test_version(self):
         status, printed, _ = run(self.file("bin", "mpw"), "--version")
         lines = printed.splitlines()
@@ -134,7 +141,7 @@ class Command(Installed):
 
 class Files(Installed):
     def test_manual_pages(self):
-        for name, words in ("man1/mpw.1", ["mpw script", "--limit", "whoami", "DENIED ssd"]), ("man1/mpw-check.1", ["deck"]), (
+        for name, words in ("man1/mpw.1", ["mpw script", "--limit", "whoami", "DENIED ssd"]), ("man1/mpw-check.1", ["deck", "--page", "--known"]), (
                 "man8/mpw-serve.8", [f"{self.prefix}/etc/mpw/mpw.conf"]), ("man1/mpw-ask.1", ["token", "log"]):
             with gzip.open(self.file("share", "man", f"{name}.gz"), "rt", encoding="ascii") as file:
                 text = file.read()
@@ -145,7 +152,7 @@ class Files(Installed):
 
     def test_completion_of_bash(self):
         path = self.file("share", "bash-completion", "completions", "mpw")
-        for words, expected in (["mpw", "st"], "stitch store"), (["mpw", "check", "--d"], "--deck"), (["mpw", "check", "--limit", ""], ""), (
+        for words, expected in (["mpw", "st"], "stitch store"), (["mpw", "check", "--d"], "--deck"), (["mpw", "check", "--k"], "--known"), (["mpw", "check", "--limit", ""], ""), (
                 ["mpw", "help", "waiv"], "waive waivers"), (["mpw", "store", ""], "check"), (["mpw-ask", "--rep"], "--report"), (
                 ["mpw-ask", "h:1", "unp"], "unplace"), (["mpw-report", "--j"], "--junit --json"):
             self.assertEqual(run("bash", "-c", COMPLETED, "bash", path, *words), (0, expected + "\n", ""), words)
@@ -181,6 +188,21 @@ class Files(Installed):
             with open(os.path.join(root, "etc", "passwd"), encoding="ascii") as file:
                 self.assertRegex(file.read(), "(?m)^mpw:.*:/var/lib/mpw:/usr/sbin/nologin$")
             self.assertEqual(os.stat(os.path.join(root, "var", "lib", "mpw")).st_mode & 0o777, 0o700)
+
+    @unittest.skipUnless(shutil.which("logrotate") and os.geteuid() == 0, "logrotate isn't installed, or the user isn't root")
+    def test_rotation(self):
+        """The log is copied and cut, so the service goes on to write into the same file; the first copy isn't compressed."""
+        with tempfile.TemporaryDirectory() as folder:
+            log, conf = os.path.join(folder, "desk.log"), os.path.join(folder, "conf")
+            text = self.read("etc", "logrotate.d", "mpw")
+            with open(conf, "w", encoding="ascii") as file:
+                file.write(text.replace("/var/log/mpw/desk.log", log).replace("su mpw mpw", "su root root"))
+            with open(log, "a", encoding="ascii") as file:
+                for number in 1, 2:
+                    print(number, file=file, flush=True)
+                    status, _, told = run("logrotate", "--force", "--state", os.path.join(folder, "state"), conf)
+                    self.assertEqual((status, os.path.getsize(log)), (0, 0), told)
+            self.assertEqual(sorted(os.listdir(folder)), ["conf", "desk.log", "desk.log.1", "desk.log.2.gz", "state"])
 
     def test_documents(self):
         """Links of the installed pages to pages and pictures lead somewhere, but for those to sources."""

@@ -18,22 +18,22 @@ HOSTILE = "a|b`c*<d>&\"e</failure>"
 
 
 class Listing(WithFiles):
-    def report(self, *words, given=""):
-        """Runs mpw-report: its status, and what it printed on the standard error."""
+    def report(self, *words, given="", printed=""):
+        """Runs mpw-report, which has to print this: its status, and what it printed on the standard error."""
         ended = subprocess.run(
             [sys.executable, "-SB", REPORT, *words], input=given.encode("latin1"), stdout=subprocess.PIPE, stderr=subprocess.PIPE,
             cwd=self.folder, timeout=60)
-        self.assertEqual(ended.stdout, b"")
+        self.assertEqual(ended.stdout.decode(), printed)
         return ended.returncode, ended.stderr.decode()
 
     def write(self, name, text):
         with open(self.file(name), "w", encoding="ascii") as file:
             file.write(text)
 
-    def all(self, *words, given=LISTING):
+    def all(self, *words, given=LISTING, printed="", status=0):
         """All three outputs: the root of the XML, the objects and the Markdown."""
         outputs = "--junit", "a.xml", "--json", "a.json", "--markdown", "a.md"
-        self.assertEqual(self.report(*outputs, *words, given=given), (0, ""))
+        self.assertEqual(self.report(*outputs, *words, given=given, printed=printed), (status, ""))
         return (
             ElementTree.fromstring(self.read("a.xml")), [json.loads(line) for line in self.read("a.json").splitlines()],
             self.read("a.md"))
@@ -72,6 +72,35 @@ class Listing(WithFiles):
         self.assertEqual(messages, ["1 marker, 2 masked markers, the shortest distance is 50 nm", "1 masked marker"])
         self.assertEqual(objects[1:], [{"rule": "w", "masked": 2}, {"rule": "s", "masked": 1}])
         self.assertIn("# mpw check: 1 marker, 3 masked\n", markdown)
+
+    def test_known(self):
+        """Markers of the accepted listing fail nothing, and those of them that are gone are named."""
+        self.write("known.txt", "OK 2\ns:V:0:50:90:0:600 TOP\ns:V:0:0:1:0:2 TOP\n")
+        self.write("a.deck", DECK)
+        told = "3 markers: 1 known, 2 new; known and gone: 1\nnew: w:V:0:0:50:0:600 TOP\nnew: w:H:1:-7:33:0:600 TOP pad\ngone: s:V:0:0:1:0:2\n"
+        junit, objects, markdown = self.all("--known", "known.txt", "--deck", "a.deck", printed=told, status=1)
+        self.assertEqual([case.find("failure") is None for case in junit.iter("testcase")], [False, True, True])
+        self.assertEqual([it["known"] for it in objects], [False, False, True])
+        self.assertIn("# mpw check: 2 new markers, 1 known\n\n| Rule | Check | New | Known | Masked | Shortest | Asked for |\n|-|-|-|-|-|-|-|\n", markdown)
+        self.assertIn("| `w` | width | 2 | 0 | 0 | 40 nm | 56 nm |\n", markdown)
+        self.assertIn("| `s` | space | 0 | 1 | 0 |  | 51 nm |\n", markdown)
+
+    def test_all_known(self):
+        """The status is 0, with outputs or without; a masked marker isn't known, since it has no key."""
+        self.write("known.txt", "# Accepted.\n" + LISTING)
+        told = "3 markers: 3 known, 0 new; known and gone: 0\n"
+        self.all("--known", "known.txt", printed=told)
+        self.assertEqual(self.report("--known=known.txt", given=LISTING, printed=told), (0, ""))
+        told = "4 markers: 1 known, 0 new, 3 masked; known and gone: 2\ngone: w:H:1:-7:33:0:600\ngone: s:V:0:50:90:0:600\n"
+        given = "OK 2\nw:V:0:0:50:0:600 TOP\nmasked s 3\n"
+        self.assertEqual(self.report("--known", "known.txt", given=given, printed=told), (1, ""))
+
+    def test_known_that_is_no_listing(self):
+        self.write("known.txt", "hello\n")
+        for name in "known.txt", "none.txt":
+            status, told = self.report("--known", name, "--json", "a.json", given=LISTING)
+            self.assertEqual((status, told.startswith(f"mpw-report: {name}: "), os.path.exists(self.file("a.json"))), (4, True, False))
+        self.assertEqual(self.report("--known", "known.txt", "--json", "known.txt", given=LISTING)[0], 2)
 
     def test_most(self):
         junit, objects, markdown = self.all("--most", "1")

@@ -236,9 +236,21 @@ class InBrowser(unittest.TestCase):
 
     def test_no_run_and_nothing_to_see(self):
         self.show(data(status="checking 2 1 4", markers=[], waivers=[], deck=[]))
-        self.assertEqual(self.text("#list .empty"), ["Markers are told when a run is finished."])
+        self.assertEqual(self.text("#list .empty"), ["Markers are shown when a run is finished."])
         self.show(data(markers=[], waivers=[], shapes=[], cells=[], placements=[], deck=[]))
         self.assertEqual(self.text("#missing"), ["This session sees no shapes and no markers."])
+
+    def test_page_of_a_check(self):
+        """It says nothing of sessions, runs, waivers and masked markers."""
+        words = re.compile("run|waive|sign|mask|session|desk|sees", re.I)
+        for more in {}, {"markers": []}, {"markers": [], "shapes": [], "cells": []}:
+            self.show(data(**{"check": "TOP", "waivers": [], "user": "mpw check", "markers": [f"{KEY} TOP", "w:H:0:290:310:0:200 TOP"], **more}))
+            if not more:
+                self.browser.key("j")
+            self.assertIn("Check of TOP", self.text("#run"))
+            self.assertEqual(words.findall(self.browser.run("document.body.innerText + document.title")), [])
+        self.show(data())
+        self.assertTrue(words.search(self.browser.run("document.body.innerText")))
 
     def test_without_placements(self):
         chip = ["chip 1 1/0 boundary 0 0 9 0 9 9 0 9", "pad 1 1/0 boundary 20 0 29 0 29 9 20 9"]

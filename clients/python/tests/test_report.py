@@ -1,10 +1,12 @@
 """mpw_report: the form of mpw check --report, with waivers as tags; and that a file is written whole or not at all."""
 import os
 import shutil
+import signal
 import stat
 import subprocess
 import sys
 import tempfile
+import time
 import unittest
 import xml.etree.ElementTree as ElementTree
 from unittest import mock
@@ -94,10 +96,38 @@ class Whole(unittest.TestCase):
             self.assertEqual(self.content(), ("old\n", ["out.lyrdb"]))
 
     def test_through_a_link(self):
+        """A link stays, and its file is written; one that leads to no file is refused."""
         link = os.path.join(self.folder, "link")
         os.symlink(self.path, link)
+        with self.assertRaisesRegex(FileFault, "link: it is a link to a file that isn't there"):
+            write_whole(link, "new\n")
+        self.assertEqual(os.listdir(self.folder), ["link"])
+        write_whole(self.path, "old\n")
         write_whole(link, "new\n")
         self.assertTrue(os.path.islink(link))
+        self.assertEqual(self.content()[0], "new\n")
+
+    @unittest.skipUnless(os.name == "posix", "there are no such signals here")
+    def test_stopped(self):
+        """A signal that ends the program leaves no half file, and nohup goes on to ignore HUP."""
+        words = [sys.executable, "-SB", os.path.join(TOP, "clients", "python", "mpw-report"), "--json", self.path]
+        for number, before, status in (signal.SIGTERM, [], 143), (signal.SIGHUP, [], 129), (signal.SIGHUP, ["nohup"], 4):
+            with subprocess.Popen([*before, *words], stdin=subprocess.PIPE, stdout=subprocess.DEVNULL, stderr=subprocess.DEVNULL) as process:
+                while not os.listdir(self.folder):
+                    time.sleep(0.01)
+                process.send_signal(number)
+                process.communicate(timeout=60)
+            self.assertEqual((process.returncode, os.listdir(self.folder)), (status, []))
+
+    def test_leftovers(self):
+        """What a killed program left goes with the next file of the same path."""
+        with subprocess.Popen(["true"]) as process:
+            process.wait(60)
+        names = [f"{name}.{number}.new" for name in ("out.lyrdb", "other") for number in (process.pid, os.getpid(), os.getppid(), "x")]
+        for name in names:
+            open(os.path.join(self.folder, name), "w", encoding="ascii").close()
+        write_whole(self.path, "new\n")
+        self.assertEqual(set(names) - set(os.listdir(self.folder)), {f"out.lyrdb.{number}.new" for number in (process.pid, os.getpid())})
         self.assertEqual(self.content()[0], "new\n")
 
     def test_no_file(self):

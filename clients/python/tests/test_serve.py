@@ -60,7 +60,7 @@ class Service:
         return desk
 
     def end(self):
-        """Its exit status, what it printed after the first line, and what it told on the standard error."""
+        """Its exit status, what it printed after the first line, and what it printed on the standard error."""
         printed, told = self.process.communicate(timeout=LIMIT)
         return self.process.returncode, printed.decode(), told.decode()
 
@@ -108,6 +108,25 @@ def sessions_of(file):
     return sessions
 
 
+def ask_until_the_end(served):
+    """Asks `whoami` in sessions of the officer, one after the other, until the service closes the connection."""
+    reply = b"OK 2\nuser root\nauthorized officer\n"
+    with suppress(OSError):
+        while True:
+            with served.connect() as end:
+                end.sendall(b"open root abc\n")
+                if end.recv(100) != b"OK 0\n":
+                    return
+                for _ in range(15):
+                    end.sendall(b"whoami\n" * 256)
+                    left = 256 * len(reply)
+                    while left > 0:
+                        found = end.recv(left)
+                        if not found:
+                            return
+                        left -= len(found)
+
+
 def grant_all(desk, *cells):
     """The officer may do all, over these cells."""
     for cell in cells:
@@ -143,7 +162,7 @@ class Sessions(Served):
             self.assert_calls(served.end(), 14, 15)
 
     def test_history_of_the_first_session(self):
-        """The requests of the first session, in order and each as it was answered, and behind them those of who asks for the trail."""
+        """The requests of the first session, in order and each as it was answered, and then those of who asks for the trail."""
         first = [
             "1,root,open,root,OK 0", "2,root,activate,officer,OK 0", "3,root,adduser,ann,OK 0", "4,root,addrole,alpha,OK 0",
             "5,root,assign,ann,OK 0", "6,root,grant,pad,OK 0", "7,root,open,ann,REFUSED 30 opened", "8,root,close,-,OK 0",
@@ -278,6 +297,17 @@ class Clients(Served):
                 self.assertEqual(desk.whoami().user, "root")
             self.assertEqual(served.end()[::2], (0, ""))
 
+    def test_probe_is_no_call(self):
+        """A client that connects and sends nothing makes no call."""
+        with service(3) as served:
+            for _ in range(2):
+                served.connect().close()
+            with served.connect() as end:
+                end.sendall(b"whoami\n")
+                self.assertEqual(end.recv(100), b"DENIED session\n")
+            # A request and the connection's end, and the worker's calls for a job.
+            self.assert_calls(served.end(), 3, 4)
+
     def test_garbage(self):
         with service(3) as served:
             for garbage, last in (b"\x00\xff\xfe GET / HTTP/1.1\r\n\r\n" * 3, b"REFUSED 40 form\n"), (b"x" * 5000, b"REFUSED 41 long\n"):
@@ -303,7 +333,7 @@ class Clients(Served):
             self.assertEqual(served.end()[::2], (0, ""))
 
     def test_who_reads_nothing(self):
-        """A listing of 2^20 boundaries that nobody reads keeps no other connection waiting."""
+        """No other connection waits for a listing of 2^20 boundaries that nobody reads."""
         array_of_bars = structure("TOP", array("BAR", 0, 0, 1024, 1024, 20))
         with service(2) as served:
             lazy, desk = served.desk(), served.desk()
@@ -365,10 +395,10 @@ class Pages(Served):
             def check(*page):
                 words = [os.path.join(TOP, "mpw"), "check", "--deck", deck, "--top=PAD", *page, library_path]
                 ended = subprocess.run(words, stdout=subprocess.PIPE, stderr=subprocess.PIPE, timeout=LIMIT)
-                self.assertEqual(ended.stdout, b"OK 1\nw:V:0:0:10:0:100 PAD\n")
-                return ended.returncode
+                return ended.returncode, ended.stdout.decode()
 
-            self.assertEqual((check("--page", one), check(f"--page={two}"), check(f"--page={library_path}")), (1, 1, 4))
+            found = 1, "OK 1\nw:V:0:0:10:0:100 PAD\n"
+            self.assertEqual((check("--page", one), check(f"--page={two}"), check(f"--page={library_path}")), (found, found, (2, "")))
             for path in one, two:
                 with open(path, encoding="ascii") as file:
                     self.assertIn("w:V:0:0:10:0:100 PAD", file.read())
@@ -437,44 +467,28 @@ class Limits(Served):
             for _ in range(10):
                 with served.desk() as one, served.desk() as another:
                     self.assertEqual(one.whoami().user, another.whoami().user)
-            held = [served.connect(), served.connect()]
-            for end in held:
-                end.sendall(b"whoami\n")
-                self.assertEqual(end.recv(100), b"DENIED session\n")
+            held = [served.desk(), served.desk()]
             waiting = served.connect()
             waiting.sendall(b"whoami\n")
             waiting.settimeout(0.3)
             with self.assertRaises(socket.timeout):
                 waiting.recv(100)
-            held[0].close()
+            held[0].hang_up()
             waiting.settimeout(LIMIT)
             self.assertEqual(waiting.recv(100), b"DENIED session\n")
-            for end in waiting, held[1]:
-                end.close()
+            waiting.close()
+            held[1].hang_up()
             self.assertIsNone(served.process.poll())
 
     def test_history_that_is_full(self):
-        """An ongoing service ends by itself after its desk's 2^20 calls."""
-
-        def ask():
-            reply = b"DENIED session\n"
-            with suppress(OSError):
-                while True:
-                    with served.connect() as end:
-                        for _ in range(16):
-                            end.sendall(b"whoami\n" * 256)
-                            left = 256 * len(reply)
-                            while left > 0:
-                                found = end.recv(left)
-                                if not found:
-                                    break
-                                left -= len(found)
-
+        """An ongoing service without a store ends by itself after its desk's 2^20 calls, which is a fault: the desk is lost."""
         with service(16, 1, "--ongoing") as served:
-            asking = [threading.Thread(target=ask) for _ in range(16)]
+            asking = [threading.Thread(target=ask_until_the_end, args=(served,)) for _ in range(16)]
             for thread in asking:
                 thread.start()
-            self.assertEqual(served.end(), (0, f"calls {2**20}\n", ""))
+            status, printed, told = served.end()
+            self.assertEqual((status, printed), (3, f"calls {2**20}\n"))
+            self.assertIn("all its calls", told)
             for thread in asking:
                 thread.join()
 

@@ -1,4 +1,4 @@
-"""`mpw serve --store FILE` over loopback: what it told as accepted is there after it was killed, another program is refused the file, and a disk that takes
+"""`mpw serve --store FILE` over loopback: accepted changes are there after it was killed, another program is refused the file, and a disk that takes
 no more closes the desk. The program is MPW_PROGRAM, else the one that the gate built."""
 import os
 import resource
@@ -39,6 +39,11 @@ def service(store, connections, *more, **popen):
             process.kill()
 
 
+def new(store):
+    """What a program prints on the standard error when it makes a store."""
+    return f"mpw: {store} is new\n"
+
+
 def rows_of(store):
     """The rows of a store that no program has open: connection, kind, line."""
     with closing(sqlite3.connect(store)) as database:
@@ -48,7 +53,7 @@ def rows_of(store):
 
 
 def ended(words):
-    """The exit status of a program that ends by itself, what it printed, and what it told on the standard error."""
+    """The exit status of a program that ends by itself, what it printed, and what it printed on the standard error."""
     found = subprocess.run(words, stdin=subprocess.DEVNULL, stdout=subprocess.PIPE, stderr=subprocess.PIPE, timeout=LIMIT)
     return found.returncode, found.stdout.decode(), found.stderr.decode()
 
@@ -105,7 +110,7 @@ def is_there(desk, role):
 @unittest.skipUnless(os.access(MPW, os.X_OK), f"{MPW} isn't built")
 class Kept(unittest.TestCase):
     def test_killed_while_clients_ask(self):
-        """Each role that was told as accepted is there, and at most the one more that each client was waiting for; the sessions are ended."""
+        """Each accepted role is there, and at most the one more that each client was waiting for; the sessions are ended."""
         with folder() as at:
             with service(at("desk.db"), 4, "--ongoing") as served:
                 asking = [Asking(served, f"role{number}") for number in range(3)]
@@ -165,7 +170,7 @@ class Kept(unittest.TestCase):
                 key = desk.markers().full[0].key
                 desk.waive(key)
                 desk.hang_up()
-                self.assertEqual(served.end()[::2], (0, ""))
+                self.assertEqual(served.end()[::2], (0, new(at("desk.db"))))
             rows = rows_of(at("desk.db"))
             self.assertEqual(sum(row[1:] == (FINISHED, "1") for row in rows), 1)
             self.assertEqual(rows[-1][1:], (GONE, ""))
@@ -185,13 +190,13 @@ class Kept(unittest.TestCase):
             with service(at("desk.db"), 1) as served:
                 with served.desk() as desk:
                     desk.addrole("alpha")
-                self.assertEqual(served.end()[::2], (0, ""))
+                self.assertEqual(served.end()[::2], (0, new(at("desk.db"))))
             script = [MPW, "script", "--officer", "root", "--digest", DIGEST, "--store", at("desk.db")]
             told = subprocess.run(script, input=b"open root abc\nactivate officer\naddrole alpha\n", stdout=subprocess.PIPE, timeout=LIMIT)
             self.assertEqual((told.returncode, told.stdout), (0, b"OK 0\nOK 0\nREFUSED 33 known\n"))
 
     def test_who_else_opens_it(self):
-        """A second program is refused the file by name, and the first goes on."""
+        """A second program is refused the file, whose name it prints, and the first goes on."""
         with folder() as at:
             with service(at("desk.db"), 2) as served:
                 with served.desk() as desk:
@@ -201,11 +206,11 @@ class Kept(unittest.TestCase):
                     desk.addrole("alpha")
                 with served.connect():
                     pass
-                self.assertEqual(served.end()[::2], (0, ""))
+                self.assertEqual(served.end()[::2], (0, new(at("desk.db"))))
             self.assertEqual([row[2] for row in rows_of(at("desk.db"))][2], "addrole alpha")
 
     def test_what_is_no_store(self):
-        """It is told before anything is bound or printed, and stays as it is. No interface has the address, which is kept for documentation."""
+        """A fault of the file comes before anything is bound or printed, and the file stays as it is. No interface has the address, which is reserved for documentation."""
         with folder() as at:
             with closing(sqlite3.connect(at("other.db"))) as other:
                 other.execute("create table notes(text)")
@@ -216,15 +221,80 @@ class Kept(unittest.TestCase):
             with open(at("other.db"), "rb") as file:
                 self.assertEqual(file.read(), before)
             status, printed, told = ended(serving.words(1, 1, "--store", at("new.db"), listen="192.0.2.1:7001"))
-            self.assertEqual((status, printed, told), (3, "", "error: the address can't be bound\n"))
+            self.assertEqual((status, printed, told), (3, "", new(at("new.db")) + "error: the address can't be bound\n"))
             self.assertEqual(rows_of(at("new.db")), [])
+
+    def test_conditions(self):
+        """Each condition on the store's file, which a service and a script test before they bind or read anything; and the file stays as it is."""
+        with folder() as at:
+            store = at("desk.db")
+            script = [MPW, "script", "--officer", "root", "--digest", DIGEST, "--store", store]
+            commands = script, serving.words(1, 1, "--store", store, listen="192.0.2.1:7001")
+
+            def refused(words, *more):
+                for command in commands:
+                    status, printed, told = ended([*command, *more])
+                    self.assertEqual((status, printed, told.count("\n")), (3, "", 1), told)
+                    self.assertTrue(told.startswith("error: the store: "), told)
+                    self.assertIn(words, told)
+
+            refused("no file of that name", "--existing")
+            self.assertEqual(os.listdir(os.path.dirname(store)), [])
+            self.assertEqual(ended([*script, "--new", "--private"]), (0, "", new(store)))
+            refused("already", "--new")
+            self.assertEqual(ended([*script, "--existing", "--private"]), (0, "", ""))
+            os.chmod(store, 0o604)
+            refused("chmod go-rw", "--private")
+            status, printed, told = ended(script)
+            self.assertEqual((status, printed, told.count("\n"), told[:19]), (0, "", 1, "warning: the store:"), told)
+            os.chmod(store, 0o600)
+            with open(store, "rb") as file:
+                whole = file.read()
+            os.truncate(store, 0)
+            refused("the file is empty", "--existing")
+            with open(store, "wb") as file:
+                file.write(whole)
+            self.assertEqual(ended(script), (0, "", ""))
+
+    def test_another_officer(self):
+        """The store of another officer, or of another token, is named as such."""
+        with folder() as at:
+            script = [MPW, "script", "--officer", "root", "--digest", DIGEST, "--store", at("desk.db")]
+            told = subprocess.run(script, input=b"open root abc\n", stdout=subprocess.PIPE, timeout=LIMIT)
+            self.assertEqual((told.returncode, told.stdout), (0, b"OK 0\n"))
+            for other in [word.replace("root", "ann") for word in script], [word.replace(DIGEST, "0" * 64) for word in script]:
+                status, printed, told = ended(other)
+                self.assertEqual((status, printed, "another officer or token" in told), (3, "", True), told)
+
+    def test_a_log_without_its_file(self):
+        """A log with changes is refused by every command if its file is missing or empty. Nothing is made, and the log stays."""
+        with folder() as at:
+            store = at("desk.db")
+            with service(store, 2) as served:
+                with served.desk() as desk:
+                    desk.addrole("alpha")
+                served.process.send_signal(signal.SIGKILL)
+                served.process.wait()
+            with open(f"{store}-wal", "rb") as file:
+                log = file.read()
+            os.unlink(store)
+            script = [MPW, "script", "--officer", "root", "--digest", DIGEST, "--store", store]
+            for names in ["desk.db-wal"], ["desk.db", "desk.db-wal"]:
+                for words in script, [*script, "--new"], serving.words(1, 1, "--store", store, listen="192.0.2.1:7001"):
+                    status, printed, told = ended(words)
+                    self.assertEqual((status, printed, "but the log next to it" in told), (3, "", True), told)
+                self.assertEqual(sorted(os.listdir(os.path.dirname(store))), names)
+                with open(f"{store}-wal", "rb") as file:
+                    self.assertEqual(file.read(), log)
+                with open(store, "wb"):
+                    pass
 
 
 @unittest.skipUnless(os.access(MPW, os.X_OK), f"{MPW} isn't built")
 class Full(unittest.TestCase):
     def closed_by(self, store, **popen):
         """An ongoing service whose disk takes no more: a request is refused for it, and every later one on each connection. The service ends with the
-        connection that was told so. What it told on the standard error, and the roles that were accepted."""
+        connection that got this refusal. What it printed on the standard error, and the roles that were accepted."""
         with service(store, 2, "--ongoing", **popen) as served:
             other = served.desk()
             client = Asking(served, "role")
@@ -241,7 +311,7 @@ class Full(unittest.TestCase):
                 other.whoami()
         self.assertEqual(status, 3)
         self.assertRegex(printed, "calls [0-9]+\n")
-        return told, client
+        return told.removeprefix(new(store)), client
 
     def goes_on(self, store, client):
         """With room again each role that was accepted is there, and the one that was refused isn't."""
@@ -266,7 +336,7 @@ class Full(unittest.TestCase):
             self.goes_on(at("desk.db"), client)
 
     def test_connections_in_all(self):
-        """A service of some connections in all ends with the first that was told that the desk is closed."""
+        """A service of some connections in all ends with the first that got the refusal of a closed desk."""
         with folder() as at:
             with service(at("desk.db"), 3, preexec_fn=limited) as served:
                 client = Asking(served, "role")
@@ -276,4 +346,4 @@ class Full(unittest.TestCase):
                 status, printed, told = served.end()
             self.assertEqual((client.refused.code, status), (60, 3))
             self.assertRegex(printed, "calls [0-9]+\n")
-            self.assertTrue(told.startswith("error: the store: "), told)
+            self.assertTrue(told.removeprefix(new(at("desk.db"))).startswith("error: the store: "), told)

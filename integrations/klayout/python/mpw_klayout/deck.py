@@ -286,7 +286,7 @@ class Reader:
         """A layer that is changed isn't the one that was read, by whatever variable."""
         for before, dot, method in zip(statement, statement[1:], statement[2:]):
             if dot.text == "." and (method.text in CHANGING or method.text.startswith("select_")):
-                # Behind a bracket it may be any layer that is named there.
+                # After a bracket it may be any layer that is named there.
                 names = [it.text for it in statement] if before.text == ")" else [before.text]
                 layers = [it for it in map(self.variables.get, names) if isinstance(it, Layer)]
                 changed = [name for name, it in self.variables.items() if any(it is layer for layer in layers)]
@@ -301,7 +301,7 @@ class Reader:
             self.leave_branch("end")
 
     def leave_branch(self, word):
-        """Behind a branch it isn't known whether its variables are set."""
+        """After a branch it isn't known whether its variables are set."""
         if not self.opened:
             return
         names = self.opened[-1] if word in BRANCHES else self.opened.pop()

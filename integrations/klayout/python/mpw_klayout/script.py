@@ -46,7 +46,7 @@ class Text(NamedTuple):
 
 
 class Call(NamedTuple):
-    """A name, or a method's name behind its receiver; without arguments it may be a variable."""
+    """A name, or a method's name after its receiver; without arguments it may be a variable."""
 
     receiver: Optional["Node"]
     name: str
@@ -107,7 +107,7 @@ def statements(text: str) -> List[Statement]:
 
 
 def goes_on(statement, token, following):
-    """Whether a statement goes on behind a line's end."""
+    """Whether a statement goes on after a line's end."""
     if token.text == ";":
         return False
     next_one = next((it for it in following if it.kind != "newline"), None)
@@ -154,7 +154,7 @@ def expression(given: Statement) -> Optional[Node]:
 
 
 def primary(given: Statement) -> Tuple[Optional[Node], int]:
-    """What a chain of calls begins with, and the place behind it."""
+    """What a chain of calls begins with, and the place after it."""
     if not given:
         return None, 0
     first = given[0]
@@ -169,7 +169,7 @@ def primary(given: Statement) -> Tuple[Optional[Node], int]:
 
 
 def call(given: Statement, place: int, receiver: Optional[Node]) -> Tuple[Optional[Node], int]:
-    """The call whose name is at a place, and the place behind it."""
+    """The call whose name is at a place, and the place after it."""
     name, behind = given[place].text, place + 1
     if behind == len(given) or given[behind].text != "(":
         return Call(receiver, name, None), behind
