@@ -1,17 +1,17 @@
 #!/usr/bin/env python3
-"""Compares what the programs print for the examples with what is expected, and tells which differ.
+"""Compares what the programs print for the examples with what is expected, and prints which differ.
 
   examples/check.py            NAME.gds under NAME.deck by mpw check, for each NAME.markers and for each
-                               NAME.fault, which is told on the standard error; what failed.awk
-                               tells of NAME.txt with NAME.replies, for each NAME.failed; and what
+                               NAME.fault, which is on the standard error; what failed.awk
+                               prints of NAME.txt with NAME.replies, for each NAME.failed; and what
                                becomes of a check's outputs (outputs.py), of what it is given
-                               beside its files (choices.py), the rules' pictures (rules.py), and what
+                               besides its files (choices.py), the rules' pictures (rules.py), and what
                                the paths cover that KLayout draws otherwise (paths.py)
   examples/check.py --desk     then also NAME.txt by mpw script, for each NAME.replies, and what
-                               the commands tell of themselves (words.py) and keep in a store (stores.py),
+                               the commands print of themselves (words.py) and store (stores.py),
                                and what the commands of the README and the tutorials print (pages.py)
 
-The exit status is 0 where all are the same, else 1. A program that isn't built is proved and built
+The exit status is 0 if all are the same, else 1. A program that isn't built is proved and built
 first.
 """
 import difflib
@@ -42,7 +42,7 @@ def of_check(name, expected):
 
 
 def of_fault(name, _):
-    """What mpw check tells of a deck or a library with a fault, and its status, which has to be 4."""
+    """What mpw check prints of a deck or a library with a fault, and its status, which has to be 4."""
     name = os.path.basename(name)
     words = [MPW, "check", "--deck", f"{name}.deck", "--top", "TOP", f"{name}.gds"]
     ended = subprocess.run(words, cwd=HERE, stdout=subprocess.DEVNULL, stderr=subprocess.PIPE)
@@ -64,7 +64,7 @@ def of_script(name, _):
 
 
 def is_same(path, run):
-    """Whether the program of an example prints what its file has; tells what differs."""
+    """Whether the program of an example prints what its file has; prints what differs."""
     with open(path, "rb") as file:
         expected = file.read()
     found, status, wanted = run(os.path.splitext(path)[0], expected)
@@ -79,7 +79,7 @@ def is_same(path, run):
 
 
 def is_as_expected(name, case):
-    """Whether a case of outputs.py has nothing that differs; tells what does."""
+    """Whether a case of outputs.py has nothing that differs; prints what does."""
     lines = case()
     print(f"{name}: {'differs' if lines else 'as expected'}", flush=True)
     for line in lines:

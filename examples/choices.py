@@ -1,6 +1,6 @@
-"""What a check is given beside its files: a side for the tiles, the structure where none is named, layers and structures that are left out, and all faults.
-Each case gives what differs from what is expected, which is written here by hand: an element's bytes are laid out below, so where its
-records stand is known.
+"""What a check is given besides its files: a side for the tiles, the structure if none is named, layers and structures that are left out, and all faults.
+Each case gives what differs from what is expected, which is written here by hand: an element's bytes are laid out below, so the places of
+its records are known.
 """
 import os
 import struct
@@ -102,7 +102,7 @@ def with_structure(text, name, elements):
 
 
 def of_structure(elements, words, status, printed, told):
-    """What comes of a library with a structure LOGO besides, which nothing places, of these elements; told is a function of where they begin."""
+    """What comes of a library with a structure LOGO besides, which nothing places, of these elements; `told` is a function of where they begin."""
     with Folder() as folder:
         text, place = with_structure(folder.read("two-bars.gds"), b"LOGO", elements)
         folder.write("two-bars.gds", text)
@@ -111,8 +111,22 @@ def of_structure(elements, words, status, printed, told):
         return differing(found, {"status": status, "printed": printed, "told": told(place)})
 
 
+def is_behind_unreached():
+    """LOGO isn't reached and stands before TOP: a fault of TOP has its byte in the file, and not in what is left of it."""
+    with Folder() as folder:
+        text, place = with_elements(folder.read("two-bars.gds"), ONE)
+        begin = text.index(record(5, 2, bytes(24))[:4])
+        head = record(5, 2, bytes(24)) + record(6, 6, b"LOGO")
+        logo = head + ONE + ENDSTR
+        folder.write("two-bars.gds", text[:begin] + logo + text[begin:])
+        status, printed, told = folder.run(*CHECK, "--faults", "--skip-unreached", "two-bars.gds")
+        of_logo, of_top = begin + len(head) + 16, place + len(logo) + 16
+        wanted = [fault(of_logo, 5, 0, "LOGO"), unreached(1, 1), fault(of_top, 5, 0), slanted(of_top)]
+        return differing({"status": status, "printed": printed, "told": told}, {"status": 4, "printed": b"", "told": wanted})
+
+
 def has_times():
-    """The parts of a check are told behind the summary, in their order, each with whole ms."""
+    """The times of a check's parts come after the summary, in their order, each with whole ms."""
     with Folder() as folder:
         _, _, told = folder.run(*CHECK, "two-bars.gds")
         parts = [part.split() for part in told[-1].removeprefix("times: ").split(", ")]
@@ -136,7 +150,7 @@ SLANTED = (
 
 
 def of_elements(elements, words, status, printed, told):
-    """What comes of a library with these elements besides; told is a function of where they begin."""
+    """What comes of a library with these elements besides; `told` is a function of where they begin."""
     with Folder() as folder:
         text, place = with_elements(folder.read("two-bars.gds"), elements)
         folder.write("two-bars.gds", text)
@@ -154,7 +168,7 @@ def fault(at, layer, x, structure="TOP"):
 
 
 def reference(kind, x, y, turned=b""):
-    """A reference to ARM at a point, as SREF, or as AREF of one column and row; behind STRANS and ANGLE where it is turned."""
+    """A reference to ARM at a point, as SREF, or as AREF of one column and row; after STRANS and ANGLE if it is turned."""
     points = [(x, y)] if kind == 10 else [(x, y), (x + 500, y), (x, y + 500)]
     counts = b"" if kind == 10 else record(19, 2, struct.pack(">HH", 1, 1))
     place = b"".join(struct.pack(">ii", *point) for point in points)
@@ -166,7 +180,7 @@ QUARTER = record(26, 1, bytes(2)) + record(28, 5, bytes([0x42, 0x5A, 0, 0, 0, 0,
 
 
 def is_reported(references, in_top, box):
-    """ARM, with a triangle whose points are 0,9000 and 90,9000 and 90,9090, is placed by these references; where it is told in the top's coordinates, and with
+    """ARM, with a triangle whose points are 0,9000 and 90,9000 and 90,9090, is placed by these references; whether its fault has the top's coordinates, and
     which box, is worked out by hand."""
     with Folder() as folder:
         text, _ = with_elements(folder.read("two-bars.gds"), references)
@@ -199,7 +213,7 @@ def is_reported(references, in_top, box):
 
 
 def is_unnamed():
-    """ARM is placed behind a record without its data. TOP is the only structure that nothing places all the same, so ARM's fault is told in its coordinates too."""
+    """ARM is placed after a record without its data. TOP is the only structure that nothing places all the same, so ARM's fault has its coordinates too."""
     with Folder() as folder:
         text, front = with_elements(folder.read("two-bars.gds"), WITHOUT_DATA + reference(10, 100, 200))
         text, place = with_structure(text, b"ARM\0", ONE)
@@ -214,7 +228,7 @@ def is_unnamed():
 
 
 def is_behind_left_out():
-    """A square of TOP whose WIDTH has no data is left out by its layer; what is told then is the fault behind it, in its own structure."""
+    """A square of TOP whose WIDTH has no data is left out by its layer; what is printed then is the fault after it, in its own structure."""
     with Folder() as folder:
         head = record(14, 2, bytes(2))
         text, _ = with_elements(folder.read("two-bars.gds"), boundary(5, SQUARE).replace(head, head + record(15, 3)))
@@ -230,7 +244,7 @@ def unexpected(at, sentence):
 
 
 def is_described(rules, elements, description):
-    """What the report's description tells of what is looked at."""
+    """What the report's description says of what is looked at."""
     with Folder() as folder:
         folder.write("bars.deck", b"tile 256\n" + rules)
         text, _ = with_elements(folder.read("two-bars.gds"), elements)
@@ -255,7 +269,7 @@ def are_stitched(limit, lines, left):
 
 
 def unreached(count, faults):
-    """What is told of structures that are left out."""
+    """What is printed of structures that are left out."""
     told = f"note: two-bars.gds: structures left out, which the checked one doesn't reach: {count}"
     return told + (f", with faults: {faults}; the desk reads them, and refuses the file as it stands" if faults else "; the desk reads them")
 
@@ -309,7 +323,7 @@ def is_summed_with_picture():
 
 
 def is_unsummed():
-    """A full device is told."""
+    """A full device is a fault of the output."""
     with Folder() as folder:
         with open("/dev/full", "wb") as output:
             status, _, told = folder.run(*CHECK, "--summary", "two-bars.gds", output=output)
@@ -328,7 +342,7 @@ GAP = "s:V:0:50:90:0:600 TOP"
 
 
 def is_colon(word):
-    """A rule whose name has a colon is told as that, and another line isn't."""
+    """A rule whose name has a colon has a sentence of its own, and another line hasn't."""
     with Folder() as folder:
         folder.write("bars.deck", f"tile 256\n{word} a:b 1/0 50\n".encode())
         status, printed, told = folder.run(*CHECK, "two-bars.gds")
@@ -339,7 +353,7 @@ def is_colon(word):
         return differing({"status": status, "printed": printed, "told": told}, {"status": 4, "printed": b"", "told": lines})
 
 
-# A triangle's XY begins 16 bytes behind its front, and it has 56 bytes: 4, 6, 6, 4 and 32 of four points, and 4.
+# A triangle's XY begins 16 bytes after its front, and it has 56 bytes: 4, 6, 6, 4 and 32 of four points, and 4.
 ONE = triangle(5, 0)
 TWO = triangle(5, 0) + boundary(1, [(0, 5000), (90, 5000), (90, 5090), (0, 5090), (0, 5000)]) + triangle(6, 300)
 # The square between them has five points: 64 bytes.
@@ -370,26 +384,26 @@ CASES = {
     "an element on another layer than those left out": lambda: of_elements(
         ONE, ["--skip-layers", "5/1,4/0"], 4, b"", lambda at: [LEFT_OUT.replace(": 1;", ": 0;"), slanted(at + 16)]
     ),
-    "a fault behind an element that is left out": lambda: of_elements(
+    "a fault after an element that is left out": lambda: of_elements(
         TWO, ["--skip-layers", "5/0"], 4, b"", lambda at: [LEFT_OUT, slanted(at + BEHIND)]
     ),
     "all faults": lambda: of_elements(
         TWO, ["--faults"], 4, b"", lambda at: [fault(at + 16, 5, 0), fault(at + BEHIND, 6, 300), slanted(at + 16)]
     ),
-    "all faults behind an element that is left out": lambda: of_elements(
+    "all faults after an element that is left out": lambda: of_elements(
         TWO, ["--faults", "--skip-layers", "5/0"], 4, b"", lambda at: [LEFT_OUT, fault(at + BEHIND, 6, 300), slanted(at + BEHIND)]
     ),
     "all faults of a library without one": lambda: of_elements(b"", ["--faults"], 1, LISTING, lambda at: []),
-    "all faults behind a record without its data": lambda: of_elements(
+    "all faults after a record without its data": lambda: of_elements(
         DAMAGED, ["--faults"], 4, b"", lambda at: [
             f"fault: two-bars.gds: badsize at byte {at + 4} in TOP, at 0,5000",
             fault(at + 62 + 16, 5, 0),
             f"error: two-bars.gds: badsize at byte {at + 4} in TOP: {SIZES}",
         ]
     ),
-    "all faults where no structure is named, behind a record without its data": is_unnamed,
-    "a fault behind one that is left out": is_behind_left_out,
-    "a fault behind a name in a text": lambda: of_elements(
+    "all faults where no structure is named, after a record without its data": is_unnamed,
+    "a fault after one that is left out": is_behind_left_out,
+    "a fault after a name in a text": lambda: of_elements(
         NAMES_INSIDE + ONE, [], 4, b"", lambda at: [slanted(at + len(NAMES_INSIDE) + 16)]
     ),
     "points before the layer": lambda: of_elements(
@@ -402,6 +416,7 @@ CASES = {
     "a structure that isn't reached, left out": lambda: of_structure(
         ONE, ["--skip-unreached"], 1, LISTING, lambda at: [fault(at + 16, 5, 0, "LOGO"), unreached(1, 1)]
     ),
+    "all faults behind a structure that isn't reached": is_behind_unreached,
     "a structure without faults that isn't reached, left out": lambda: of_structure(
         b"", ["--skip-unreached"], 1, LISTING, lambda at: [unreached(1, 0)]
     ),
@@ -441,5 +456,5 @@ CASES = {
         "; rule t looks at nothing: layer 2/0 has no shapes; no rule names layer 7/0, which has 1 shapes",
     ),
     "a colon in a rule's name": lambda: is_colon("width"),
-    "a colon in a line that is none": lambda: is_colon("#"),
+    "a colon in a line that is none": lambda: is_colon("area"),
 }

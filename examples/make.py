@@ -4,7 +4,7 @@
   examples/make.py
 
 writes pad-ring.gds, via-farm.gds, orientations.gds and shuttle.txt beside this file. All lengths
-are in nanometres. README.md tells where each fault stands and derives each marker. The decks, the
+are in nanometres. README.md says where each fault is and derives each marker. The decks, the
 expected markers and the expected replies come from elsewhere: this script doesn't write them.
 """
 import os
@@ -43,7 +43,7 @@ def long(*numbers):
 
 
 def text(word):
-    """A name, with a NUL behind an odd number of bytes."""
+    """A name, with a NUL after an odd number of bytes."""
     return word.encode() + b"\0" * (len(word) % 2)
 
 
@@ -86,7 +86,7 @@ def placed(name, x, y, orientation="R0"):
 def array(name, x, y, columns, rows, pitch):
     """Columns and rows of a structure as one element.
 
-    Its second and third point lie one pitch behind the last column and the last row."""
+    Its second and third point are one pitch after the last column and the last row."""
     points = long(x, y, x + columns * pitch, y, x, y + rows * pitch)
     body = record(AREF) + record(SNAME, text(name)) + record(COLROW, short(columns, rows))
     return body + record(XY, points) + record(ENDEL)
@@ -284,7 +284,7 @@ KEYS = (
 
 
 def session(user, role, *requests):
-    """The lines of a session; a request with a payload has it behind its line."""
+    """The lines of a session; a request with a payload has it after its line."""
     lines = [f"open {user} token-of-{user}", f"activate {role}", *requests, "close"]
     return b"".join(line if isinstance(line, bytes) else line.encode() + b"\n" for line in lines)
 

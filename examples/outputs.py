@@ -1,5 +1,5 @@
 """What becomes of a check's outputs and of its inputs: no output is written over an input or over another output, and a file that an
-output is for is replaced whole or not at all. Then what is told of a check that looks at nothing, and of files that never end. Each case
+output is for is replaced whole or not at all. Then what is printed of a check that looks at nothing, and of files that never end. Each case
 runs the program in a folder of its own and gives what differs from what is expected, which is written here by hand.
 """
 import os
@@ -57,7 +57,7 @@ class Folder:
 
 
 def differing(found, expected):
-    """Of values by name: those that aren't what they are expected to be."""
+    """Of values, each with its name: those that aren't what they are expected to be."""
     return [f"{name}: {found.get(name)!r}, expected {value!r}" for name, value in expected.items() if found.get(name) != value]
 
 
@@ -122,6 +122,16 @@ def over_listing():
         return differing(found, {"status": 2, "told": [sentence], "out": b""})
 
 
+def is_link_to_nothing():
+    """A link whose file isn't there is refused, and stays."""
+    with Folder() as folder:
+        os.symlink("absent", folder.file("link"))
+        status, _, told = folder.run(*CHECK, "--report", "link", "two-bars.gds")
+        found = {"status": status, "told": told[-1], "link": os.readlink(folder.file("link")), "names": folder.names()}
+        sentence = "error: link: it is a link to a file that isn't there: name another output"
+        return differing(found, {"status": 3, "told": sentence, "link": "absent", "names": ["bars.deck", "below", "link", "two-bars.gds"]})
+
+
 def is_replaced():
     """The file that a link leads to is replaced, with its permissions, and the link stays; nothing else is left."""
     with Folder() as folder:
@@ -170,7 +180,7 @@ def is_killed():
 
 
 def has_failed(option):
-    """A full device is told, and never as done."""
+    """A full device is a fault, and the output is never done."""
     with Folder() as folder:
         status, printed, told = folder.run(*CHECK, option, "/dev/full", "two-bars.gds")
         sentence = "error: /dev/full: can't be written: the device is full, or it failed"
@@ -210,7 +220,7 @@ STRICT = (
 
 
 def looks(deck, strict, status, printed, told):
-    """What is told of a deck, but for the summary, and that a report is written just where the check is done."""
+    """What is printed of a deck, but for the summary, and that a report is written just if the check is done."""
     with Folder() as folder:
         folder.write("bars.deck", deck)
         folder.write("report", OLD)
@@ -223,7 +233,7 @@ def looks(deck, strict, status, printed, told):
 
 def is_covered(side, status, told, *words):
     """The pad ring by tiles of that side: its outermost shapes, the guard ring, are 3000 within the die of 400000. 64 tiles of 6157 cover 394000
-    and the edge behind them each way, and of 6156 it takes 65."""
+    and the edge after them each way, and of 6156 it takes 65."""
     with Folder() as folder:
         folder.write("bars.deck", f"tile {side}\nspace s 1/0 51\n".encode())
         ended = folder.run(*CHECK, *words, os.path.join(HERE, "pad-ring.gds"))
@@ -232,7 +242,7 @@ def is_covered(side, status, told, *words):
 
 
 def has_tops():
-    """Where the library has no structure of that name, those that nothing places are told."""
+    """If the library has no structure of that name, those that nothing places are listed."""
     with Folder() as folder:
         status, printed, told = folder.run("check", "--deck", "bars.deck", "--top", "NONE", "two-bars.gds")
         lines = [
@@ -255,7 +265,7 @@ def is_endless(words, status, begin):
 
 
 def goes_on(length, sentence):
-    """A library, or a front of it, behind which zeros follow without end, through a pipe."""
+    """A library, or a front of it, after which zeros follow without end, through a pipe."""
     with Folder() as folder:
         folder.write("front", folder.read("two-bars.gds")[:length])
         words = " ".join([MPW, *CHECK, "-"])
@@ -316,6 +326,7 @@ CASES = {
     "a report over a part": over_part,
     "a report over the listing": over_listing,
     "a report in the place of an old one, by a link": is_replaced,
+    "a report by a link whose file isn't there": is_link_to_nothing,
     "a report on a full disk": is_full,
     "a report whose process is ended": is_killed,
     "a report on a full device": lambda: has_failed("--report"),
@@ -339,8 +350,8 @@ CASES = {
     "a library that never ends": lambda: is_endless([*CHECK, "/dev/zero"], 4, "error: /dev/zero: badlength at byte 0: the file doesn't begin as GDSII does"),
     "a deck that never ends": lambda: is_endless(["check", "--deck", "/dev/zero", "--top", "TOP", "two-bars.gds"], 4, "error: /dev/zero: line 1: "),
     "a part that never ends": lambda: is_endless(["stitch", "/dev/zero"], 4, "error: /dev/zero: no part"),
-    "zeros without end behind a library's head": lambda: goes_on(6, "error: -: badlength at byte 6: a record's length is odd or below 4: the file is damaged, or is no GDSII"),
-    "zeros without end behind a library": lambda: goes_on(None, "error: -: more than 4294967295 bytes, or without an end: split the library"),
+    "zeros without end after a library's head": lambda: goes_on(6, "error: -: badlength at byte 6: a record's length is odd or below 4: the file is damaged, or is no GDSII"),
+    "zeros without end after a library": lambda: goes_on(None, "error: -: more than 4294967295 bytes, or without an end: split the library"),
     "a library that is too great for the desk": is_great,
     "a make whose checks fail": leaves_nothing,
 }

@@ -1,4 +1,4 @@
-"""What a desk over a store keeps, and what becomes of files that are none: each case runs the program in a folder of its own and gives what
+"""What a desk over a store stores, and what becomes of files that are none: each case runs the program in a folder of its own and gives what
 differs from what is expected, which is written here by hand.
 """
 import hashlib
@@ -25,6 +25,8 @@ def rows_of(connection):
 
 
 *ROWS, GONE = rows_of(1)
+# What the standard error has when a store is made.
+NEW = ["mpw: desk.db is new"]
 
 
 class Folder:
@@ -67,9 +69,9 @@ def differing(what, found, expected):
 
 
 def kept():
-    """A session's changes are kept; the desk goes on from them, with connections of greater numbers."""
+    """A session's changes are stored; the desk goes on from them, with connections of greater numbers."""
     with Folder() as folder:
-        found = differing("the first session", folder.run(*SCRIPT, "desk.db", lines=ASKED), (0, ["OK 0"] * 9, []))
+        found = differing("the first session", folder.run(*SCRIPT, "desk.db", lines=ASKED), (0, ["OK 0"] * 9, NEW))
         found += differing("its files", folder.names(), ["desk.db", "desk.db-wal"])
         found += differing("its mode", os.stat(folder.file("desk.db")).st_mode & 0o777, 0o600)
         found += differing("its rows", folder.run("trail", "desk.db"), (0, [*ROWS, GONE], []))
@@ -82,7 +84,7 @@ def kept():
 
 
 def killed():
-    """What was answered before a kill is kept, and the end of its connection is stored when the desk goes on, once."""
+    """What was answered before a kill is stored, and so is the end of its connection when the desk goes on, once."""
     with Folder() as folder:
         process = folder.begin(ASKED)
         found = differing("a second process", folder.run(*SCRIPT, "desk.db")[0], 3)
@@ -95,10 +97,11 @@ def killed():
 
 
 def served():
-    """A service keeps what its connection asks, as a script does, and each goes on from the other. No other program has the file meanwhile."""
+    """A service stores what its connection asks, as a script does, and each goes on from the other. No other program has the file meanwhile."""
     with Folder() as folder:
         found = []
-        for lines, replies in (ASKED, ["OK 0"] * 9), (["open ann abc", "whoami", "activate alpha"], ["OK 0", "OK 2", "user ann", "authorized alpha", "OK 0"]):
+        first, again = ["OK 0"] * 9, ["OK 0", "OK 2", "user ann", "authorized alpha", "OK 0"]
+        for lines, replies, told in (ASKED, first, f"{NEW[0]}\n"), (["open ann abc", "whoami", "activate alpha"], again, ""):
             service = subprocess.Popen([MPW, *SERVE, "desk.db"], cwd=folder.path, text=True, stdout=subprocess.PIPE, stderr=subprocess.PIPE)
             port = int(service.stdout.readline().rpartition(":")[2])
             found += differing("a second process", folder.run(*SCRIPT, "desk.db"), (3, [], ["error: the store: database is locked"]))
@@ -106,7 +109,7 @@ def served():
                 end.sendall("".join(f"{line}\n" for line in lines).encode())
                 end.shutdown(socket.SHUT_WR)
                 found += differing("what a service answers", end.makefile().read().splitlines(), replies)
-            found += differing("its fault", service.communicate(timeout=60)[1], "")
+            found += differing("its fault", service.communicate(timeout=60)[1], told)
             found += differing("its end", service.returncode, 0)
         _, rows, _ = folder.run("trail", "desk.db")
         first, second = (rows[place].split(",")[1] for place in (1, 11))
@@ -116,7 +119,7 @@ def served():
         return found + differing("a script that goes on", folder.run(*SCRIPT, "desk.db", lines=["open ann abc"]), (0, ["OK 0"], []))
 
 
-def refused(what, folder, words, name="desk.db"):
+def refused(what, folder, words, name="desk.db", more=()):
     """The file is refused with status 3 and a sentence that has the words; nothing is answered, and no file but a database's log is another than
     before."""
     def sums():
@@ -124,7 +127,7 @@ def refused(what, folder, words, name="desk.db"):
         return {file: hashlib.sha256(open(folder.file(file), "rb").read()).hexdigest() for file in files}
 
     before = sums()
-    status, printed, told = folder.run(*SCRIPT, name, lines=["open root abc"])
+    status, printed, told = folder.run(*SCRIPT, name, *more, lines=["open root abc"])
     found = differing(what, (status, printed, len(told)), (3, [], 1))
     found += [f"{what}: told {line!r}, which has no {words!r}" for line in told if not (line.startswith("error: the store: ") and words in line)]
     return found + differing(f"{what}: the files", sums(), before)
@@ -136,11 +139,73 @@ def other_files():
         with sqlite3.connect(folder.file("desk.db")) as other:
             other.execute("create table notes(text)")
         other.close()
+        os.chmod(folder.file("desk.db"), 0o600)
         found = refused("another database", folder, "another database")
         os.mkdir(folder.file("below"))
         found += refused("a folder", folder, "no regular file", "below")
         found += refused("a folder that isn't there", folder, "can't be made", "nowhere/desk.db")
         return found
+
+
+def conditions():
+    """A store that has to exist, one that must not, and one that others may not read."""
+    with Folder() as folder:
+        found = refused("no store", folder, "only without --existing", more=["--existing"])
+        found += differing("no file", folder.names(), [])
+        open(folder.file("desk.db"), "wb").close()
+        found += refused("an empty file", folder, "the file is empty", more=["--existing"])
+        os.unlink(folder.file("desk.db"))
+        found += differing("a new store", folder.run(*SCRIPT, "desk.db", "--new", lines=ASKED), (0, ["OK 0"] * 9, NEW))
+        found += refused("a second new store", folder, "already", more=["--new"])
+        found += differing("an existing store", folder.run(*SCRIPT, "desk.db", "--existing", "--private"), (0, [], []))
+        os.chmod(folder.file("desk.db"), 0o640)
+        found += refused("a file that its group may read", folder, "chmod go-rw", more=["--private"])
+        status, _, told = folder.run(*SCRIPT, "desk.db")
+        found += differing("it without --private", (status, [line.split(":")[0] for line in told]), (0, ["warning"]))
+        status, _, told = folder.run(*SCRIPT, "desk.db", "--new", "--existing")
+        return found + differing("both", (status, [line.split(" exclude")[0] for line in told]), (2, ["error: --existing and --new"]))
+
+
+def bare_log():
+    """A log whose file is missing or empty is refused by every command, and stays as it is."""
+    with Folder() as folder:
+        process = folder.begin(ASKED)
+        process.send_signal(signal.SIGKILL)
+        process.communicate()
+        log = open(folder.file("desk.db-wal"), "rb").read()
+        whole = open(folder.file("desk.db"), "rb").read()
+        os.unlink(folder.file("desk.db"))
+        found = []
+        for what in "a missing file", "an empty file":
+            found += refused(what, folder, "but the log next to it")
+            for words in ["trail", "desk.db"], ["store", "check", "desk.db"]:
+                status, printed, told = folder.run(*words)
+                found += differing(f"{what}: {words[0]}", (status, printed, len(told)), (3, [], 1))
+            found += differing(f"{what}: its log", open(folder.file("desk.db-wal"), "rb").read(), log)
+            open(folder.file("desk.db"), "wb").close()
+        with open(folder.file("desk.db"), "wb") as file:
+            file.write(whole)
+        return found + differing("the file again", folder.run("trail", "desk.db"), (0, ROWS, []))
+
+
+def only_read():
+    """A store is listed and checked without a change of its files, also if none of them may be written."""
+    with Folder() as folder:
+        process = folder.begin(ASKED)
+        process.send_signal(signal.SIGKILL)
+        process.communicate()
+
+        def files():
+            return {name: (open(folder.file(name), "rb").read(), os.stat(folder.file(name)).st_mtime_ns) for name in folder.names()}
+
+        before = files()
+        for name in folder.names():
+            os.chmod(folder.file(name), 0o400)
+        os.chmod(folder.path, 0o500)
+        found = differing("its rows", folder.run("trail", "desk.db"), (0, ROWS, []))
+        found += differing("its soundness", folder.run("store", "check", "desk.db"), (0, ["rows 9"], []))
+        os.chmod(folder.path, 0o700)
+        return found + differing("its files", files(), before)
 
 
 def two_names():
@@ -152,7 +217,7 @@ def two_names():
 
 
 def bad_rows():
-    """A row that is no change of the desk there is told by its place."""
+    """A row that is no change of the desk at that point is named by its place."""
     with Folder() as folder:
         folder.run(*SCRIPT, "desk.db", lines=ASKED)
         with sqlite3.connect(folder.file("desk.db")) as store:
@@ -160,7 +225,9 @@ def bad_rows():
         store.close()
         found = refused("a bad row", folder, "row 11 is no change")
         another = [word.replace("root", "ann") for word in SCRIPT]
-        return found + differing("another officer", folder.run(*another, "desk.db")[0], 3)
+        status, printed, told = folder.run(*another, "desk.db")
+        found += differing("another officer", (status, printed, len(told)), (3, [], 1))
+        return found + [line for line in told if "another officer or token" not in line]
 
 
 def audited():
@@ -199,9 +266,10 @@ def without_a_table():
         told = ["error: the store isn't sound: it is another database"]
         found += differing("another database", folder.run("store", "check", "other.db"), (4, [], told))
         found += differing("its rows", folder.run("trail", "other.db"), (3, [], ["error: the store: it is another database"]))
-        told = ["error: the store: there is no file of that name"]
-        found += differing("no file", folder.run("store", "check", "none.db"), (3, [], told))
-        return found + differing("its rows", folder.run("trail", "none.db"), (3, [], told))
+        for words in ["store", "check", "none.db"], ["trail", "none.db"]:
+            status, printed, told = folder.run(*words)
+            found += differing(f"no file: {words[0]}", (status, printed, [line[:48] for line in told]), (3, [], ["error: the store: there is no file of that name."]))
+        return found + differing("no file is made", [name for name in folder.names() if name.startswith("none")], [])
 
 
 CASES = {
@@ -209,6 +277,9 @@ CASES = {
     "a desk over a store that is killed": killed,
     "a service over a store": served,
     "files that are no store": other_files,
+    "conditions on a store's file": conditions,
+    "a log without its file": bare_log,
+    "a store that is only read": only_read,
     "a store with two names": two_names,
     "a store with a bad row": bad_rows,
     "a store that is audited": audited,

@@ -1,14 +1,14 @@
 #!/usr/bin/env python3
-"""Tells which definitions a reader has to believe for the headline, by file, with their lines.
+"""Lists the definitions that a reader has to believe for the headline, by file, with their lines.
 
   scripts/believed.py            prints the table
-  scripts/believed.py --write    puts it into docs/PROVED.md
-  scripts/believed.py --check    exits with 1 where the table there is another
-  scripts/believed.py NAME..     prints on what way the headline's table leads to these definitions
+  scripts/believed.py --write    puts it into docs/proved.md
+  scripts/believed.py --check    exits with 1 if the table there is old
+  scripts/believed.py NAME..     prints how the headline's table leads to these definitions
 
-It begins with the definitions that the table under "The headline, word by word" in docs/PROVED.md names, and goes on to each that one of
-them names, in any crate of the repository. In place of a test that computes it takes the law that says just when the test is true. Blank lines, comments and imports don't count, nor do the toolchain's definitions and what
-the checker makes of types in src/.
+It begins with the definitions that the tables under "The headline, word by word" in docs/proved.md name, and goes on to each that one of
+them names, in any crate of the repository. Instead of a computed test it takes the law that says exactly when the test is true. Blank lines,
+comments and imports don't count. The toolchain's definitions don't count either, nor what the checker makes of types in src/.
 """
 import collections
 import functools
@@ -19,9 +19,9 @@ import sys
 import cited
 
 TOP = cited.TOP
-PAGE = f"{TOP}/docs/PROVED.md"
+PAGE = f"{TOP}/docs/proved.md"
 HEAD, BEGIN, END = "## The headline, word by word", "<!-- scripts/believed.py: begin -->", "<!-- end -->"
-# Tests that compute, each with the law, or the relation of a law, that a reader may believe in its place: the law says just when the test is true.
+# Computed tests, each with the law, or the relation of a law, that a reader may believe instead: the law says exactly when the test is true.
 LAWS = {
     ("mpw_run/specs/Same.antt", "same_snapshot"): ("mpw_run/specs/Laws.antt", "TestsAreExact"),
     ("mpw_run/specs/Same.antt", "same_tile_job"): ("mpw_run/specs/Laws.antt", "TestsAreExact"),
@@ -34,6 +34,7 @@ LAWS = {
 ITEM = re.compile(r"(?:(?:pub|abbrev|unfoldable|opaque|record|data)\s+)+(?P<name>[^\s:({]+)")
 USE = re.compile(r"^(?:pub )?use (?P<path>[\w.]+?)(?:\.\{(?P<names>[^}]*)\})?(?: as (?P<alias>[\w.]+))?\s*$", re.S)
 WORD = re.compile(r"[^\s(){}\[\],;=λ]+")
+JOIN = "◌>>=◌"
 
 
 def module_path(path):
@@ -46,7 +47,7 @@ def module_path(path):
 
 
 def uses_in(text):
-    """The names that a file brings in, each with file and name there; and its other names of whole modules, each with its file."""
+    """The names that a file imports, each with file and name there; and its other names of whole modules, each with its file."""
     names, modules = {}, {}
     for use in re.findall(r"^(?:pub )?use [^\n]*(?:\n[ }][^\n]*)*", text, re.M):
         found = USE.match(use)
@@ -64,7 +65,7 @@ def uses_in(text):
 
 @functools.cache
 def items_in(file):
-    """The definitions of a file: each name with the lines of its text. What stands in a module with parameters is as what stands outside."""
+    """The definitions of a file: each name with the lines of its text. Those in a module with parameters count like those outside."""
     with open(f"{TOP}/{file}", encoding="utf-8") as page:
         text = page.read()
     found, name = collections.defaultdict(list), None
@@ -93,7 +94,7 @@ def cases_of(file):
 
 
 def named_by(file, name):
-    """The definitions that one names; a test's law in place of the test."""
+    """The definitions that one names; the law of a test instead of the test."""
     for there, found in names_in(file, name):
         law = LAWS.get((there.removeprefix("crates/"), found))
         if not law:
@@ -102,18 +103,27 @@ def named_by(file, name):
             yield f"crates/{law[0]}", law[1]
 
 
+def home_of(file, name):
+    """Where a definition is that a file may only import, and hand on by `pub use`."""
+    items, names, _ = items_in(file)
+    return home_of(*names[name]) if name not in items and name in names else (file, name)
+
+
 def names_in(file, name):
-    """The definitions that one names."""
+    """The definitions that one names. A `do` names the operator that joins its parts."""
     items, names, modules = items_in(file)
     cases = cases_of(file)
-    for word in set(WORD.findall("\n".join(items.get(name, [])))):
+    text = "\n".join(items.get(name, []))
+    if name != JOIN and ("←" in text or " >>= " in text):
+        yield home_of(file, JOIN)
+    for word in set(WORD.findall(text)):
         for part in {word, word.split(".")[0]}:
             if part in items and part != name:
                 yield file, part
             elif part in cases and cases[part] != name:
                 yield file, cases[part]
             elif part in names:
-                there, found = names[part]
+                there, found = home_of(*names[part])
                 yield there, cases_of(there).get(found, found)
         first, _, rest = word.partition(".")
         if rest and first in modules:
@@ -157,11 +167,11 @@ def table_of(found):
         names[file] += 1
     crates = collections.defaultdict(list)
     for file in sorted(lines):
-        crates[file.split("/")[1]].append(f"`{file.split('/specs/')[1]}` {lines[file]}")
-    rows = ["| Folder | Lines of definitions, by files | Together |", "|-|-|-|"]
+        crates[file.split("/")[1]].append(f"`{file.split('/specs/')[1].removesuffix('.antt')}` {lines[file]}")
+    rows = ["| Crate | Lines of definitions, by files of its `specs/` | Together |", "|-|-|-|"]
     for crate, files in crates.items():
         total = sum(number for file, number in lines.items() if file.startswith(f"crates/{crate}/"))
-        rows.append(f"| `crates/{crate}/specs` | {', '.join(files)} | {total} |")
+        rows.append(f"| [{crate}](../crates/{crate}/README.md) | {', '.join(files)} | {total} |")
     rows.append(f"| {len(crates)} crates | {len(lines)} files, {sum(names.values())} definitions | {sum(lines.values())} |")
     return "\n".join(rows)
 
@@ -190,7 +200,7 @@ def main(words):
             page.write(whole)
         return 0
     if whole != text:
-        print("docs/PROVED.md: the table of definitions is another: scripts/believed.py --write")
+        print("docs/proved.md: the table of definitions is old: scripts/believed.py --write")
         return 1
     return 0
 

@@ -54,7 +54,7 @@ KEPT = "out/rlib/kept"
 TIMES = f"{TOP}/scripts/build_times.txt"
 # The estimate of the time left is scaled once so many processor seconds were spent.
 ENOUGH = 60
-# Where a folder is kept in memory, and what has to be free there, in bytes.
+# A folder that is in memory, and what has to be free there, in bytes.
 IN_MEMORY = "/dev/shm"
 ROOM = 4_000_000_000
 
@@ -229,7 +229,7 @@ def is_proved(text):
 
 
 def prove(crate, toolchain, jobs, nice):
-    """Proves and builds a crate. Returns what failed, or nothing. What is kept describes the texts as they were before."""
+    """Proves and builds a crate. Returns what failed, or nothing. The description that it stores is of the texts as they were before."""
     wanted = crate.wanted(toolchain)
     words = [*toolchain.build(), *crate.words(toolchain), "--jobs", str(jobs)]
     if crate.is_program:

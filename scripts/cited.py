@@ -3,18 +3,18 @@
 
   scripts/cited.py
 
-In each page a link must lead to a file, and its anchor to a heading of that file. In the pages of NEWCOMERS, which are written in plain
-English, a page of more than 4096 bytes must begin with links to its sections, no word of BANNED may be used, an option must be one that
+In each page a link must lead to a file, and its anchor to a heading of that file. In the pages of NEWCOMERS and the READMEs of the crates, which are
+written in plain English, a page of more than 4096 bytes must begin with links to its sections, no word of BANNED may be used, an option must be one that
 docs/commands.md lists for its program and a command must be one that a test runs (scripts/commands_cited.py).
 
-The diagrams and the rows of docs/architecture.md must be those of crates.txt (scripts/diagrams.py), and the pictures of paths in docs/klayout.md those
-that examples/paths.py draws.
+The READMEs of the crates and docs/clauses.md must be as scripts/crate_pages.py says. The diagrams and the rows of docs/architecture.md must be those of
+crates.txt (scripts/diagrams.py), and the pictures of paths in docs/klayout.md those that examples/paths.py draws.
 
-In README.md, CONTRIBUTING.md, docs/, examples/README.md and bench/README.md it looks at what is between backquotes:
-- a path from the top of the tree, as `docs/PROVED.md`, or from crates/, as `mpw_hier/specs/Values.antt`;
+In README.md, CONTRIBUTING.md, docs/, the READMEs of the crates, examples/README.md and bench/README.md it looks at what is between backquotes:
+- a path from the top of the tree, as `docs/deck.md`, or from crates/, as `mpw_hier/specs/Values.antt`;
 - `specs/NAME.antt` of `mpw_crate`, and so `src/` and `proofs/`;
-- `name` of `mpw_crate`, of a function, a type or a clause, that must stand in a source of that crate;
-- behind `crates/mpw_crate/specs` in a row's first column, `NAME.antt` in the others;
+- `name` of `mpw_crate`, or `clause` of `name`, `mpw_crate`: of a function, a type or a clause, that must be in a source of that crate;
+- after `crates/mpw_crate/specs` in a row's first column, `NAME.antt` in the others;
 - in a column headed Definition(s), `crate/NAME` for crates/mpw_crate/specs/NAME.antt, with the names of definitions
   after it, or `mpw_crate/specs/NAME.antt`, with the names before it; that file must declare each of them that isn't a crate
   or a function;
@@ -27,6 +27,7 @@ import re
 import sys
 
 import commands_cited  # which adds examples/ to where modules are
+import crate_pages
 import diagrams
 import paths
 
@@ -34,6 +35,7 @@ TOP = os.path.dirname(os.path.dirname(os.path.abspath(__file__)))
 QUOTED = re.compile(r"`([^`]+)`")
 PATH = re.compile(r"(?:[\w.-]+/)+[\w.-]+\.(?:rt|antt|md|py|txt|edit|deck|gds)$")
 NAMES_OF_CRATE = re.compile(r"((?:`[A-Za-z][\w:]*`(?:, | and )?)+) (?:of|in) `(mpw_\w+|gate_\w+)`")
+NAMES_AND_CRATE = re.compile(r"((?:`[A-Za-z][\w:]*`(?:, | and | of )?)+), \[?`((?:mpw|gate)_\w+)`")
 OF_CRATE = re.compile(r"`((?:specs|src|proofs)/[\w/.-]+)`(?:,| and)? (?:of|in) `(mpw_\w+|gate_\w+)`")
 FOLDER = re.compile(r"\| `(crates/\w+/specs)` \|")
 FILE = re.compile(r"[\w/]+\.antt$")
@@ -44,10 +46,10 @@ NAME = re.compile(r"[A-Za-z]\w*$")
 # Pages in plain English. Add a page here when it is rewritten.
 NEWCOMERS = (
     "CHANGELOG.md", "CONTRIBUTING.md", "README.md", "bench/README.md", "docs/architecture.md", "docs/checking.md", "docs/ci.md", "docs/codes.md", "docs/commands.md", "docs/deck.md",
-    "docs/faq.md", "docs/install.md", "docs/klayout.md", "docs/limits.md", "docs/not-proved.md", "docs/operating.md", "docs/proved-in-short.md", "docs/proving.md", "docs/requests.md",
+    "docs/faq.md", "docs/install.md", "docs/klayout.md", "docs/limits.md", "docs/not-proved.md", "docs/operating.md", "docs/proved.md", "docs/proved-in-short.md", "docs/proving.md", "docs/requests.md", "docs/tests.md",
     "docs/troubleshooting.md",
     "docs/tutorial-firm.md", "docs/tutorial-shuttle.md",
-    "docs/words.md",
+    "docs/words.md", "docs/what-to-believe.md",
     "docs/klayout-macros.md",
     "docs/decisions.md",
     "clients/python/README.md", "docs/SPECIFICATION.md", "examples/README.md", "docs/specification/desk.md", "docs/specification/gdsii.md",
@@ -89,7 +91,7 @@ FORBIDDEN = [(re.compile(rf"\b(?:{words})\b", re.I), instead) for words, instead
 def pages():
     """The documents, by their paths from the top."""
     found = ["README.md", "CHANGELOG.md", "CONTRIBUTING.md", "examples/README.md", "bench/README.md"]
-    found += glob.glob("docs/**/*.md", root_dir=TOP, recursive=True)
+    found += glob.glob("docs/**/*.md", root_dir=TOP, recursive=True) + glob.glob("crates/*/README.md", root_dir=TOP)
     return sorted(found)
 
 
@@ -157,9 +159,9 @@ def words_of(crate):
 
 def missing_names(line):
     """The names of a crate that its sources don't have."""
-    for listed, crate in NAMES_OF_CRATE.findall(line):
+    for listed, crate in NAMES_OF_CRATE.findall(line) + NAMES_AND_CRATE.findall(line):
         for name in QUOTED.findall(listed):
-            if not words_of(crate).issuperset(name.split("::")):
+            if not name.startswith(("mpw_", "gate_")) and not words_of(crate).issuperset(name.split("::")):
                 yield f"{crate} has no {name}"
 
 
@@ -294,7 +296,7 @@ def faults_of(page):
         yield from missing_in_steps(text)
     if page == "CHANGELOG.md":
         yield from missing_version(text)
-    if page in NEWCOMERS:
+    if page in NEWCOMERS or page.startswith("crates/"):
         yield from missing_contents(text)
         yield from banned_words(text)
         yield from commands_cited.faults_of(page, text)
@@ -303,7 +305,7 @@ def faults_of(page):
 def main():
     """Prints the faults, a line each."""
     faults = [f"{page}:{number}: {fault}" for page in sorted([*pages(), *LINKED]) for number, fault in faults_of(page)]
-    faults += diagrams.faults() + paths.faults()
+    faults += crate_pages.faults() + diagrams.faults() + paths.faults()
     print("".join(f"{fault}\n" for fault in faults), end="")
     sys.exit(1 if faults else 0)
 

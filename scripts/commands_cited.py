@@ -39,7 +39,7 @@ OPTION = re.compile(r"(?<![\w-])--[a-z][a-z-]*")
 OTHERS = {
     "--jobs": "parallel, pip", "--dependency": "sbatch", "--no-install-recommends": "apt-get", "--strip-components": "tar",
     "--only": "rt check", "--allow-holes": "rt check", "--start": "rt check", "--generated": "rattle", "--incremental": "rattle", "--lib": "rattle",
-    "--statements": "rattle", "--apply": "audit", "--record": "audit", "--check": "scripts that make pages and pictures", "--times": "scripts/build.py",
+    "--statements": "rattle", "--apply": "audit", "--record": "audit", "--check": "scripts that make pages and pictures", "--write": "scripts that make pages", "--times": "scripts/build.py",
     "--desk": "examples/check.py", "--wafers": "clients/python/test",
 }
 # What ./mpw takes before a command.

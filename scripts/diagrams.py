@@ -146,7 +146,7 @@ def ports(box, other):
 
 
 def way_between(boxes, user, used, taken):
-    """The shortest straight line between two boxes that crosses no third and keeps apart from the ends of others."""
+    """The shortest straight line between two boxes that crosses no third and isn't near the ends of others."""
     others = [box for it, box in boxes.items() if it not in (user, used)]
     ends = [(start, end) for start in ports(boxes[user], boxes[used]) for end in ports(boxes[used], boxes[user])]
     # straight down, if one box is over the other
@@ -230,7 +230,7 @@ def lost_crates():
     """The crates that the page lacks, or has in the section of another subject, and the files of its rows that aren't there."""
     with open(f"{TOP}/{PAGE}", encoding="utf-8") as file:
         sections = {part.partition("\n")[0]: part for part in re.split(r"^#+ ", file.read(), flags=re.M)}
-    rows = [(name, *row) for name, part in sections.items() for row in re.findall(r"^\| `((?:mpw|gate)_\w+)` \| .* \| `([^`]+)` \|$", part, re.M)]
+    rows = [(name, *row) for name, part in sections.items() for row in re.findall(r"^\| \[?`((?:mpw|gate)_\w+)`(?:\]\(\S+\))? \| .* \| `([^`]+)` \|$", part, re.M)]
     listed = [(crate, name) for name, crate, _ in rows]
     wanted = [(crate, subject) for subject, crates in subjects()[0].items() for crate in crates]
     yield from (f"{PAGE} has no row of {crate} in the section {subject}" for crate, subject in wanted if (crate, subject) not in listed)

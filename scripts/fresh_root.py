@@ -12,7 +12,7 @@ import subprocess
 import tempfile
 from contextlib import contextmanager
 
-WANTED = "bash", "coreutils", "dash", "dpkg", "findutils", "grep", "libc-bin", "libgcc-s1", "login", "passwd", "python3", "sed", "tar"
+WANTED = "bash", "coreutils", "dash", "dpkg", "findutils", "grep", "gzip", "libc-bin", "libgcc-s1", "login", "passwd", "python3", "sed", "tar"
 FOLDERS = "dev", "etc", "proc", "root", "run", "tmp", "var/lib/dpkg/info", "var/lib/dpkg/updates", "var/lib/dpkg/triggers", "var/log"
 # On a system of today these are links below /usr.
 LINKS = "bin", "lib", "lib64", "sbin"
@@ -82,9 +82,37 @@ def fill(root):
             file.write(text)
     for path in {it for name in names for it in glob.glob(f"/var/lib/dpkg/info/{name}.list") + glob.glob(f"/var/lib/dpkg/info/{name}:*.list")}:
         copy(root, path)
-    os.mknod(f"{root}/dev/null", 0o666 | stat.S_IFCHR, os.makedev(1, 3))
-    os.chmod(f"{root}/dev/null", 0o666)
+    make_null(f"{root}/dev/null")
     os.chmod(f"{root}/tmp", 0o1777)
+
+
+def folder_for_root():
+    """A folder in which devices work and programs run. Where the temporary files are in memory, the system may refuse either."""
+    why = "no folder for temporary files"
+    for place in dict.fromkeys((tempfile.gettempdir(), "/var/tmp", "/tmp")):
+        try:
+            with tempfile.TemporaryDirectory(prefix="mpw-device-", dir=place) as folder:
+                make_null(f"{folder}/null")
+                with open(f"{folder}/null", "wb"):
+                    shutil.copy("/bin/true", f"{folder}/true")
+                    subprocess.run([f"{folder}/true"], check=False)
+                    return place
+        except OSError as error:
+            why = f"{error.filename}: {error.strerror}"
+    raise NoRoot(f"no device or no program works in a folder for temporary files: {why}")
+
+
+def make_null(path):
+    os.mknod(path, 0o666 | stat.S_IFCHR, os.makedev(1, 3))
+    os.chmod(path, 0o666)
+
+
+def need_programs(root):
+    """Raises NoRoot if another user can't run a program in the folder."""
+    ran = subprocess.run(["chroot", "--userspec=65534:65534", root, "/bin/true"], stdin=subprocess.DEVNULL, stdout=subprocess.PIPE,
+                         stderr=subprocess.STDOUT, text=True, check=False)
+    if ran.returncode:
+        raise NoRoot(f"a program doesn't run in a root folder of its own: {ran.stdout.strip()}")
 
 
 @contextmanager
@@ -94,18 +122,22 @@ def fresh_root():
         raise NoRoot("only root can install into a root folder of its own")
     if not os.path.isfile("/var/lib/dpkg/status") or any(name not in installed() for name in WANTED):
         raise NoRoot("this system's packages aren't Debian's, or one of them is missing: " + " ".join(WANTED))
-    with tempfile.TemporaryDirectory(prefix="mpw-root-") as root:
+    with tempfile.TemporaryDirectory(prefix="mpw-root-", dir=folder_for_root()) as root:
         os.chmod(root, 0o755)
         try:
             fill(root)
-        except PermissionError as error:
+        except OSError as error:
             raise NoRoot(f"{error.filename}: {error.strerror}") from None
-        mounted = subprocess.run(["mount", "-t", "proc", "proc", f"{root}/proc"], stderr=subprocess.DEVNULL, check=False).returncode == 0
+        except subprocess.CalledProcessError as error:
+            raise NoRoot(f"{error.cmd[0]} {error.cmd[1]} ended with {error.returncode}") from None
+        need_programs(root)
+        words = ["mount", "-t", "proc", "proc", f"{root}/proc"]
+        mounted = shutil.which("mount") and subprocess.run(words, stderr=subprocess.DEVNULL, check=False).returncode == 0
         try:
             yield root
         finally:
             if mounted:
-                subprocess.run(["umount", f"{root}/proc"], check=True)
+                subprocess.run(["umount", "--lazy", f"{root}/proc"], check=True)
 
 
 def snapshot(root):

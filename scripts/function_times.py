@@ -1,5 +1,5 @@
 #!/usr/bin/env python3
-"""Checks a crate from nothing with one job, and tells which functions, definitions and lemmas took the longest.
+"""Checks a crate from nothing with one job, and prints which functions, definitions and lemmas took the longest.
 
   scripts/function_times.py CRATE [MODULE..]     all modules of the crate where none is named
 

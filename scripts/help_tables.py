@@ -20,7 +20,7 @@ PAGES = ("docs/requests.md", "docs/codes.md", "docs/commands.md", "CONTRIBUTING.
 MADE = re.compile(r"<!-- made: ([^\n]+) -->\n(.*?)<!-- end -->\n", re.DOTALL)
 # The golden test of the help is a table of this program's.
 RUN, TABLE = "gate_texts", "help"
-# how a kind of entry stands in a table: its columns, and the fields behind the meaning
+# How a kind of entry is shown in a table: its columns, and the fields after the meaning.
 KINDS = {
     "Request": (("Request", "What it does", "Tests in order", "Reply"), ("tests", "reply")),
     "Command": (("Command", "What it does", "Exit status"), ("statuses",)),
@@ -28,7 +28,7 @@ KINDS = {
     "Refusal": (("Code", "When", "What to do"), ("remedy",)),
 }
 # The numbers of codes by what they are about: the first and the last one.
-GROUPS = ((1, 19, "a library's text; 17 is out of memory"), (20, 29, "limits, and what is shown"), (30, 39, "what is there already or isn't"),
+GROUPS = ((1, 19, "a library's text; 17 is out of memory"), (20, 29, "limits, and what is shown"), (30, 39, "the desk's state: what is there already, isn't, or goes on"),
           (40, 49, "lines, markers, the history"), (50, 59, "a deck's text"), (60, 69, "the store"))
 
 
@@ -156,7 +156,7 @@ def lacking_codes(codes):
     )
     named = {(kind, variant) for kind, variant, _, _ in wire}
     lost = [
-        f"{path} {variant}, which the wire doesn't tell"
+        f"{path} {variant}, which the wire doesn't print"
         for kind, path, enum in enums
         for variant in variants(path, enum)
         if (kind, variant) not in named and (kind, variant) not in {("Code", "Read"), ("Code", "Deck")}
@@ -170,7 +170,7 @@ def lacking_faults(words):
     """The faults of `mpw check` besides those of texts, and of what a top shows, by their words."""
     hier = {v.lower() for v in variants("crates/mpw_hier/src/fault.rt", "HierFault")}
     check = {v.lower() for v in variants("crates/mpw_check/src/fault.rt", "CheckFault")}
-    # a library's and a structure's faults have words of their own, and names outside the library are told in `check`
+    # A library's and a structure's faults have words of their own, and the fault of names outside the library is in `check`.
     return [f"fault {word}" for word in sorted(hier | check - {"library", "structure", "outside"}) if word not in words]
 
 
@@ -178,13 +178,13 @@ def lacking_denials(forms):
     wire = read("crates/mpw_replies/src/first_line.rt")
     words = re.findall(r'Denial::\w+(?:\(_(?:, _)?\))? => "(DENIED [^"]*)"', wire)
     enum = variants("crates/mpw_replies/src/reply.rt", "Denial")
-    lost = [] if len(words) == len(enum) else ["a denial that the wire doesn't tell"]
+    lost = [] if len(words) == len(enum) else ["a denial that the wire doesn't print"]
     lost += [f"denial {word}" for word in words if not any(is_form(form, word) for form in forms)]
     return lost + ([] if len(forms) == len(words) else ["denials: the table has others"])
 
 
 def is_form(form, word):
-    """Whether a form is that of a denial that begins so: the words, and operands behind them."""
+    """Whether a form is that of a denial that begins so: the words, and operands after them."""
     if not form.startswith(word):
         return False
     behind = form[len(word) :].split()
@@ -200,7 +200,7 @@ def unlike_sentences(entries):
 
 def is_said(sentence, entry):
     """Whether a sentence is an entry's: its meaning and its remedy or the first part of that, or the first part alone."""
-    # where `mpw check` has a limit of its own, the meaning tells it behind the desk's
+    # If `mpw check` has a limit of its own, it comes after the desk's in the meaning.
     meaning = re.sub(r"\S+ shapes \(`mpw check`: (\S+)\)", r"\1 shapes", entry["meaning"])
     remedy = entry["remedy"]
     rest = sentence.removeprefix(meaning + ": ")

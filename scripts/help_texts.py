@@ -104,6 +104,11 @@ def help_of(program, command):
     return read_help(text)
 
 
+def with_options(help, rows):
+    """A help with more options, each by its form and its meaning."""
+    return help._replace(groups=[*help.groups, ("Options of the client", [option_of(form, text) for form, text in rows])])
+
+
 def help_of_tool(path):
     """The help of a tool in Python."""
     return read_help(printed([sys.executable, "-SB", path, "--help"]))

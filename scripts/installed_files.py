@@ -10,6 +10,7 @@ from typing import NamedTuple, Optional
 import completions
 import help_texts
 import manual_pages
+import option_tables
 import versions
 
 TOP = versions.TOP
@@ -20,7 +21,7 @@ TOOLS = tuple(manual_pages.TOOLS)
 COMMANDS = "script", "serve", "check", "stitch", "trail", "store"
 PROVED, UNPROVED = "proved", "unproved, for tests alone"
 # The pages, with what they link to.
-PAGES = "*.md", "docs/**/*.md", "docs/images/*", "clients/python/README.md", "bench/README.md", "examples/**/*"
+PAGES = "*.md", "docs/**/*.md", "docs/images/*", "clients/python/README.md", "bench/README.md", "crates/*/README.md", "examples/**/*"
 
 
 class Layout(NamedTuple):
@@ -82,7 +83,8 @@ def tools(layout):
     for name in TOOLS:
         yield File(f"{folder}/{name}", read(f"{source}/{name}"), 0o755)
         yield File(f"{layout.prefix}/bin/{name}", link=f"../share/mpw/python/{name}")
-    for path in glob.glob(f"{source}/*.py") + glob.glob(f"{source}/mpw_desk/*.py") + [f"{source}/page.html"]:
+    names = "*.py", "*.sh", "mpw_desk/*.py", "page.html"
+    for path in (it for name in names for it in glob.glob(f"{source}/{name}")):
         yield File(f"{folder}/{os.path.relpath(path, source)}", read(path))
     if layout.python:
         for path in glob.glob(f"{source}/mpw_desk/*.py"):
@@ -102,6 +104,7 @@ def made_pages(layout, paths, seconds):
     """Manual pages and completion, made from the help of the programs and of the tools."""
     owner = {command: crate for crate, commands in PROGRAMS.items() for command in commands}
     commands = {name: help_texts.help_of(paths[owner[name]], name) for name in COMMANDS}
+    commands["check"] = help_texts.with_options(commands["check"], option_tables.CLIENTS_OF_CHECK)
     helps = {name: help_texts.help_of_tool(f"{TOP}/clients/python/{name}") for name in TOOLS}
     for name, text in manual_pages.pages(versions.version(), seconds, commands, helps, layout.conf).items():
         yield File(f"{layout.prefix}/share/man/man{name[-1]}/{name}.gz", gzip.compress(text.encode(), 9, mtime=0))
@@ -149,14 +152,19 @@ class Unbuilt(Exception):
     """A program can't be built."""
 
 
+def unbuilt():
+    """The programs that aren't built, or are older than a source."""
+    newest = newest_source()
+    return [crate for crate in PROGRAMS if not os.access(built_path(crate), os.X_OK) or os.stat(built_path(crate)).st_mtime < newest]
+
+
 def present_programs():
     """The path of each program, which is proved and built if it isn't there or a source is newer; and whether they are proved. Tests alone
     name a folder with other programs in MPW_PROGRAMS."""
     folder = os.environ.get("MPW_PROGRAMS")
     if folder:
         return {crate: f"{folder}/{crate}" for crate in PROGRAMS}, UNPROVED
-    newest = newest_source()
-    missing = [crate for crate in PROGRAMS if not os.access(built_path(crate), os.X_OK) or os.stat(built_path(crate)).st_mtime < newest]
+    missing = unbuilt()
     if missing and shutil.which("rt") is None:
         raise Unbuilt("not all programs are built, and rt isn't found, so nothing is installed; first run ./mpw build")
     if missing and subprocess.run([f"{TOP}/scripts/build.py", *missing], stdin=subprocess.DEVNULL, stdout=sys.stderr, check=False).returncode:

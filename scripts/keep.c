@@ -1,5 +1,6 @@
 /* Linked into an unproved program: at its first start, which is the toolchain's own, it copies the program to TARGET and ends. The copy
-   starts as usual. It names what it takes of the C library itself, since the toolchain has no headers. */
+   starts as usual, also where there is no such folder, as in another root. It names what it takes of the C library itself, since the toolchain
+   has no headers. */
 extern char *program_invocation_name;
 int access(const char *, int);
 int open(const char *, int, ...);
@@ -17,7 +18,11 @@ __attribute__((constructor(101))) static void keep(void) {
     if (access(TARGET, 0) == 0) {
         return;
     }
-    int from = open(program_invocation_name, READ), to = open(TARGET ".new", WRITE_NEW, 0755);
+    int to = open(TARGET ".new", WRITE_NEW, 0755);
+    if (to < 0) {
+        return;
+    }
+    int from = open(program_invocation_name, READ);
     while ((n = read(from, bytes, sizeof bytes)) > 0) {
         if (write(to, bytes, (unsigned long)n) != n) {
             _exit(3);

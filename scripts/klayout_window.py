@@ -21,6 +21,16 @@ def below(parent):
         yield from below(child)
 
 
+def open_rules(tree):
+    """Opens the rules and their cells, and selects the first rule, so that its markers are listed."""
+    rules = tree.model.index(1, 0, pya.QModelIndex())
+    tree.expand(rules)
+    for row in range(tree.model.rowCount(rules)):
+        tree.expand(tree.model.index(row, 0, rules))
+    tree.setColumnWidth(0, 210)
+    tree.setCurrentIndex(tree.model.index(0, 0, rules))
+
+
 def draw():
     main = pya.MainWindow.instance()
     main.resize(1100, 640)
@@ -32,12 +42,18 @@ def draw():
     view.show_rdb(number, 0)
     settle()
     markers = next(it for it in pya.QApplication.topLevelWidgets() if it.isVisible() and "Marker" in it.windowTitle)
-    markers.resize(560, 400)
-    # Its rows are By Cell, By Category and All.
+    markers.resize(900, 500)
+    for it in below(markers):
+        # Between the tree, and the list with what is known of one marker.
+        if hasattr(it, "setSizes") and it.orientation == pya.Qt.Horizontal:
+            it.setSizes([340, 540])
     tree = next(it for it in below(markers) if it.objectName == "directory_tree")
+    # Its rows are By Cell, By Category and All.
     tree.setCurrentIndex(tree.model.index(2, 0, pya.QModelIndex()))
     settle()
     main.grab().save(window)  # noqa: F821
+    open_rules(tree)
+    settle()
     markers.grab().save(browser)  # noqa: F821
 
 

@@ -1,7 +1,7 @@
 """Mutants, and batches of them: one run of `rt check` tries several at once, each in a function of its own.
 
-A contract is all that a caller sees of a function. So a wrong body is refused in its own function or nowhere, and wrong bodies of different
-functions don't disturb one another.
+A mutant is a deliberately wrong function body that the prover must reject. A contract is all that a caller sees of a function. So a mutant is refused
+in its own function or nowhere, and mutants of different functions don't disturb one another.
 """
 import functools
 import glob
@@ -13,8 +13,8 @@ TOP = os.path.dirname(os.path.dirname(os.path.abspath(__file__)))
 FOLDERS = ("must-fail", "audit")
 # The most mutants of a batch: a function that is refused takes longer than one that is proved.
 MOST = 12
-# What rt says of a function.
-SAID = re.compile(r"^fn \w+::(\S+?): (proved|no proof|not proved)", re.M)
+# What rt says of a function. One that only calls a function without a proof has no reason of its own: its mutant is tried by itself.
+SAID = re.compile(r"^fn \w+::(\S+?): (proved|no proof|not proved)(?!: it calls)", re.M)
 FUNCTION = re.compile(r"^( *)(?:pub(?:\([\w:]+\))? )?(?:const )?(?:unsafe )?fn (\w+)", re.M)
 IMPL = re.compile(r"^impl(?:<.*?>)? (?:(?P<trait>[\w:]+)(?:<(?P<of>[^>]*)>)? for )?(?P<type>\w+)", re.M)
 

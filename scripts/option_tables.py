@@ -25,9 +25,14 @@ CLIENTS = ("mpw-ask", "mpw-assemble", "mpw-report", "mpw-page")
 MUST, OFF, NO_FILE = "must be given", "off", "no file is written"
 HELP = ("-h, --help", "off", "Prints the options")
 VERSION = ("-V, --version", "off", "Prints the version of the command line")
+# What the client takes of a check (clients/python/mpw_checking.sh prints the same).
+CLIENTS_OF_CHECK = (
+    ("--page OUT", "A file for the markers and the shapes as one page for a browser; it needs --top"),
+    ("--known FILE", "A listing of accepted markers: only other ones count for the exit status"),
+)
 # What ./mpw takes itself, and the toolchain's command lines take besides.
 FURTHER = {
-    "mpw check": (("--page OUT", NO_FILE, "A file for the markers and the shapes as one page for a browser; it needs --top"), HELP, VERSION),
+    "mpw check": (*((form, NO_FILE if form.endswith("OUT") else "none", text) for form, text in CLIENTS_OF_CHECK), HELP, VERSION),
     "mpw stitch": (HELP, VERSION),
     "mpw script": (HELP,), "mpw serve": (HELP,), "mpw trail": (HELP,), "mpw store": (HELP,),
 }
@@ -36,7 +41,8 @@ DEFAULTS = {
                   "--tiles": "the whole layout", "--tile": "the deck's", "--skip-layers": "no layer", "--limit": "no limit"},
     "mpw stitch": {"--report": NO_FILE, "--limit": "no limit"},
     "mpw script": {"--store": "nothing is stored"},
-    "mpw serve": {"--log": "no log", "--store": "nothing is stored"},
+    "mpw serve": {"--log": "no log", "--store": "nothing is stored", "--stranger-memory": "no limit; 64 with --ongoing",
+                  "--stranger-rate": "no limit; 20 with --ongoing", "--login-limit": "no limit; 120 with --ongoing"},
     "mpw trail": {"--payload": "the rows are listed"},
     "mpw-ask": {"--user": "no session is opened", "--token-file": "the variable MPW_TOKEN", "--role": "no role", "--report": NO_FILE,
                 "--page": NO_FILE, "--placements": "each cell is at its own origin", "--script": "HOST:PORT must be given"},

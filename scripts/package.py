@@ -49,7 +49,7 @@ STATES = {
     installed_files.PROVED: "A prover has checked each function of the programs.",
     installed_files.UNPROVED: "Its programs are unproved and for tests alone.",
 }
-# The programs keep the bytes that were linked after the proof, so nothing is stripped off.
+# The programs have the bytes that were linked after the proof, so nothing is stripped off.
 OVERRIDES = """# Nothing is stripped off: the programs are the files that were linked after the proof.
 mpw: unstripped-binary-or-object
 mpw: hardening-no-fortify-functions

@@ -83,7 +83,8 @@ def weighed(name):
 def main(names):
     names = names or [*PICTURES, CHECKED]
     known = [name for name in names if name in PICTURES]
-    if len(known) + names.count(CHECKED) != len(names) or known and browser.installed() is None:
+    is_drawn = any(PICTURES[name][1].endswith(".html") for name in known)
+    if len(known) + names.count(CHECKED) != len(names) or is_drawn and browser.installed() is None:
         print(__doc__, file=sys.stderr)
         return 2
     os.makedirs(IMAGES, exist_ok=True)

@@ -5,8 +5,8 @@
 
 It copies the tree to a folder of its own, compiles each program there without proof (scripts/unproved.py, optimised), runs each on its
 stdin, args and data, and compares what it prints and its exit status. Then it runs examples/check.py --desk, model/compare.py,
-clients/python/test and integrations/test in the copy. A line shows each step as it ends, with an estimate of the time left. The exit status is 0 if all
-passed. The gate, ./test, proves the same programs before it runs them; only its verdict counts.
+clients/python/test, integrations/test and scripts/try_package.py in the copy. A line shows each step as it ends, with an estimate of the time left. The
+exit status is 0 if all passed. The gate, ./test, proves the same programs before it runs them; only its verdict counts.
 """
 import concurrent.futures
 import os
@@ -18,6 +18,7 @@ import threading
 import time
 
 import build
+import versions
 
 HERE = os.path.dirname(os.path.abspath(__file__))
 TOP = os.path.dirname(HERE)
@@ -26,7 +27,7 @@ MOST = 120
 # How long compiling a program takes beside one running its tests, for the estimate.
 COMPILING, RUNNING, SUITE = 10, 1, 8
 SUITES = (["examples/check.py", "--desk"], ["model/compare.py", "crates/mpw_main/out/mpw_main"], ["clients/python/test"],
-          ["integrations/test"])
+          ["integrations/test"], ["scripts/try_package.py"])
 
 
 class Progress:
@@ -116,8 +117,10 @@ def main(words):
         progress = Progress({**steps, **{" ".join(it): SUITE for it in SUITES}})
         with concurrent.futures.ThreadPoolExecutor(len(os.sched_getaffinity(0))) as pool:
             list(pool.map(lambda name: test_program(folder, name, progress), names))
+        # The copy has no commit, whose time the package's files have.
+        how = {"cwd": folder, "env": {**os.environ, "SOURCE_DATE_EPOCH": str(versions.commit_time() or int(time.time()))}}
         for suite in SUITES:
-            ran = subprocess.run(suite, cwd=folder, stdin=subprocess.DEVNULL, stdout=subprocess.PIPE, stderr=subprocess.STDOUT, check=False)
+            ran = subprocess.run(suite, stdin=subprocess.DEVNULL, stdout=subprocess.PIPE, stderr=subprocess.STDOUT, check=False, **how)
             if ran.returncode:
                 print(ran.stdout.decode(errors="replace"), flush=True)
             progress.note(" ".join(suite), f"status {ran.returncode}" if ran.returncode else None)

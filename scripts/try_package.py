@@ -3,12 +3,13 @@
 
   scripts/try_package.py
 
-The programs are those that are built, or those of the folder MPW_PROGRAMS; a program of scripts/unproved.py only runs where it was
-compiled, and so not in a root folder. A line shows each step. What can't be tried here is left out
-with a sentence. The exit status is 0 if nothing failed.
+The programs are those that are built, or those of the folder MPW_PROGRAMS; it builds none. A line shows each step. What can't be tried here
+(without dpkg, lintian or root, say) is left out with a sentence. The exit status is 0 if nothing failed.
 """
+import concurrent.futures
 import contextlib
 import filecmp
+import gzip
 import os
 import re
 import resource
@@ -26,6 +27,8 @@ import versions
 
 HERE = os.path.dirname(os.path.abspath(__file__))
 EXAMPLES = "/usr/share/doc/mpw/examples"
+# The folder of the root in which all is tried.
+ROOM = "/var/tmp/try"
 # The SHA-256 of the officer's token abc.
 DIGEST = "ba7816bf8f01cfea414140de5dae2223b00361a396177a9cb410ff61f20015ad"
 LIMIT = 60
@@ -58,9 +61,9 @@ def need(what, is_so):
 
 
 def packages(folder):
-    """Makes the package twice; the path of the .deb."""
-    for name in "one", "two":
-        run(f"{HERE}/package.py", f"{folder}/{name}")
+    """Makes the package twice, side by side; the path of the .deb."""
+    with concurrent.futures.ThreadPoolExecutor() as pool:
+        list(pool.map(lambda name: run(f"{HERE}/package.py", f"{folder}/{name}"), ("one", "two")))
     names = sorted(os.listdir(f"{folder}/one"))
     _, differing, faulty = filecmp.cmpfiles(f"{folder}/one", f"{folder}/two", names, shallow=False)
     need(f"a second run writes other bytes: {differing} {faulty}", not differing and not faulty and len(names) == 2)
@@ -79,7 +82,9 @@ def lint(deb):
     """Lintian finds no error."""
     if not shutil.which("lintian"):
         return "not tried: lintian isn't installed"
-    found = run("lintian", "--no-cfg", "--fail-on", "error", *(["--allow-root"] if os.geteuid() == 0 else []), deb)
+    # It leaves files in the folder for temporary ones.
+    own = {"env": {**os.environ, "TMPDIR": os.path.dirname(deb)}}
+    found = run("lintian", "--no-cfg", "--fail-on", "error", *(["--allow-root"] if os.geteuid() == 0 else []), deb, **own)
     need(found, not re.search("^E: ", found, re.M))
     return None
 
@@ -90,14 +95,26 @@ def unit_of(root):
         return dict(line.rstrip("\n").split("=", 1) for line in file if re.match(r"[A-Za-z]+=", line) and not line.startswith("Environment"))
 
 
+def variables_of(root):
+    """The variables of the service: those that the unit sets, and those of the configuration."""
+    with open(f"{root}/usr/lib/systemd/system/mpw.service", encoding="ascii") as unit, open(f"{root}/etc/mpw/mpw.conf", encoding="ascii") as conf:
+        return dict(re.findall(r'^Environment="(MPW_\w+)=(.*)"$', unit.read(), re.M) + re.findall(r"^(MPW_\w+)=(.*)$", conf.read(), re.M))
+
+
 def command_of(root):
-    """What systemd starts, with the variables of the configuration in it."""
-    with open(f"{root}/etc/mpw/mpw.conf", encoding="ascii") as file:
-        found = dict(line.strip().split("=", 1) for line in file if re.match(r"MPW_\w+=", line))
-    found.setdefault("MPW_STORE_OPTIONS", "")
+    """What systemd starts, with the variables in it."""
+    found = variables_of(root)
     program, _, *words = unit_of(root)["ExecStart"].lstrip("@").split(" ")
     whole = [re.sub(r"\$\{(\w+)\}", lambda it: found[it[1]], word) for word in words]
     return [program, *(part for word in whole for part in (found[word[1:]].split() if word.startswith("$") else [word]))]
+
+
+def make_store(root):
+    """Makes the store as docs/install.md does, if the unit asks for one that is there."""
+    if "--existing" in command_of(root):
+        found = variables_of(root)
+        words = ["mpw", "script", "--officer", found["MPW_OFFICER"], "--digest", found["MPW_DIGEST"], "--store", found["MPW_STORE"], "--new", "--private"]
+        run("chroot", f"--userspec={unit_of(root)['User']}", root, *words)
 
 
 def configure(root):
@@ -140,15 +157,25 @@ def service(root):
 
 def ask(root, address, *lines):
     """What mpw-ask prints in the root folder."""
-    words = ["chroot", root, "mpw-ask", address, "--user", "root", "--token-file", "/var/tmp/token", "--role", "officer", "--wait", *lines]
+    words = ["chroot", root, "mpw-ask", address, "--user", "root", "--token-file", f"{ROOM}/token", "--role", "officer", "--wait", *lines]
     return run(*words)
 
 
 def check(root):
-    """`mpw check` finds the two markers of the example, and writes a report and a page."""
-    words = ["mpw", "check", "--deck", f"{EXAMPLES}/bars.deck", "--top", "TOP", "--report", "/var/tmp/bars.lyrdb", "--page", "/var/tmp/bars.html"]
+    """`mpw check` finds the two markers of the example, and writes a report and a page. It takes a compressed library, and a deck with a comment."""
+    os.mkdir(root + ROOM)
+    words = ["mpw", "check", "--deck", f"{EXAMPLES}/bars.deck", "--top", "TOP", "--report", f"{ROOM}/bars.lyrdb", "--page", f"{ROOM}/bars.html"]
     found = run("chroot", root, *words, f"{EXAMPLES}/two-bars.gds", status=1)
-    need(found, "OK 2\n" in found and os.path.isfile(f"{root}/var/tmp/bars.lyrdb") and os.path.isfile(f"{root}/var/tmp/bars.html"))
+    need(found, "OK 2\n" in found and all(os.path.isfile(f"{root}{ROOM}/bars.{kind}") for kind in ("lyrdb", "html")))
+    for source, target, change in ("two-bars.gds", "a.gds.gz", gzip.compress), ("bars.deck", "a.deck", lambda data: b"# Bars.\r\n" + data):
+        with open(f"{root}{EXAMPLES}/{source}", "rb") as file, open(f"{root}{ROOM}/{target}", "wb") as out:
+            out.write(change(file.read()))
+    words = ["mpw", "check", "--deck", f"{ROOM}/a.deck", f"{ROOM}/a.gds.gz"]
+    found = run("chroot", root, *words, status=1, stderr=subprocess.DEVNULL)
+    with open(f"{root}{ROOM}/known.txt", "w", encoding="ascii") as file:
+        file.write(found)
+    found = run("chroot", root, *words, f"--known={ROOM}/known.txt")
+    need(found, "2 markers: 2 known, 0 new" in found)
     version = run("chroot", root, "mpw", "--version").splitlines()
     need(str(version), version[0] == f"mpw {versions.version()}" and len(version) == 4)
     need("mpw foo", "no command" in run("chroot", root, "mpw", "foo", status=2))
@@ -159,15 +186,16 @@ def check(root):
 def serve(root):
     """A service stores what is asked, is stopped, and goes on with it."""
     configure(root)
-    with open(f"{root}/var/tmp/token", "w", encoding="ascii") as file:
+    with open(f"{root}{ROOM}/token", "w", encoding="ascii") as file:
         file.write("abc\n")
-    os.chmod(f"{root}/var/tmp/token", 0o600)
+    os.chmod(f"{root}{ROOM}/token", 0o600)
+    make_store(root)
     with service(root) as address:
         need("finished", "finished" in ask(root, address, *POLICY))
     with service(root) as address:
         markers = ask(root, address, "markers")
         need(markers, markers.startswith("OK ") and markers != "OK 0\n")
-    need("rows", re.match("rows [0-9]+\n", run("chroot", root, "mpw", "store", "check", "/var/lib/mpw/desk.db")))
+    need("rows", re.search("(?m)^rows [0-9]+", run("chroot", root, "mpw", "store", "check", "/var/lib/mpw/desk.db")))
     need("trail", "submit ring TOP" in run("chroot", root, "mpw", "trail", "/var/lib/mpw/desk.db"))
     summary = run("chroot", root, "mpw-ask", "--log-summary", "/var/log/mpw/desk.log")
     need(summary, "connections" in summary and "calls left: at most" in summary)
@@ -183,8 +211,7 @@ def remove(root, before):
     need("the store is gone", os.path.isfile(f"{root}/var/lib/mpw/desk.db"))
     shutil.rmtree(f"{root}/var/lib/mpw")
     run("chroot", root, "userdel", "mpw")
-    for name in "var/tmp/token", "var/tmp/bars.lyrdb", "var/tmp/bars.html":
-        os.remove(f"{root}/{name}")
+    shutil.rmtree(root + ROOM)
     after = fresh_root.snapshot(root)
     need(f"left: {sorted(path for path in after.keys() | before.keys() if after.get(path) != before.get(path))}", after == before)
 
@@ -206,27 +233,25 @@ def in_root(deb):
     return None
 
 
-def is_built():
-    return all(os.access(installed_files.built_path(crate), os.X_OK) for crate in installed_files.PROGRAMS)
-
-
 def main(words):
     if words:
         print(__doc__, file=sys.stderr)
         return 2
-    if not shutil.which("dpkg-deb"):
-        print("package: not tried: dpkg-deb isn't installed")
-        return 0
-    if not os.environ.get("MPW_PROGRAMS") and not is_built():
-        print("package: not tried: the programs aren't built")
+    for tool in "dpkg", "dpkg-deb":
+        if not shutil.which(tool):
+            print(f"package: not tried: {tool} isn't installed")
+            return 0
+    if not os.environ.get("MPW_PROGRAMS") and installed_files.unbuilt():
+        print(f"package: not tried: a program isn't built, or a source is newer: {' '.join(installed_files.unbuilt())}")
         return 0
     began = time.monotonic()
     with tempfile.TemporaryDirectory(prefix="mpw-package-") as folder:
         try:
             deb = packages(folder)
-            for step in has_same_files, lint, in_root:
-                why = step(deb)
-                print(f"package: {step.__name__}: {why or 'passed'}, {time.monotonic() - began:.0f} s", flush=True)
+            with concurrent.futures.ThreadPoolExecutor() as pool:
+                steps = {pool.submit(step, deb): step.__name__ for step in (has_same_files, lint, in_root)}
+                for step in concurrent.futures.as_completed(steps):
+                    print(f"package: {steps[step]}: {step.result() or 'passed'}, {time.monotonic() - began:.0f} s", flush=True)
         except Failed as fault:
             print(f"package: {fault}")
             return 1

@@ -2,15 +2,26 @@
 """Prints the version, the commit and the toolchain of this repository.
 
   scripts/versions.py
+  scripts/versions.py --check    prints where another version is named than in VERSION; the exit status is 1 if there is a place
 """
 import json
 import os
+import re
 import shutil
 import subprocess
 import sys
 from contextlib import suppress
 
 TOP = os.path.dirname(os.path.dirname(os.path.abspath(__file__)))
+
+
+# What names the version of the file VERSION besides, each as the only match of a pattern: the programs, their contract, and the first section of the
+# changes.
+NAMED = {
+    "crates/mpw_asked/src/options.rt": r'^pub const VERSION: &str = "([^"]*)";$',
+    "crates/mpw_asked/specs/Commands.antt": r'^version_text command = command \+\+ codes " ([^"]*)\\n"$',
+    "CHANGELOG.md": r"\A.*?^## (\S+)$",
+}
 
 
 def printed_by(*words):
@@ -57,7 +68,26 @@ def lines(programs=""):
     return [*found, f"programs {programs}"] if programs else found
 
 
-if __name__ == "__main__":
-    if len(sys.argv) > 1:
-        sys.exit(__doc__)
+def faults():
+    """The files that name another version, or none."""
+    for path, pattern in NAMED.items():
+        with open(f"{TOP}/{path}", encoding="utf-8") as file:
+            found = re.findall(pattern, file.read(), re.M | re.S)
+        if found != [version()]:
+            yield f"{path}: the version is {', '.join(found) or 'missing'}, and VERSION has {version()}"
+
+
+def main(words):
+    if words == ["--check"]:
+        found = list(faults())
+        print("".join(f"{fault}\n" for fault in found), end="")
+        return 1 if found else 0
+    if words:
+        print(__doc__, file=sys.stderr)
+        return 2
     print("\n".join(lines()))
+    return 0
+
+
+if __name__ == "__main__":
+    sys.exit(main(sys.argv[1:]))

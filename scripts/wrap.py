@@ -1,11 +1,11 @@
 #!/usr/bin/env python3
-"""Breaks the lines of definitions and proofs behind the hundredth column, where brackets are open least.
+"""Breaks the lines of definitions and proofs after the hundredth column, at the place with the fewest open brackets.
 
   scripts/wrap.py [--check] [FILE..]
 
-Without a file: all .antt files of crates/. With --check nothing is written, and each line that would be broken is told; the
+Without a file: all .antt files of crates/. With --check nothing is written, and each line that would be broken is printed; the
 status is then 1. Imports and lines with a comment stay as they are. Nothing but blanks and line ends changes. `rt fmt`, which
-the gate asks for, lays the broken lines out; it may take one a few columns behind the hundredth.
+the gate asks for, lays the broken lines out; it may take one a few columns past the hundredth.
 """
 import os
 import re
@@ -52,7 +52,7 @@ def fits(text, place, depth):
         return False
     if (before == "=" and depth > 0) or (before, behind) == ("Type", "0"):
         return False
-    # A name that a λ binds stands beside what it is bound in.
+    # A name that a λ binds is next to what it is bound in.
     if before.endswith(".") and before[:-1].isalnum() and len(before) < 12:
         return False
     bound = text[:place].rfind("λ")
