@@ -4,8 +4,8 @@
   scripts/gate_times.py rt ci [-- COMMAND..]
 
 As each crate is proved, a line shows how many of all are and estimates the time left, by scripts/build_times.txt and the number of
-mutants. The times are processor seconds of the checker's processes, read off /proc twice a second, so a little too small. If the first
-command passes, the command after -- runs. The last line is the first command's last line, its verdict; if the second command failed, a
+mutants. The times are processor seconds of the checker's processes, read off /proc twice a second, so a little too small. Machines differ,
+and a shared one changes from hour to hour: so the last line of the times has what a fixed loop took meanwhile. If the first command passes, the command after -- runs. The last line is the first command's last line, its verdict; if the second command failed, a
 line after it says so.
 """
 import collections
@@ -20,6 +20,8 @@ import build
 
 TICK = os.sysconf("SC_CLK_TCK")
 COLUMNS = ("proof", "tests", "mutants", "runs")
+# Once in so many seconds a loop of so many additions is timed.
+EVERY, ADDITIONS = 60, 1_000_000
 # The seconds that a mutant takes, and a crate that scripts/build_times.txt doesn't list.
 MUTANT, UNLISTED = 15, 60
 
@@ -56,6 +58,27 @@ def sample(spent):
             pass
 
 
+class Pace:
+    """How fast the machine is: the processor seconds of a fixed loop, timed again and again while other work runs."""
+
+    def __init__(self):
+        self.taken, self.next = [], 0
+        self.look()
+
+    def look(self):
+        if time.monotonic() < self.next:
+            return
+        self.next = time.monotonic() + EVERY
+        began, total = time.thread_time(), 0
+        for number in range(ADDITIONS):
+            total += number
+        self.taken.append(time.thread_time() - began)
+
+    def __str__(self):
+        mean = sum(self.taken) / len(self.taken)
+        return f"a Python loop of 10^7 additions took {mean * 10_000_000 / ADDITIONS:.2f} processor seconds"
+
+
 class Progress:
     """How many crates a gate has proved, and how long it will still take."""
 
@@ -78,7 +101,7 @@ class Progress:
             print(f"mpw: {self.count - len(self.left)} of {self.count} crates proved, {build.in_words(seconds)} left", flush=True)
 
 
-def tell(spent, wall):
+def tell(spent, wall, pace):
     table = collections.defaultdict(lambda: dict.fromkeys(COLUMNS, 0.0))
     for (_, (crate, kind)), seconds in spent.items():
         table[crate][kind] += seconds
@@ -87,7 +110,7 @@ def tell(spent, wall):
         print(f"{crate:<18}" + "".join(f"{row[name]:>14.0f}" for name in COLUMNS) + f"{sum(row.values()):>10.0f}")
     sums = [sum(row[name] for row in table.values()) for name in COLUMNS]
     print(f"{'all':<18}" + "".join(f"{it:>14.0f}" for it in sums) + f"{sum(sums):>10.0f}")
-    print(f"{wall:.0f} seconds in all, {len(os.sched_getaffinity(0))} processors", flush=True)
+    print(f"{wall:.0f} seconds in all, {len(os.sched_getaffinity(0))} processors; {pace}", flush=True)
 
 
 def hand_on(lines, kept):
@@ -102,15 +125,16 @@ def hand_on(lines, kept):
 def main(words):
     at = words.index("--") if "--" in words else len(words)
     words, then = words[:at], words[at + 1:]
-    began, spent, last = time.monotonic(), {}, []
+    began, spent, last, pace = time.monotonic(), {}, [], Pace()
     with subprocess.Popen(words, stdout=subprocess.PIPE, text=True, errors="replace") as ran:
         printing = threading.Thread(target=hand_on, args=(ran.stdout, last))
         printing.start()
         while ran.poll() is None:
             sample(spent)
+            pace.look()
             time.sleep(0.5)
         printing.join()
-    tell(spent, time.monotonic() - began)
+    tell(spent, time.monotonic() - began, pace)
     status = ran.returncode
     if then and status == 0:
         status = subprocess.run(then, stdin=subprocess.DEVNULL).returncode
