@@ -42,7 +42,7 @@ LIMIT = 600
 def serve(text, **more):
     """What a script is answered, the exit status, and what was told of faults."""
     ended = subprocess.run(memory.script_words(), input=text, capture_output=True, timeout=LIMIT, **more)
-    return ended.stdout, ended.returncode, ended.stderr.decode("latin1")
+    return ended.stdout, ended.returncode, store.faults_in(ended.stderr)
 
 
 class Script:
@@ -180,7 +180,7 @@ def full_devices():
         for name, out, given, wanted in (("/dev/full", full, None, 3), ("/dev/null", null, None, 0), ("a folder as the input", subprocess.PIPE, "/", 3)):
             words = {"stdin": os.open(given, os.O_RDONLY)} if given else {"input": session()}
             ended = subprocess.run(memory.script_words(), stdout=out, stderr=subprocess.PIPE, timeout=LIMIT, **words)
-            faults = ended.stderr.decode("latin1")
+            faults = store.faults_in(ended.stderr)
             is_right = ended.returncode == wanted and (is_sentence(faults) if wanted else faults == "")
             wrong += not is_right
             print(f"{name}: status {ended.returncode}, {faults!r}{'' if is_right else ' DIFFERS'}", flush=True)
@@ -203,7 +203,7 @@ def closed_pipes(good):
             # The script comes twice, the second time when nobody reads any more; the trap for closed pipes is the system's own.
             text = command.format("(" + program % (script.name, script.name) + ")")
             ended = subprocess.run(["bash", "-c", text], capture_output=True, timeout=LIMIT, preexec_fn=lambda: signal.signal(signal.SIGPIPE, signal.SIG_DFL))
-        faults = ended.stderr.decode("latin1")
+        faults = store.faults_in(ended.stderr)
         is_right = re.fullmatch(r"error: [^\n]+\nstatus 3\n", faults) is not None and good.startswith(ended.stdout)
         wrong += not is_right
         print(f"{name}: {faults!r}{'' if is_right else ' DIFFERS'}", flush=True)

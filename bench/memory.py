@@ -268,7 +268,7 @@ def try_script(task):
     text = whole(name)
     ended = subprocess.run(script_words(), input=text, capture_output=True, env=environment(shim, first, count), timeout=LIMIT)
     try:
-        return check_end(list(asked_of(text)), ended.stdout, ended.returncode, ended.stderr.decode("latin1"))
+        return check_end(list(asked_of(text)), ended.stdout, ended.returncode, store.faults_in(ended.stderr))
     except Difference as difference:
         return f"DIFFERS: {name}, {count} from allocation {first} on: {difference}"
 
@@ -303,7 +303,7 @@ def try_limit(task):
     text = whole(name) if name != "large" else large()
     ended = subprocess.run(script_words(), input=text, capture_output=True, timeout=LIMIT,
                            preexec_fn=lambda: resource.setrlimit(resource.RLIMIT_AS, (size, size)))
-    faults = ended.stderr.decode("latin1")
+    faults = store.faults_in(ended.stderr)
     if ended.returncode == 127 and "loading shared libraries" in faults or ended.returncode == -11 and not ended.stdout and size < 8 << 20:
         return "not loaded"
     try:
@@ -340,7 +340,7 @@ def try_store(task):
     with tempfile.TemporaryDirectory(dir="/dev/shm" if os.path.isdir("/dev/shm") else None) as folder:
         path = os.path.join(folder, "desk.db")
         ended = subprocess.run(script_words(path), input=text, capture_output=True, env=environment(shim, first, count), timeout=LIMIT)
-        faults = ended.stderr.decode("latin1")
+        faults = store.faults_in(ended.stderr)
         try:
             if ended.returncode not in (0, 3, 5) or (ended.returncode == 0) != (faults == ""):
                 raise Difference(f"status {ended.returncode}: {faults[:200]!r}")
@@ -435,7 +435,7 @@ def try_service(task):
                 if is_ended and len(done) < len(asked) and told and told[-1] != [MEMORY]:
                     raise Difference(f"ended after {told[-1]}")
         printed, faults = process.communicate(timeout=LIMIT)
-        faults = faults.decode("latin1")
+        faults = store.faults_in(faults)
         if process.returncode not in (0, 3, 5) or (process.returncode == 0) != (faults == ""):
             raise Difference(f"status {process.returncode}: {faults[:200]!r}, {printed[:100]!r}")
     except (Difference, subprocess.TimeoutExpired, OSError) as difference:

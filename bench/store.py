@@ -63,10 +63,16 @@ def command(store):
     return [MPW, "script", "--officer", OFFICER, "--digest", DIGEST.hex(), "--store", store]
 
 
+def faults_in(printed):
+    """What a standard error says of faults: all but the lines `mpw: ..`, which say what a store is, as `mpw: desk.db is new`."""
+    lines = printed.decode("latin1").splitlines(keepends=True)
+    return "".join(line for line in lines if not line.startswith("mpw: "))
+
+
 def serve(store, text, **more):
     """What a script over a store is answered, with its exit status and what was told of faults."""
     ended = subprocess.run(command(store), input=text, capture_output=True, **more)
-    return ended.stdout, ended.returncode, ended.stderr.decode("latin1")
+    return ended.stdout, ended.returncode, faults_in(ended.stderr)
 
 
 def rows_of(store):
