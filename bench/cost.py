@@ -28,22 +28,19 @@ BATCH = 500
 
 def wait_beside(port, user, until, told):
     """Asks `whoami` every millisecond until it is told to stop; the greatest wait since the last look."""
-    client = Client(port)
-    client.need(b"open %s abc" % user)
-    longest, lines = 0.0, 1
+    client = Many(port, b"open %s abc" % user)
+    longest = 0.0
     while not until.is_set():
         begun = time.monotonic()
         client.ask(b"whoami")
-        taken = time.monotonic() - begun
-        longest, lines = max(longest, taken), lines + 1
+        client.lines += 1
+        longest = max(longest, time.monotonic() - begun)
         if told["ask"].is_set():
             told["ask"].clear()
             told["found"].put(longest)
             longest = 0.0
-        if lines > 4000:
-            client.close()
-            client, lines = Client(port), 1
-            client.need(b"open %s abc" % user)
+        if client.lines > MOST_LINES:
+            client.anew()
         time.sleep(0.001)
     client.close()
 
@@ -77,6 +74,13 @@ class Many(Client):
         for line in begin:
             self.need(line)
         self.lines = len(begin)
+
+    def reply(self):
+        """A reply. There is none if a newcomer took the place of this connection before it had a session."""
+        found = super().reply()
+        if not found[0]:
+            raise ConnectionError
+        return found
 
     def anew(self):
         self.close()
@@ -224,7 +228,7 @@ def policy(pairs="all"):
         every = b" ".join([b"officer", *roles])
         row.many("ssd, unssd", "the 64th set, of 511 roles", client, [b"ssd last 511 " + every, b"unssd last"] * 30)
         row.many("dsd, undsd", "the 64th set, of 511 roles", client, [b"dsd last 511 " + every, b"undsd last"] * 30)
-        row.many("whoami", "a denied one: no session", Many(port), [b"whoami"] * 3000, b"DENIED")
+        row.many("whoami", "a denied one: no session", Many(port, b"open root abc", b"close"), [b"whoami"] * 3000, b"DENIED")
         beside.end()
 
 

@@ -10,8 +10,8 @@
                                         the program's memory, and which replies differ; then the history is filled,
                                         at which the service compares what its passes counted with it
 
-The program is MPW_PROGRAM, else crates/mpw_main's, as the gate built it. The exit status is 1 where a reply differs or the service ends otherwise than
-well. The calls of a desk are bounded, so `mixed` asks at a rate that lasts.
+The program is MPW_PROGRAM, else crates/mpw_main's, as the gate built it. The exit status is 1 if a reply differs, or a service ends otherwise than it has to. The
+calls of a desk are bounded, so `mixed` asks at a rate that lasts. load.py compares two programs.
 """
 import hashlib
 import multiprocessing
@@ -33,13 +33,19 @@ sys.path[:0] = [os.path.join(TOP, "clients", "python", "tests"), os.path.join(TO
 import stand_in  # noqa: E402  (it brings the model)
 from forms import request_of  # noqa: E402
 from make import array, box, library, structure  # noqa: E402
-from mpw_desk import Desk, State  # noqa: E402
+from mpw_desk import Desk, Lost  # noqa: E402
 
 MPW = os.environ.get("MPW_PROGRAM", os.path.join(TOP, "crates", "mpw_main", "out", "mpw_main"))
 DIGEST = hashlib.sha256(b"abc")
 TIMES = 4000
 WHOAMI = b"OK 2\nuser root\nauthorized officer\n"
 CALLS = 2**20
+# What an ongoing service without a store reports once it has answered them.
+FULL = "error: the desk has answered all its calls, and has no store to go on from: a new start is a new desk"
+# All clients log in at once.
+MANY_LOGINS = ["--stranger-rate", "10000"]
+# How often a client connects again whose place a newcomer took before it had a session.
+TRIES = 100
 # Of each client: all of them share a shelf of 4096, which the model of one doesn't know.
 SUBMISSIONS = 60
 # Of an array of 64 by 64 bars, 10 nm wide under a rule of 11 and 10 nm above one another under one of 11.
@@ -48,10 +54,10 @@ MARKERS = 64 * 64 + 64 * 63
 
 @contextmanager
 def service(connections, workers, *more):
-    """A service, with its port."""
+    """A service, with its port. If it is ongoing, it doesn't let clients wait that have no session yet."""
     words = ["serve", "--listen", "127.0.0.1:0", "--connections", str(connections), "--workers", str(workers)]
-    words += ["--officer", "root", "--digest", DIGEST.hexdigest(), *more]
-    with subprocess.Popen([MPW, *words], stdout=subprocess.PIPE) as process:
+    words += ["--officer", "root", "--digest", DIGEST.hexdigest(), *more, *(MANY_LOGINS if "--ongoing" in more else [])]
+    with subprocess.Popen([MPW, *words], stdout=subprocess.PIPE, stderr=subprocess.PIPE) as process:
         try:
             yield process, int(process.stdout.readline().decode().rpartition(":")[2])
         finally:
@@ -59,9 +65,10 @@ def service(connections, workers, *more):
 
 
 def ended(process):
-    """What the service printed at its end."""
-    printed, _ = process.communicate(timeout=120)
-    return process.returncode, printed.decode().strip()
+    """The exit status of a service, what it printed at its end, and what it reported, but for the note that it made a store."""
+    printed, reported = process.communicate(timeout=120)
+    reported = [line for line in reported.decode().splitlines() if not (line.startswith("mpw: ") and line.endswith(" is new"))]
+    return process.returncode, printed.decode().strip(), "\n".join(reported)
 
 
 def connected(port):
@@ -108,7 +115,7 @@ def burst(clients=64, ahead=1):
         taken = time.monotonic() - begun
         for client in asking:
             client.join()
-        status, printed = ended(process)
+        status, printed, _ = ended(process)
     asked = clients * (TIMES // ahead) * ahead
     print(f"{clients} clients, {ahead} lines ahead: {asked / taken:.0f} requests a second, greatest wait {1000 * longest:.0f} ms; {printed}")
     return status
@@ -157,7 +164,7 @@ def changes_over(clients, times, *store):
             taken = time.monotonic() - begun
         for client in asking:
             client.join()
-        status, _ = ended(process)
+        status, *_ = ended(process)
     return 2 * clients * times / taken, max(waits), asked / lasted, status
 
 
@@ -211,7 +218,7 @@ def waits(seconds=30):
         submitting.join()
         desk.hang_up()
         other.hang_up()
-        status, printed = ended(process)
+        status, printed, _ = ended(process)
     quick.sort()
     alone.sort()
     print(f"{len(data)} bytes submitted {len(steps)} times, {1000 * sorted(steps)[len(steps) // 2]:.0f} ms each at the median")
@@ -246,6 +253,8 @@ class Compared:
         begun = time.monotonic()
         self.end.sendall(line.encode() + b"\n" + (payload or b""))
         first = self.given.readline().decode().rstrip("\n")
+        if not first:
+            raise ConnectionError
         count = int(first.split()[1]) if first.startswith("OK ") else 0
         reply = [first, *(self.given.readline().decode().rstrip("\n") for _ in range(count))]
         self.longest = max(self.longest, time.monotonic() - begun)
@@ -261,9 +270,18 @@ class Compared:
         self.given.close()
         self.end.close()
 
+    def log_in(self, line):
+        """Connects, and begins a session; again, if a newcomer took its place before it had one."""
+        for _ in range(TRIES):
+            self.connect()
+            with suppress(ConnectionError):
+                self.ask(line)
+                return
+            self.hang_up()
+        raise SystemExit("a client found no place")
+
     def set_up(self):
-        self.connect()
-        self.ask("open root abc")
+        self.log_in("open root abc")
         self.ask("activate officer")
         self.ask(f"adduser {self.user} token")
         self.ask(f"addrole {self.role}")
@@ -305,8 +323,7 @@ class Compared:
     def go(self, until, pause):
         """Connections of so many lines, one after the other, until the time is over."""
         while time.monotonic() < until:
-            self.connect()
-            self.ask(f"open {self.user} token")
+            self.log_in(f"open {self.user} token")
             self.ask(f"activate {self.role}")
             for _ in range(300):
                 if time.monotonic() >= until:
@@ -328,14 +345,24 @@ def compared(port, numbers, until, pause, told):
     told.put([(client.asked, client.longest, client.differs) for client in clients])
 
 
+def officer(port):
+    """A connection with a session of the officer; it is made again if a newcomer took its place before."""
+    for _ in range(TRIES):
+        desk = Desk.connect("127.0.0.1", port)
+        with suppress(Lost):
+            desk.open("root", "abc")
+            desk.activate("officer")
+            return desk
+        desk.hang_up()
+    raise SystemExit("the officer found no place")
+
+
 def runs(port, until):
     """Places an array, runs, and waives and signs some markers, again and again; how many runs, how long `run` took to be finished."""
     library_bytes = library(
         structure("BAR", box(1, 0, 0, 10, 40)), structure("TOP", array("BAR", 0, 0, 64, 64, 50)))
     taken = []
-    desk = Desk.connect("127.0.0.1", port)
-    desk.open("root", "abc")
-    desk.activate("officer")
+    desk = officer(port)
     for operation in "submit", "read", "place":
         desk.grant(operation, "array", "officer")
     for operation in "deck", "run", "waive":
@@ -396,15 +423,15 @@ def mixed(seconds=600, clients=62):
         for part in asking:
             part.join()
         fill(port)
-        status, printed = ended(process)
+        status, printed, reported = ended(process)
     asked, longest = sum(client[0] for client in found), max(client[1] for client in found)
     print(f"{clients} clients and one that runs, {lasted:.0f} s: {asked} requests, {asked / lasted:.0f} a second, greatest wait {1000 * longest:.0f} ms")
     print(f"{len(taken)} runs, the longest {max(taken):.2f} s; memory in MB: {' '.join(map(str, sizes))}")
     differing = [pair for client in found for pair in client[2]]
     for line, reply in differing[:10]:
         print(f"differs: {line}: {reply}")
-    print(f"{len(differing)} replies differ from the model's; filled up, the service printed '{printed}' and ended with {status}")
-    return 1 if differing or status != 0 or printed != f"calls {CALLS}" else 0
+    print(f"{len(differing)} replies differ from the model's; filled up, the service printed '{printed}', reported '{reported}' and ended with {status}")
+    return 1 if differing or (status, printed, reported) != (3, f"calls {CALLS}", FULL) else 0
 
 
 def main(words):
