@@ -1,18 +1,23 @@
--- What is reported of a store: its rows, a row's payload, and whether it is sound.
-use Rattle.std.specs.Prelude.{◌≡◌, ◌⊎◌, ⊤, ℕ, Bool, true, false, List, Option, None, Result, Ok, Err, if◌then◌else◌}
+-- What is reported of a store: its rows, a row's payload, and whether it is sound; and why it isn't.
+use Rattle.std.specs.Prelude.{◌≡◌, ◌≤◌, ◌+◌, ◌⊎◌, ⊤, ℕ, Bool, true, false, IsTrue, List, Option, None, Result, Ok, Err, if◌then◌else◌}
+use Rattle.std.specs.Io.Iter.{u64_saturate}
 use Rattle.std.specs.Io.KnownBytes.{Appends}
 use Rattle.sqlite.specs.Effect.{Database}
 use Rattle.sqlite.specs.declared.error.Error.{Error}
 use Rattle.sqlite.specs.declared.error.Error.TheVariants.{SqliteFailure}
 use Rattle.sqlite.specs.declared.error.ErrorCode.{ErrorCode}
-use Rattle.sqlite.specs.declared.error.ErrorCode.TheVariants.{NotADatabase, DatabaseCorrupt}
-use Rattle.mpw_store.specs.Changes.{no_schema}
+use Rattle.sqlite.specs.declared.error.ErrorCode.TheVariants.{NotADatabase, DatabaseCorrupt, TransactionState}
+use Rattle.sqlite.specs.State.{State}
+use Rattle.sqlite.specs.Store.{Ghosts}
+use Rattle.mpw_store.specs.Changes.{IsOther, IsReady, no_schema}
 use Rattle.mpw_store.specs.Reading.{TakesAll}
 use Rattle.mpw_store.specs.declared.fault.StoreFault.{StoreFault}
 use Rattle.mpw_store.specs.declared.fault.StoreFault.TheVariants as store
 use Rattle.mpw_store_file.specs.declared.fault.FileFault.{FileFault}
 use Rattle.mpw_store_file.specs.declared.fault.FileFault.TheVariants as file
+use Rattle.mpw_stored_rows.specs.Rows.{Entry}
 use Rattle.mpw_store_listing.specs.Checking.{Accepts}
+use Rattle.mpw_store_listing.specs.Failing.{AcceptsAll, IsUnread}
 use Rattle.mpw_store_listing.specs.Listing.{ListsStore, head_text}
 use Rattle.mpw_store_listing.specs.Payload.{HasPayload}
 use Rattle.mpw_auditor.specs.declared.fault.AuditFault.{AuditFault}
@@ -66,3 +71,53 @@ unopened file.BareLog = audit.File file.BareLog
 unopened file.NoFile = audit.File file.NoFile
 unopened file.Linked = audit.File file.Linked
 unopened file.Unmade = audit.File file.Unmade
+
+-- ---- why nothing is reported, or not all
+
+-- the database has something else; it is inside a transaction; or its rows can't be read
+pub data IsUnanswered {S : Type 0} (accepts : ⊤ → Entry → ⊤ → Type 0) (g : Ghosts S)
+    (old new : State) : StoreFault → Type 0 where
+  other : IsOther old → IsUnanswered accepts g old new store.Other
+  busy : IsTrue old.in_transaction
+      → IsUnanswered accepts g old new (store.Sql (SqliteFailure TransactionState))
+  unread : (fault : StoreFault) → IsReady old → IsUnread accepts g old new fault
+      → IsUnanswered accepts g old new fault
+
+-- why the rows aren't listed, or not all: these, or the sink failed, and so its failures are more than before
+abbrev pub IsUnprinted : {S : Type 0} → Ghosts S → State → State → (failed failed' : ℕ)
+    → AuditFault → Type 0
+IsUnprinted g old new failed failed' (audit.Store fault) = IsUnanswered AcceptsAll g old new fault
+IsUnprinted g old new failed failed' audit.Output = u64_saturate (failed + 1) ≤ failed'
+IsUnprinted g old new failed failed' (audit.Usage text) = ⊥
+IsUnprinted g old new failed failed' (audit.File fault) = ⊥
+IsUnprinted g old new failed failed' (audit.Unsound fault) = ⊥
+IsUnprinted g old new failed failed' (audit.NoPayload place) = ⊥
+IsUnprinted g old new failed failed' audit.Memory = ⊥
+
+-- why there is no payload at a place: these, or no row there has one
+abbrev pub IsUnfound : {S : Type 0} → Ghosts S → State → State → ℕ → AuditFault → Type 0
+IsUnfound g old new place (audit.Store fault) = IsUnanswered AcceptsAll g old new fault
+IsUnfound g old new place (audit.NoPayload row) = (row ≡ place) × LacksPayload old.now place
+IsUnfound g old new place (audit.Usage text) = ⊥
+IsUnfound g old new place (audit.File fault) = ⊥
+IsUnfound g old new place (audit.Unsound fault) = ⊥
+IsUnfound g old new place audit.Output = ⊥
+IsUnfound g old new place audit.Memory = ⊥
+
+-- why a store's rows aren't counted: these, as of a store that isn't sound, or of one that can't be read
+abbrev pub IsUncounted : {S : Type 0} → Ghosts S → State → State → AuditFault → Type 0
+IsUncounted g old new (audit.Unsound why) =
+    (is_unsound why ≡ true) × IsUnanswered Accepts g old new why
+IsUncounted g old new (audit.Store why) =
+    (is_unsound why ≡ false) × IsUnanswered Accepts g old new why
+IsUncounted g old new (audit.Usage text) = ⊥
+IsUncounted g old new (audit.File fault) = ⊥
+IsUncounted g old new (audit.NoPayload place) = ⊥
+IsUncounted g old new audit.Output = ⊥
+IsUncounted g old new audit.Memory = ⊥
+
+-- an open database with nothing, and no transaction
+pub record IsBlank (s : State) : Type 0 where
+  pub is_open : IsTrue s.is_open
+  pub alone : s.in_transaction ≡ false
+  pub schema : s.now.schema ≡ no_schema

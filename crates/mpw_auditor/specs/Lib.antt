@@ -2,3 +2,4 @@ pub mod Answering
 pub mod Forms
 pub mod Settings
 pub mod Status
+pub mod Telling

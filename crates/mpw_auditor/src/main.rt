@@ -2,12 +2,13 @@
 //! row is one. No desk is made of the rows, and nothing is written to the file.
 #![tactic(auto)]
 
+mod answering;
 mod fault;
 mod settings;
 mod telling;
 
 use fault::{AuditFault, exit_status};
-use settings::read_settings;
+use settings::{misread, read_settings};
 use std::process::ExitCode;
 use std::{env, io};
 use telling::tell;
@@ -16,11 +17,7 @@ use telling::tell;
 fn words(rt: &HostRuntime) -> Result<Vec<String>, AuditFault> {
     match env::args(rt) {
         Ok(arguments) => Ok(arguments.collect(rt.alloc())?),
-        Err(error) if error.kind() == io::ErrorKind::OutOfMemory => Err(AuditFault::Memory),
-        Err(_) => Err(AuditFault::Usage(String::from_str(
-            rt.alloc(),
-            "error: an argument is not valid UTF-8",
-        )?)),
+        Err(error) => Err(misread(rt.alloc(), error.kind() == io::ErrorKind::OutOfMemory)),
     }
 }
 

@@ -1,8 +1,8 @@
 //! The command line, in `specs/Settings.antt` by what `clap` finds.
 ghost use Rattle.std.specs.Prelude.{◌≡◌, ◌≢◌, ◌↔◌, None, codes, IsTrue, map, option_map, IfOk, IfErr};
 ghost use Rattle.std.specs.String.{string_bytes};
-ghost use Rattle.clap.specs.Words.{App, Rule, app_of, first_of, found_of, kind_of, new_app, rows_of, subcommand_rows_of, with_rule};
-ghost use Rattle.mpw_auditor.specs.Forms.{HasForm, IsArgument, payload_rule, program_app, store_app, trail_app, word_rule};
+ghost use Rattle.clap.specs.Words.{App, Rule, app_of, first_of, found_of, kind_of, new_app, rows_of, subcommand_rows_of, with_rule, with_subcommand};
+ghost use Rattle.mpw_auditor.specs.Forms.{HasForm, IsArgument, payload_rule, program_app, store_app, top_app, trail_app, word_rule};
 ghost use Rattle.mpw_auditor.specs.Settings.{AreGiven, AreOf, AsksNoPlace, AsksNothing, AsksPlace, AsksStore, AsksTrail, GiveNone, Gives, IsFaultOf, IsMisuse};
 
 use crate::fault::AuditFault;
@@ -82,16 +82,35 @@ fn store_command<'a>(alloc: Global) -> Result<Command<'a>, AllocError>
     with_argument(with_argument(command, task)?, file)
 }
 
+/// The command line's form without a subcommand.
+fn top_command<'a>(alloc: Global) -> Command<'a>
+    ensures { app_of result ≡ top_app }
+{
+    Command::new(alloc, "mpw")
+        .about("What a store holds")
+        .subcommand_required(true)
+}
+
+/// The command line with the subcommand `trail`.
+fn with_trail<'a>(alloc: Global, command: Command<'a>) -> Result<Command<'a>, AllocError>
+    ensures { IfOk result (λ with. app_of with ≡ with_subcommand (app_of command.entry) trail_app.top) }
+{
+    command.subcommand(trail_command(alloc)?)
+}
+
+/// The command line with the subcommand `store`.
+fn with_store<'a>(alloc: Global, command: Command<'a>) -> Result<Command<'a>, AllocError>
+    ensures { IfOk result (λ with. app_of with ≡ with_subcommand (app_of command.entry) store_app.top) }
+{
+    command.subcommand(store_command(alloc)?)
+}
+
 /// The command line's form.
 #[tactic(auto, unfolding(crate::specs::Forms::program_app))]
 fn program_command<'a>(alloc: Global) -> Result<Command<'a>, AllocError>
     ensures { IfOk result (λ command. app_of command ≡ program_app) }
 {
-    Command::new(alloc, "mpw")
-        .about("What a store holds")
-        .subcommand_required(true)
-        .subcommand(trail_command(alloc)?)?
-        .subcommand(store_command(alloc)?)
+    with_store(alloc, with_trail(alloc, top_command(alloc))?)
 }
 
 /// A fault of the command line, with its text.
@@ -102,6 +121,17 @@ fn usage(alloc: Global, text: &str) -> AuditFault
         Ok(text) => AuditFault::Usage(text),
         Err(_) => AuditFault::Memory,
     }
+}
+
+/// The fault of words that can't be read: memory ran out, or one of them isn't UTF-8.
+pub fn misread(alloc: Global, is_memory: bool) -> AuditFault
+    ensures memory { IsTrue is_memory → result ≡ AuditFault.Memory }
+    ensures usage { IsMisuse result }
+{
+    if is_memory {
+        return AuditFault::Memory;
+    }
+    usage(alloc, "error: an argument is not valid UTF-8")
 }
 
 /// The value of an argument, if it has one.

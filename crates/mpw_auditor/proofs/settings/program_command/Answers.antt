@@ -1,22 +1,13 @@
-use Rattle.std.proofs.Common.{ap, ap₂, ◌∙◌, ◌≡◌, codes, true}
+use Rattle.std.proofs.Common.{ap, ◌∙◌}
 use Rattle.std.proofs.lemmas.Result.{IfOk-weaker}
-use Rattle.clap.specs.Words.{App, app_of, new_app, with_subcommand}
-use Rattle.clap.specs.Simple.{app_of_fields}
-use Rattle.mpw_auditor.specs.Forms.{program_app, top_app}
+use Rattle.clap.specs.Words.{App, app_of, with_subcommand}
+use Rattle.mpw_auditor.specs.Forms.{program_app, store_app, trail_app}
 use Rattle.mpw_auditor.proofs.settings.program_command.Goals as goal
 
 pub returns : goal.returns
 unfolding program_app
 returns c =
-    let about_is : app_of c.about.result ≡ new_app (codes "mpw") = ap app_of_fields c.about.ensures
-    ∙ c.new.ensures.app in
-    let top_is : app_of c.subcommand_required.result ≡ top_app =
-    ap app_of_fields c.subcommand_required.ensures
-    ∙ ap (λ (a : App). record a { top = record a.top { subcommand_required = true } })
-    about_is in
-    let trail = c.in_ok-trail_command.ensures in
-    let store = c.in_ok-store_command.ensures in
-    let first = c.in_ok-subcommand.ensures.shape trail.1
-    ∙ ap₂ with_subcommand top_is (ap (λ (a : App). a.top) trail.0) in
-    IfOk-weaker c.subcommand-2.result _ _ (λ r h. h.shape store.1
-    ∙ ap₂ with_subcommand first (ap (λ (a : App). a.top) store.0)) c.subcommand-2.ensures
+    let first = c.in_ok-with_trail.ensures
+    ∙ ap (λ (a : App). with_subcommand a trail_app.top) c.top_command.ensures in
+    IfOk-weaker c.with_store.result _ _ (λ with h. h
+    ∙ ap (λ (a : App). with_subcommand a store_app.top) first) c.with_store.ensures

@@ -1,0 +1,14 @@
+-- How a file that can't be opened is reported, by what was asked of it.
+use Rattle.mpw_store_file.specs.declared.fault.FileFault.{FileFault}
+use Rattle.mpw_auditor.specs.Answering.{unopened}
+use Rattle.mpw_auditor.specs.declared.fault.AuditFault.{AuditFault}
+use Rattle.mpw_auditor.specs.declared.fault.AuditFault.TheVariants as audit
+use Rattle.mpw_auditor.specs.declared.settings.Asked.{Asked}
+use Rattle.mpw_auditor.specs.declared.settings.Asked.TheVariants as asked
+
+-- as of a store that isn't sound if it is checked, else as one that can't be read
+abbrev pub unread : Asked → FileFault → AuditFault
+unread (asked.Check file) fault = unopened fault
+unread (asked.Rows file) fault = audit.File fault
+unread (asked.Payload file place) fault = audit.File fault
+unread (asked.Help text) fault = audit.File fault
