@@ -101,7 +101,8 @@ def served():
     with Folder() as folder:
         found = []
         first, again = ["OK 0"] * 9, ["OK 0", "OK 2", "user ann", "authorized alpha", "OK 0"]
-        for lines, replies, told in (ASKED, first, f"{NEW[0]}\n"), (["open ann abc", "whoami", "activate alpha"], again, ""):
+        counts = "mpw: desk.db has 10 rows and 0 finished runs\n"
+        for lines, replies, told in (ASKED, first, f"{NEW[0]}\n"), (["open ann abc", "whoami", "activate alpha"], again, counts):
             service = subprocess.Popen([MPW, *SERVE, "desk.db"], cwd=folder.path, text=True, stdout=subprocess.PIPE, stderr=subprocess.PIPE)
             port = int(service.stdout.readline().rpartition(":")[2])
             found += differing("a second process", folder.run(*SCRIPT, "desk.db"), (3, [], ["error: the store: database is locked"]))

@@ -44,6 +44,11 @@ def new(store):
     return f"mpw: {store} is new\n"
 
 
+def has(store, rows, runs):
+    """What a service prints on the standard error when it opens a store with so many rows and finished runs."""
+    return f"mpw: {store} has {rows} row{'' if rows == 1 else 's'} and {runs} finished run{'' if runs == 1 else 's'}\n"
+
+
 def rows_of(store):
     """The rows of a store that no program has open: connection, kind, line."""
     with closing(sqlite3.connect(store)) as database:
@@ -182,8 +187,39 @@ class Kept(unittest.TestCase):
                 with self.assertRaises(Denied):
                     desk.sign(key)
                 desk.hang_up()
-                self.assertEqual(served.end()[::2], (0, ""))
+                self.assertEqual(served.end()[::2], (0, has(at("desk.db"), len(rows), 1)))
             self.assertEqual(rows_of(at("desk.db"))[:len(rows)], rows)
+
+    def test_counts(self):
+        """How many rows and finished runs a store has is printed before a desk gets the first row, so also if that refuses it. A store without its table has
+        no such line, and one with a bad row isn't counted."""
+        with folder() as at:
+            store = at("desk.db")
+            stranger = [word.replace("root", "ann") for word in serving.words(1, 1, "--store", store)]
+            with service(store, 1) as served:
+                with served.desk() as desk:
+                    serving.grant_all(desk, "pad")
+                    desk.submit("pad", "PAD", layouts.pad())
+                    desk.deck(DECK)
+                    desk.place("pad", "p", "R0", 0, 0)
+                    for _ in range(2):
+                        desk.run()
+                        self.assertIs(desk.wait(poll=0.01, limit=LIMIT).state, State.FINISHED)
+                self.assertEqual(served.end()[::2], (0, new(store)))
+            rows = rows_of(store)
+            other = "error: the store: it belongs to another officer or token."
+            status, printed, told = ended(stranger)
+            self.assertEqual((status, printed, told.startswith(has(store, len(rows), 2) + other)), (3, "", True), told)
+            with closing(sqlite3.connect(store)) as database:
+                database.execute("delete from changes where k > 1")
+                database.commit()
+            status, printed, told = ended(stranger)
+            self.assertEqual((status, printed, told.startswith(has(store, 1, 0) + other)), (3, "", True), told)
+            with closing(sqlite3.connect(store)) as database:
+                database.execute("update changes set k = 2")
+                database.commit()
+            status, printed, told = ended(stranger)
+            self.assertEqual((status, printed, told.startswith(other)), (3, "", True), told)
 
     def test_a_script_goes_on_from_a_service(self):
         with folder() as at:
@@ -319,7 +355,7 @@ class Full(unittest.TestCase):
             with served.desk() as desk:
                 self.assertTrue(all(is_there(desk, role) for role in client.accepted))
                 self.assertFalse(is_there(desk, client.last))
-            self.assertEqual(served.end()[::2], (0, ""))
+            self.assertRegex(served.end()[2], r"\Ampw: [^ ]+ has [0-9]+ rows and 0 finished runs\n\Z")
 
     def test_a_file_that_may_not_grow(self):
         with folder() as at:

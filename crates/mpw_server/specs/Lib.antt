@@ -1,3 +1,4 @@
+pub mod Counting
 pub mod Staff
 pub mod Status
 pub mod Stored

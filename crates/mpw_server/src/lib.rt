@@ -8,6 +8,7 @@
 //! needs no core.
 #![tactic(auto)]
 
+mod counting;
 mod desk;
 mod fault;
 mod laws;
