@@ -27,7 +27,8 @@ MPW = os.environ.get("MPW_PROGRAM", os.path.join(TOP, "crates", "mpw_main", "out
 PAGE = os.path.join(os.path.dirname(ASK[-1]), "mpw-page")
 DIGEST = hashlib.sha256(b"abc").hexdigest()
 BUILT = [os.path.join(TOP, "crates", crate, "out", crate) for crate in ("mpw_main", "mpw_firm")]
-LIMIT = 60
+# A machine may be slow: 2^20 calls take half a minute on a quick one.
+LIMIT = 240
 NOBODY = 65534
 DECK = b"tile 256\nwidth w 1/0 11\n"
 
