@@ -7,8 +7,8 @@
 // then for each request its length and its bytes. A `status` that begins a session is sent until the run is finished.
 //
 // `ask` prints "ready" once all clients have a session, and waits for one more byte. Then it prints the seconds, the replies, the median, the 99th percentile and
-// the greatest of the times in microseconds, and how many replies weren't OK. `flood` prints the connections that it made, the replies, and the connections that the
-// service closed.
+// the greatest of the times in microseconds, and how many replies weren't OK. The clients leave at the end of the input. `flood` prints the connections that it
+// made, the replies, and the connections that the service closed.
 #include <arpa/inet.h>
 #include <errno.h>
 #include <netinet/tcp.h>
@@ -231,6 +231,8 @@ static int ask_all(void) {
     double begun = microseconds();
     pthread_barrier_wait(&barrier);
     report((microseconds() - begun) / 1e6);
+    fflush(stdout);
+    while (getchar() != EOF) {}
     return 0;
 }
 

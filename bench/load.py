@@ -147,14 +147,21 @@ class Asking:
 
     def go(self):
         """Seconds, replies, the median, the 99th percentile and the greatest of their times in µs, and how many weren't OK."""
-        told, _ = self.process.communicate(b"\n")
-        if self.process.returncode:
+        self.process.stdin.write(b"\n")
+        self.process.stdin.flush()
+        found = self.process.stdout.readline()
+        if not found:
             sys.exit("the clients failed")
-        return [float(it) for it in told.split()]
+        return [float(it) for it in found.split()]
 
-    def leave(self):
-        self.process.kill()
+    def __enter__(self):
+        return self
+
+    def __exit__(self, *_):
+        """All clients leave."""
+        self.process.stdin.close()
         self.process.wait()
+        self.process.stdout.close()
 
 
 def measured(load, program, case):
@@ -166,11 +173,12 @@ def measured(load, program, case):
         for turn in range(turns):
             begins = [SESSION + (filled() if turn == 0 and number == 0 else []) for number in range(int(case.clients))]
             plan = pack([(begin, requests_of(case, number, count)) for number, begin in enumerate(begins)])
-            asking, before = Asking(load, port, plan, 50 if case.kind == "ahead" else 1), busy(process)
-            took, replies, median, last, _, failed = asking.go()
+            with Asking(load, port, plan, 50 if case.kind == "ahead" else 1) as asking:
+                before = busy(process)
+                took, replies, median, last, _, failed = asking.go()
+                used += busy(process) - before
             if failed:
                 sys.exit(f"{failed:.0f} replies of {case} weren't OK")
-            used += busy(process) - before
             seconds, asked = seconds + took, asked + replies
             medians.append(median)
             lasts.append(last)
@@ -218,10 +226,11 @@ def memory_of(load, program, clients):
     idle = None
     with service(program, *options_of(program, "limits")) as (process, port):
         for _ in range(turns):
-            asking = Asking(load, port, pack([(SESSION, [b"whoami\n"] * each)] * clients))
-            idle = idle or resident(process)[0]
-            asking.go()
-        return [idle, *resident(process)]
+            with Asking(load, port, pack([(SESSION, [b"whoami\n"] * each)] * clients)) as asking:
+                idle = idle or resident(process)[0]
+                asking.go()
+                last = resident(process)
+        return [idle, *last]
 
 
 def memory(load, programs, rounds, _):
@@ -274,7 +283,7 @@ def paying_strangers(_, port):
 
 STRANGERS = {"none": lambda *_: nullcontext(), "asking": asking_strangers, "paying": paying_strangers}
 # How long a user tries to log in, in seconds.
-PATIENCE = 20
+PATIENCE = 10
 
 
 def login_time(port):
@@ -290,15 +299,15 @@ def login_time(port):
 
 
 def flooded(load, program, users, strangers):
-    """Of users next to strangers: replies a second, the median, the 99th percentile and the greatest of their times in µs, and how many seconds one more login
-    takes, if there is a place for it."""
+    """Of users next to strangers: replies a second, the median, the 99th percentile and the greatest of their times in µs, and the seconds of one more login, or 0 if
+    there is no place for it."""
     with service(program, "--ongoing") as (_, port):
-        asking = Asking(load, port, pack([(SESSION, [b"whoami\n"] * (ASKED["64"] // 2 // users))] * users))
-        with STRANGERS[strangers](load, port):
+        plan = pack([(SESSION, [b"whoami\n"] * (ASKED["64"] // users))] * users)
+        with Asking(load, port, plan) as asking, STRANGERS[strangers](load, port):
             time.sleep(1)
             seconds, replies, *times, _ = asking.go()
-            logins = [login_time(port) for _ in range(3)]
-    return replies / seconds, *times, statistics.median(logins)
+            login = login_time(port) if users < PLACES else 0
+    return replies / seconds, *times, login
 
 
 def flood(load, programs, rounds, _):
