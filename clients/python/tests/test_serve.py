@@ -110,11 +110,13 @@ def sessions_of(file):
 
 
 def ask_until_the_end(served):
-    """Asks `whoami` in sessions of the officer, one after the other, until the service closes the connection."""
+    """Asks `whoami` in sessions of the officer, one after the other, until the service closes the connection, or has no more to say."""
     reply = b"OK 2\nuser root\nauthorized officer\n"
     with suppress(OSError):
         while True:
             with served.connect() as end:
+                # A desk without calls answers less than is awaited, and the connection stays open.
+                end.settimeout(20)
                 end.sendall(b"open root abc\n")
                 if end.recv(100) != b"OK 0\n":
                     return
