@@ -2,3 +2,4 @@ mod AloneLemmas
 mod FirstLemmas
 mod TileLemmas
 mod ListLemmas
+mod GroupLemmas

@@ -8,8 +8,9 @@ ghost use Rattle.mpw_tiles.specs.Snapshots.{plan_for};
 ghost use Rattle.mpw_check.specs.Lists.{tile_count, AreTiles, AreOfTiles};
 ghost use Rattle.mpw_check.specs.Internal.Tiled.{IsCut, jobs_of, markers_in, IsAnswered};
 
+use crate::groups::check_by_columns;
 use crate::laws::tiles_make_the_layout;
-use mpw_columns::{MAX_SHOWN, Progress, check_columns};
+use mpw_columns::Progress;
 use mpw_cuts::{is_placed, repeats};
 use mpw_job::{Answer, Job, tile_job};
 use mpw_markers::{Book, TileMarkers, stitch};
@@ -274,8 +275,9 @@ pub fn checked_tiles(snapshot: &Snapshot) -> Option<u32>
 ///
 /// A layout of at most 2^20 flat shapes that at most 4096 tiles of the deck's side cover is checked by tiles, unless few structures have most of it
 /// ([`checked_tiles`]). The cost is that of [`check_tiles`] for all tiles, and of [`mpw_markers::stitch`]. All other layouts are checked by columns, at the
-/// cost of [`check_columns`] with [`MAX_SHOWN`]. The result is the same either way. Progress reports tiles or columns. Some layouts make a check by columns
-/// slow, or make it need much memory:
+/// cost of [`mpw_columns::check_columns`] with [`mpw_columns::MAX_SHOWN`]; if few structures have most of the layout, group by group, where the rules of a
+/// group share layers. The result is the same either way. Progress reports tiles or columns. The total grows when a group begins. Some layouts make a check
+/// by columns slow, or make it need much memory:
 /// - a column holds the rectangles of all shapes that touch its window, however many there are;
 /// - wires across all columns are listed in each, so columns that halving would ease by less than a quarter stay whole;
 /// - each column walks over all instances of an array that touches its window.
@@ -293,6 +295,6 @@ pub fn check_layout<P: Progress>(
 {
     match checked_tiles(snapshot) {
         Some(tiles) => check_all(rt, alloc, snapshot, tiles, progress),
-        None => check_columns(rt, alloc, snapshot, MAX_SHOWN, progress),
+        None => check_by_columns(rt, alloc, snapshot, progress),
     }
 }

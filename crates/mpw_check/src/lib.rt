@@ -14,6 +14,8 @@
 mod check;
 mod fault;
 mod first;
+mod following;
+mod groups;
 mod laws;
 mod layout;
 

@@ -1,0 +1,8 @@
+use Rattle.std.proofs.Common.{take}
+use Rattle.std.specs.List.{AllZip}
+use Rattle.mpw_groups.specs.Joined.{AreGroupMarkers}
+use Rattle.mpw_check.proofs.groups.books_of.Given as goal
+
+abbrev pub invariant-loop-group : goal.invariant-loop-group
+invariant-loop-group g l =
+    AllZip (AreGroupMarkers l.fn.snapshot) (take l.group-index l.fn.groups) l.books.items

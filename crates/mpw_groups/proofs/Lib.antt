@@ -1,0 +1,8 @@
+mod Staying
+mod Named
+mod Squared
+mod Touched
+mod Merging
+mod Grouped
+mod Owning
+mod Ruled

@@ -1,0 +1,8 @@
+use Rattle.std.proofs.Common.{◌≡◌, take}
+use Rattle.std.specs.Prelude.{filter}
+use Rattle.mpw_groups.specs.Layers.{is_among, stays}
+use Rattle.mpw_groups.proofs.elements.elements_on.Given as goal
+
+abbrev pub invariant-loop-element : goal.invariant-loop-element
+invariant-loop-element l =
+    l.staying.items ≡ filter (stays (is_among l.layers)) (take l.element-index l.elements)

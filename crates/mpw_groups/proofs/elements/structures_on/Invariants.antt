@@ -1,0 +1,7 @@
+use Rattle.std.proofs.Common.{◌≡◌, take}
+use Rattle.mpw_groups.specs.Layers.{is_among, library_on}
+use Rattle.mpw_groups.proofs.elements.structures_on.Given as goal
+
+abbrev pub invariant-loop-structure : goal.invariant-loop-structure
+invariant-loop-structure l =
+    l.staying ≡ library_on (is_among l.layers) (take l.structure-index l.structures)
