@@ -6,7 +6,7 @@ use Rattle.mpw_deck.specs.Reading.{deck_of}
 use Rattle.mpw_job.specs.Layout.{AreLayoutMarkers}
 use Rattle.mpw_markers.specs.declared.marker.Marker.{Marker}
 use Rattle.mpw_parts.specs.Parts.{Found}
-use Rattle.mpw_parts.specs.Reading.{part_of, is_older}
+use Rattle.mpw_parts.specs.Reading.{part_of, is_older, begins_as_part}
 use Rattle.mpw_parts.specs.Stitching.{IsBookOf, IsFaultOf}
 use Rattle.mpw_parts.specs.declared.fault.PartsFault.{PartsFault}
 use Rattle.mpw_spread.specs.Spread.{Texts, IsPartOf, IsPartBeside}
@@ -19,17 +19,20 @@ use Rattle.mpw_firm.specs.Blanks.{blank_text}
 use Rattle.mpw_told.specs.ToldFaults.{IsOfDeck, check_told}
 use Rattle.mpw_outputs.specs.Listed.{listed_text}
 use Rattle.mpw_told.specs.Told.{Refuses, Tells}
-use Rattle.mpw_told.specs.ToldParts.{Holder, no_markers_text, no_part_text, older_text, fault_text}
+use Rattle.mpw_told.specs.ToldParts.{Holder, no_markers_text, no_part_text, older_text, damaged_text, fault_text}
 
--- A file is refused whose text is no part, with a text of its own where it is one of an older form; or there is no room.
-abbrev pub unread_text : Bool → List ℕ → List ℕ
-unread_text true file = older_text file
-unread_text false file = no_part_text file
+-- A file is refused whose text is no part, with a text of its own if it begins as an older part, and another if it begins as a part; or
+-- there is no room.
+abbrev pub unread_text : (older begun : Bool) → List ℕ → List ℕ
+unread_text true begun file = older_text file
+unread_text false true file = damaged_text file
+unread_text false false file = no_part_text file
 
 abbrev pub IsOfFile : List ℕ → List ℕ → FirmFault → Type 0
 IsOfFile file text fault =
     (fault ≡ Memory)
-    ⊎ ((part_of text ≡ None) × Refuses (unread_text (is_older text) file) fault)
+    ⊎ ((part_of text ≡ None)
+    × Refuses (unread_text (is_older text) (begins_as_part text) file) fault)
 
 -- ---- parts of these files, of a layout with so many columns under so many rules
 

@@ -1,10 +1,11 @@
 //! Parts stitched, and the markers of the whole.
 ghost use Rattle.std.specs.Prelude.{◌≡◌, List, Some, IfOk, IfErr};
 ghost use Rattle.mpw_parts.specs.Parts.{Found};
-ghost use Rattle.mpw_parts.specs.Reading.{part_of};
+ghost use Rattle.mpw_parts.specs.Reading.{begins_as_part, is_older, part_of};
 ghost use Rattle.mpw_firm.specs.Came.{IsStitched};
 ghost use Rattle.mpw_outputs.specs.Outputs.{AreApart};
-ghost use Rattle.mpw_firm.specs.Stitched.{IsOfFile, IsWholeOf};
+ghost use Rattle.mpw_told.specs.Told.{Refuses};
+ghost use Rattle.mpw_firm.specs.Stitched.{IsOfFile, IsWholeOf, unread_text};
 ghost use Rattle.mpw_firm.specs.Uses.{stitch_inputs, stitch_outputs};
 
 use crate::checked::Checked;
@@ -14,11 +15,24 @@ use crate::report::write_listed;
 use crate::whole::{Whole, whole_of};
 use mpw_asked::StitchOptions;
 use mpw_outputs::Outputs;
-use mpw_parts::{Part, is_older_part, read_part};
+use mpw_parts::{Part, begins_as_part, is_older_part, read_part};
 use mpw_sources::{Content, read_file, rule_notes};
-use mpw_told::{FirmFault, PartFile, no_part, older_part};
+use mpw_told::{FirmFault, PartFile, damaged_part, no_part, older_part};
 use std::alloc::{AllocError, Global};
 use std::io;
+
+/// What is told of a file whose text is no part.
+fn unread_part(alloc: Global, file: &str, text: &[u8]) -> FirmFault
+    ensures { Refuses (unread_text (is_older text.now) (begins_as_part text.now) file.now) result }
+{
+    if is_older_part(text) {
+        older_part(alloc, file)
+    } else if begins_as_part(text) {
+        damaged_part(alloc, file)
+    } else {
+        no_part(alloc, file)
+    }
+}
 
 /// The part that a file's text is.
 fn part_in(alloc: Global, file: &str, text: &[u8]) -> Result<Part, FirmFault>
@@ -27,8 +41,7 @@ fn part_in(alloc: Global, file: &str, text: &[u8]) -> Result<Part, FirmFault>
 {
     match read_part(alloc, text) {
         Ok(Some(part)) => Ok(part),
-        Ok(None) if is_older_part(text) => Err(older_part(alloc, file)),
-        Ok(None) => Err(no_part(alloc, file)),
+        Ok(None) => Err(unread_part(alloc, file, text)),
         Err(_) => Err(FirmFault::Memory),
     }
 }

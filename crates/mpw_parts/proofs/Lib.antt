@@ -2,6 +2,7 @@ mod WordLemmas
 mod KeyLemmas
 mod AllOf
 mod Splitting
+mod Digests
 mod Words
 mod ReadBack
 mod PartLemmas

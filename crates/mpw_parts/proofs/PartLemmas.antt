@@ -4,22 +4,24 @@ use Rattle.std.specs.Prelude.{All, IfSome}
 use Rattle.std.specs.List.{AllZip, flat_map}
 use Rattle.std.specs.Fmt.{decimal, signed_decimal}
 use Rattle.std.proofs.lemmas.List.Concat.{flat_map-append}
+use Rattle.std.proofs.lemmas.Option.{cond_some, option_and_then_some}
 use Rattle.std.proofs.lemmas.List.Elements.{All-head, All-tail, All-nil, All-cons, All-append, All-map, All-weaker, All-from_recursion}
 use Rattle.hex.specs.Hex.{encode_lower}
 use Rattle.mpw_geom.specs.declared.plane.Box2.{Box2}
 use Rattle.mpw_geom.specs.Names.{name_eq}
-use Rattle.mpw_geom.proofs.Linked.{same_name}
+use Rattle.mpw_geom.proofs.Linked.{same_name, name_eq-refl}
 use Rattle.mpw_text.proofs.Decimals.{number_read, le_true}
 use Rattle.mpw_text.specs.Text.{lines_of, words_of}
 use Rattle.mpw_markers.specs.declared.marker.Key.{Key}
 use Rattle.mpw_keys.specs.declared.column.Column.{Column}
 use Rattle.mpw_parts.specs.declared.head.Heading.{Heading}
 use Rattle.mpw_parts.specs.declared.line.Listed.{Listed}
-use Rattle.mpw_parts.specs.Laws.{PartsAreReadBack}
+use Rattle.mpw_parts.specs.Laws.{OnlyPartsAreRead, PartsAreReadBack}
 use Rattle.mpw_parts.specs.Parts.{Checked, Found, IsListOf, IsColumn, AreKeys, IsBox, IsChecked, IsPart}
-use Rattle.mpw_parts.specs.Reading.{all_of, fields_of, box_by, extent_of, column_of, head_from, head_by, head_of, is_ended, listed_of, within, part_by, ◌>>=◌}
-use Rattle.mpw_parts.specs.Text.{ended, spaced, column_line, columns_text, box_fields, extent_text, head_names, head_line, part_text}
+use Rattle.mpw_parts.specs.Reading.{all_of, fields_of, box_by, extent_of, column_of, head_from, head_by, head_of, listed_of, within, part_by, exact, part_of, ◌>>=◌}
+use Rattle.mpw_parts.specs.Text.{ended, spaced, column_line, columns_text, box_fields, extent_text, head_names, head_line, body_text, digest_line, part_text}
 use Rattle.mpw_parts.proofs.AllOf.{all_read}
+use Rattle.mpw_parts.proofs.Digests.{digest_one_line}
 use Rattle.mpw_parts.proofs.ReadBack.{IsLine, line_of, line_read, line_one_line}
 use Rattle.mpw_parts.proofs.Splitting.{IsGlyph, IsPlain, IsOne, each_behind, parts_again, lines_again, before_last, one_word, one_line, one_field, glyphs, all_flat}
 use Rattle.mpw_parts.proofs.Words.{name_read, name_glyphs, digest_read, bytes_read, hex_glyphs, number_plain, integer_read, integer_plain}
@@ -89,7 +91,7 @@ extent_glyphs (Some b) h =
 -- ---- the first line
 
 abbrev Kind : List ℕ
-Kind = codes "mpw-part-2"
+Kind = codes "mpw-part-3"
 
 abbrev head_words : Checked → ℕ → List (List ℕ)
 head_words s first =
@@ -217,34 +219,32 @@ lines_from (c ∷ columns) (l ∷ lists) zipped cs ls =
 
 -- ---- the whole
 
-abbrev End : List ℕ
-End = codes "end"
+abbrev lines_behind : List Listed → List ℕ → List (List ℕ)
+lines_behind listed last = map line_of listed ++ last ∷ []
 
-abbrev lines_behind : List Listed → List (List ℕ)
-lines_behind listed = map line_of listed ++ End ∷ []
+abbrev last_of : Found → List ℕ
+last_of p = digest_line (body_text p)
 
-text_is : (p : Found) (lines : AreLines p.columns p.lists)
-    → part_text p ≡ flat_map ended (head_line p.subject p.first ∷ lines_behind lines.listed)
+text_is : (p : Found) (lines : AreLines p.columns p.lists) → part_text p ≡ flat_map ended
+    (head_line p.subject p.first ∷ lines_behind lines.listed (last_of p))
 unfolding part_text
-text_is p lines =
-    append_assoc (ended (head_line p.subject p.first)) (columns_text p.columns p.lists) (ended End)
-    ∙ ap (λ t. ended (head_line p.subject p.first) ++ t)
-    (ap (λ t. t ++ ended End) lines.text
-    ∙ sym (flat_map-append ended (map line_of lines.listed) (End ∷ [])))
+text_is p lines = text_with p lines (last_of p)
+  where
+    text_with : (p : Found) (lines : AreLines p.columns p.lists) (last : List ℕ)
+        → body_text p ++ ended last ≡ flat_map ended
+        (head_line p.subject p.first ∷ lines_behind lines.listed last)
+    unfolding body_text
+    text_with p lines last =
+        append_assoc (ended (head_line p.subject p.first)) (columns_text p.columns p.lists)
+        (ended last)
+        ∙ ap (λ t. ended (head_line p.subject p.first) ++ t)
+        (ap (λ t. t ++ ended last) lines.text
+        ∙ sym (flat_map-append ended (map line_of lines.listed) (last ∷ [])))
 
-is_ended_here : (lines : List (List ℕ)) → is_ended (lines ++ End ∷ []) ≡ true
-is_ended_here [] = refl
-is_ended_here (line ∷ []) = refl
-is_ended_here (line ∷ next ∷ lines) = is_ended_here (next ∷ lines)
-
-lines_read : (listed : List Listed) → All IsLine listed
-    → listed_of (lines_behind listed) ≡ Some listed
-unfolding listed_of
-lines_read listed all =
-    ap (λ b. cond b (all_of column_of (take (length (lines_behind listed) - 1)
-    (lines_behind listed)))
-    None) (is_ended_here (map line_of listed))
-    ∙ ap (all_of column_of) (before_last (map line_of listed) End)
+lines_read : (listed : List Listed) (last : List ℕ) → All IsLine listed
+    → listed_of (lines_behind listed last) ≡ Some listed
+lines_read listed last all =
+    ap (all_of column_of) (before_last (map line_of listed) last)
     ∙ all_read column_of line_of IsLine line_read listed all
 
 within_read : (p : Found) → p.first + length p.lists ≤ p.subject.columns
@@ -258,32 +258,55 @@ head_one : (s : Checked) (first : ℕ) → IsChecked s → first ≤ 4194304
 head_one s first h few = rw (head_is s first) (head_one_line s first h few)
 
 all_one_line : (p : Found) (lines : AreLines p.columns p.lists) → IsPart p → p.first ≤ 4194304
-    → All (IsOne 10) (head_line p.subject p.first ∷ lines_behind lines.listed)
+    → All (IsOne 10) (head_line p.subject p.first ∷ lines_behind lines.listed (last_of p))
 all_one_line p lines h few =
-    All-cons (IsOne 10) (head_line p.subject p.first) (lines_behind lines.listed)
+    All-cons (IsOne 10) (head_line p.subject p.first) (lines_behind lines.listed (last_of p))
     (head_one p.subject p.first h.subject few)
-    (All-append (IsOne 10) (map line_of lines.listed) (End ∷ [])
+    (All-append (IsOne 10) (map line_of lines.listed) (last_of p ∷ [])
     (All-map (IsOne 10) line_of lines.listed
     (All-weaker IsLine (λ l. IsOne 10 (line_of l)) line_one_line lines.listed lines.all))
-    (All-from_recursion (IsOne 10) (End ∷ [])
-    (All-from_recursion (λ byte. (byte == 10) ≡ false) End (refl, (refl, (refl, tt))), tt)))
+    (All-from_recursion (IsOne 10) (last_of p ∷ []) (digest_one_line (body_text p), tt)))
 
-pub parts_are_read_back : PartsAreReadBack
+said_back : (p : Found) → IsPart p → part_by (lines_of (part_text p)) ≡ Some p
 unfolding part_by
-parts_are_read_back p h =
+said_back p h =
     let most = h.subject.few in
     let inside = h.within.few in
     let few : p.first ≤ 4194304 = omega (arith, most, inside) in
     let lines = lines_from p.columns p.lists h.within.lists h.columns h.lists in
+    let last = last_of p in
     let head : Heading = record { subject = p.subject; first = p.first } in
     ap (λ t. part_by (lines_of t)) (text_is p lines)
-    ∙ ap part_by (lines_again (head_line p.subject p.first ∷ lines_behind lines.listed)
+    ∙ ap part_by (lines_again (head_line p.subject p.first ∷ lines_behind lines.listed last)
     (all_one_line p lines h few))
-    ∙ ap (λ o. o >>= λ head. listed_of (lines_behind lines.listed) >>= λ found. within head
+    ∙ ap (λ o. o >>= λ head. listed_of (lines_behind lines.listed last) >>= λ found. within head
     (map (λ (l : Listed). l.column) found) (map (λ (l : Listed). l.keys) found))
     (head_read p.subject p.first h.subject few)
     ∙ ap (λ o. o >>= λ found. within head (map (λ (l : Listed). l.column) found)
-    (map (λ (l : Listed). l.keys) found)) (lines_read lines.listed lines.all)
+    (map (λ (l : Listed). l.keys) found)) (lines_read lines.listed last lines.all)
     ∙ ap (λ cs. within head cs (map (λ (l : Listed). l.keys) lines.listed)) lines.own_columns
     ∙ ap (λ ls. within head p.columns ls) lines.own_lists
     ∙ within_read p inside
+
+-- ---- the text, and no other
+
+own_text : (p : Found) → exact (part_text p) p ≡ Some p
+unfolding exact
+own_text p = ap (λ b. cond b (Some p) None) (name_eq-refl (part_text p))
+
+pub parts_are_read_back : PartsAreReadBack
+unfolding part_of
+parts_are_read_back p h = ap (λ o. o >>= exact (part_text p)) (said_back p h) ∙ own_text p
+
+exact_text : (text : List ℕ) (said part : Found) → exact text said ≡ Some part
+    → text ≡ part_text part
+unfolding exact
+exact_text text said part e =
+    let both = cond_some (name_eq text (part_text said)) said part e in
+    same_name text (part_text said) both.0 ∙ ap part_text both.1
+
+pub only_parts_are_read : OnlyPartsAreRead
+unfolding part_of
+only_parts_are_read text part e =
+    option_and_then_some (exact text) (part_by (lines_of text)) part e
+    (λ said is here. exact_text text said part here)

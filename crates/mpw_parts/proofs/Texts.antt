@@ -1,9 +1,12 @@
 -- The lines of columns, one more.
 use Rattle.std.proofs.Common.{◌≡◌, ◌∙◌, ℕ, zero, suc, ◌+◌, ◌<◌, List, [], ◌∷◌, ◌++◌, Option, None, Some, length, subst, take, get_or, sym, ap, arith, append_assoc, append-nil}
 use Rattle.std.specs.Io.KnownBytes.{Appends}
+use Rattle.sha2.specs.Hashers.{Holds256}
+use Rattle.sha2.specs.declared.Sha256.{Sha256}
 use Rattle.std.proofs.KnownBytes.{Appends-trans}
 use Rattle.mpw_markers.specs.declared.marker.Key.{Key}
 use Rattle.mpw_keys.specs.declared.column.Column.{Column}
+use Rattle.mpw_parts.specs.Internal.Writing.{Takes}
 use Rattle.mpw_parts.specs.Text.{ended, column_line, columns_text}
 
 pub none_written : (old : Option (List ℕ)) (lists : List (List Key))
@@ -26,14 +29,41 @@ one_column_more (c ∷ cs) (l ∷ ls) (suc i) d e less below =
     ∙ sym (append_assoc (ended (column_line c l)) (columns_text (take i cs) (take i ls))
     (ended (column_line (get_or cs i d) (get_or ls i e))))
 
-pub one_written : (cs : List Column) (ls : List (List Key)) (i : ℕ) (d : Column)
-    (e keys : List Key) (old middle new : Option (List ℕ)) → length cs ≡ length ls → i < length cs
-    → keys ≡ get_or ls i e → Appends old middle (columns_text (take i cs) (take i ls))
-    → Appends middle new (ended (column_line (get_or cs i d) keys))
-    → Appends old new (columns_text (take (i + 1) cs) (take (i + 1) ls))
-one_written cs ls i d e keys old middle new long less is before next =
+one_more : (cs : List Column) (ls : List (List Key)) (i : ℕ) (d : Column) (e : List Key)
+    (line : List ℕ) → length cs ≡ length ls → i < length cs
+    → line ≡ ended (column_line (get_or cs i d) (get_or ls i e))
+    → columns_text (take i cs) (take i ls) ++ line ≡ columns_text (take (i + 1) cs) (take (i + 1) ls)
+one_more cs ls i d e line long less is =
     let next_place : suc i ≡ i + 1 = omega arith in
-    subst (λ n. Appends old new (columns_text (take n cs) (take n ls))) next_place
-    (subst (Appends old new) (sym (one_column_more cs ls i d e less (omega (arith, long, less))))
-    (Appends-trans old middle new (columns_text (take i cs) (take i ls)) _ before
-    (subst (λ (k : List Key). Appends middle new (ended (column_line (get_or cs i d) k))) is next)))
+    ap (λ t. columns_text (take i cs) (take i ls) ++ t) is
+    ∙ sym (one_column_more cs ls i d e less (omega (arith, long, less)))
+    ∙ ap (λ n. columns_text (take n cs) (take n ls)) next_place
+
+pub one_written : (cs : List Column) (ls : List (List Key)) (i : ℕ) (d : Column) (e : List Key)
+    (line : List ℕ) (old middle new : Option (List ℕ)) → length cs ≡ length ls → i < length cs
+    → line ≡ ended (column_line (get_or cs i d) (get_or ls i e))
+    → Appends old middle (columns_text (take i cs) (take i ls)) → Appends middle new line
+    → Appends old new (columns_text (take (i + 1) cs) (take (i + 1) ls))
+one_written cs ls i d e line old middle new long less is before next =
+    subst (Appends old new) (one_more cs ls i d e line long less is)
+    (Appends-trans old middle new (columns_text (take i cs) (take i ls)) line before next)
+
+-- ---- what a hasher takes
+
+pub none_taken : (old : Sha256) (lists : List (List Key)) → Takes old old (columns_text [] lists)
+unfolding columns_text
+none_taken old lists m held = subst (Holds256 old) (sym (append-nil m)) held
+
+pub both_taken : (old middle new : Sha256) (first second : List ℕ) → Takes old middle first
+    → Takes middle new second → Takes old new (first ++ second)
+both_taken old middle new first second before next m held =
+    subst (Holds256 new) (append_assoc m first second) (next (m ++ first) (before m held))
+
+pub one_taken : (cs : List Column) (ls : List (List Key)) (i : ℕ) (d : Column) (e : List Key)
+    (line : List ℕ) (old middle new : Sha256) → length cs ≡ length ls → i < length cs
+    → line ≡ ended (column_line (get_or cs i d) (get_or ls i e))
+    → Takes old middle (columns_text (take i cs) (take i ls)) → Takes middle new line
+    → Takes old new (columns_text (take (i + 1) cs) (take (i + 1) ls))
+one_taken cs ls i d e line old middle new long less is before next =
+    subst (Takes old new) (one_more cs ls i d e line long less is)
+    (both_taken old middle new (columns_text (take i cs) (take i ls)) line before next)

@@ -16,6 +16,7 @@ use Rattle.mpw_parts.specs.declared.head.Heading.{Heading}
 use Rattle.mpw_parts.specs.declared.key.Edges.{Edges}
 use Rattle.mpw_parts.specs.declared.line.Listed.{Listed}
 use Rattle.mpw_parts.specs.Parts.{Found}
+use Rattle.mpw_parts.specs.Text.{part_text}
 
 -- a part, and then the next where there is one
 infixl 10 ◌>>=◌
@@ -168,21 +169,14 @@ head_from _ = None
 
 unfoldable pub head_by : List (List ℕ) → Option Heading
 head_by [] = None
-head_by (kind ∷ words) = if name_eq kind (codes "mpw-part-2") then head_from words else None
+head_by (kind ∷ words) = if name_eq kind (codes "mpw-part-3") then head_from words else None
 
 abbrev pub head_of : List ℕ → Option Heading
 head_of line = head_by (words_of line)
 
--- whether the last line is `end`
-abbrev pub is_ended : List (List ℕ) → Bool
-is_ended [] = false
-is_ended (line ∷ []) = name_eq line (codes "end")
-is_ended (line ∷ next ∷ lines) = is_ended (next ∷ lines)
-
--- the columns of the lines before it
-unfoldable pub listed_of : List (List ℕ) → Option (List Listed)
-listed_of lines =
-    if is_ended lines then all_of column_of (take (length lines - 1) lines) else None
+-- the columns of the lines before the last
+abbrev pub listed_of : List (List ℕ) → Option (List Listed)
+listed_of lines = all_of column_of (take (length lines - 1) lines)
 
 -- a part whose columns are among those of the whole
 unfoldable pub within : Heading → List Column → List (List Key) → Option Found
@@ -202,17 +196,31 @@ part_by (first ∷ lines) = do
   found ← listed_of lines
   within head (map (λ (l : Listed). l.column) found) (map (λ (l : Listed). l.keys) found)
 
--- the part that a text is
-abbrev pub part_of : List ℕ → Option Found
-part_of text = part_by (lines_of text)
+-- the part, if this is the very text that is written of it
+unfoldable pub exact : List ℕ → Found → Option Found
+exact text part = if name_eq text (part_text part) then Some part else None
 
--- ---- parts that were written before parts were of columns
+-- the part that a text is
+unfoldable pub part_of : List ℕ → Option Found
+part_of text = part_by (lines_of text) >>= exact text
+
+-- ---- texts that are no parts, by their first words
 
 -- whether a word ends there
 abbrev pub ends_word : List ℕ → Bool
 ends_word [] = true
 ends_word (byte ∷ bytes) = byte == 32 || byte == 10
 
--- the first word of the text's first line is that of a part of tiles
+-- whether this is the first word of the text's first line
+abbrev pub has_first_word : List ℕ → List ℕ → Bool
+has_first_word word text =
+    name_eq (take (length word) text) word && ends_word (drop (length word) text)
+
+-- the word of a part of tiles, or of columns without a digest
 abbrev pub is_older : List ℕ → Bool
-is_older text = name_eq (take 10 text) (codes "mpw-part-1") && ends_word (drop 10 text)
+is_older text =
+    has_first_word (codes "mpw-part-1") text || has_first_word (codes "mpw-part-2") text
+
+-- the word of a part; a text with it that is none was changed or cut off
+abbrev pub begins_as_part : List ℕ → Bool
+begins_as_part text = has_first_word (codes "mpw-part-3") text

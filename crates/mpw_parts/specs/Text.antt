@@ -1,9 +1,10 @@
--- The text of a part: a line that tells what was checked and which column is the first, a line for each column with its keys, and a last
--- line `end`.
+-- The text of a part: a line with what was checked and which column is the first, a line for each column with its keys, and a last line
+-- with the SHA-256 of all before it.
 use Rattle.std.specs.Prelude.{ℕ, List, [], ◌∷◌, ◌++◌, codes, Option, None, Some}
 use Rattle.std.specs.List.{flat_map}
 use Rattle.std.specs.Fmt.{decimal, signed_decimal}
 use Rattle.hex.specs.Hex.{encode_lower}
+use Rattle.sha2.specs.Sha256.{sha256}
 use Rattle.mpw_geom.specs.declared.plane.Box2.{Box2}
 use Rattle.mpw_text.specs.Writing.{with_colons}
 use Rattle.mpw_edges.specs.declared.run.Axis.{Axis}
@@ -62,14 +63,22 @@ extent_text (Some b) = with_colons (signed_decimal b.x0 ∷ box_fields b)
 
 -- the first line: what names the check, its columns, and the first of them
 unfoldable pub head_names : Checked → List ℕ
-head_names subject = codes "mpw-part-2" ++ spaced (encode_lower subject.library)
+head_names subject = codes "mpw-part-3" ++ spaced (encode_lower subject.library)
     ++ spaced (encode_lower subject.deck) ++ spaced subject.top ++ codes " "
 
 unfoldable pub head_line : Checked → ℕ → List ℕ
 head_line subject first = head_names subject ++ extent_text subject.extent
     ++ spaced (decimal subject.columns) ++ spaced (decimal first)
 
+-- the text without its last line
+unfoldable pub body_text : Found → List ℕ
+body_text part =
+    ended (head_line part.subject part.first) ++ columns_text part.columns part.lists
+
+-- the last line of a text with this body: the body's SHA-256 in lower case hexadecimal digits
+unfoldable pub digest_line : List ℕ → List ℕ
+digest_line body = codes "sha256 " ++ encode_lower (sha256 body)
+
 -- the whole
 unfoldable pub part_text : Found → List ℕ
-part_text part = ended (head_line part.subject part.first) ++ columns_text part.columns part.lists
-    ++ ended (codes "end")
+part_text part = body_text part ++ ended (digest_line (body_text part))

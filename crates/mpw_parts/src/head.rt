@@ -86,7 +86,7 @@ fn head_by(alloc: Global, words: &[&[u8]]) -> Result<Option<Heading>, AllocError
     ensures { IfOk result (λ found. found ≡ head_by (map (λ word. word.now) words.now)) }
 {
     match words {
-        [kind, rest @ ..] if is(kind, "mpw-part-2") => head_from(alloc, rest),
+        [kind, rest @ ..] if is(kind, "mpw-part-3") => head_from(alloc, rest),
         _ => Ok(None),
     }
 }

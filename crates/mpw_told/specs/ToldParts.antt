@@ -22,12 +22,13 @@ holder_of name part =
 
 unfoldable pub no_part_text : List ℕ → List ℕ
 no_part_text file =
-    file ++ codes ": no part, or one that was cut off: 'mpw check --tiles' prints parts"
+    file ++ codes ": no part, or a changed one: run that part again with 'mpw check --tiles'"
 
 unfoldable pub older_text : List ℕ → List ℕ
-older_text file =
-    file
-    ++ codes ": a part of an older form, by tiles: print it again with 'mpw check --tiles'"
+older_text file = file ++ codes ": a part of an older mpw: run that part again with this one"
+
+unfoldable pub damaged_text : List ℕ → List ℕ
+damaged_text file = file ++ codes ": the part was changed or cut off: run that part again"
 
 unfoldable pub no_markers_text : List ℕ
 no_markers_text = codes "the parts have markers that no check finds: print them again"

@@ -2,7 +2,7 @@
 ghost use Rattle.std.specs.Prelude.{◌≡◌, ℕ, List, slice_get, IfOk};
 ghost use Rattle.std.specs.String.{string_bytes};
 ghost use Rattle.mpw_told.specs.Told.{Refuses, Tells, Misuses};
-ghost use Rattle.mpw_told.specs.ToldParts.{holder_of, has_column, names_with, other_of, other_text, unnamed_text, no_part_text, older_text, no_markers_text, nothing_text, unruled_of, unruled_text, missing_text, doubled_text, apart_text, fault_text, range_text};
+ghost use Rattle.mpw_told.specs.ToldParts.{holder_of, has_column, names_with, other_of, other_text, unnamed_text, no_part_text, older_text, damaged_text, no_markers_text, nothing_text, unruled_of, unruled_text, missing_text, doubled_text, apart_text, fault_text, range_text};
 
 use crate::fault::FirmFault;
 use crate::told::{misuse, refusal};
@@ -78,7 +78,7 @@ pub fn no_part(alloc: Global, file: &str) -> FirmFault
     ensures { Refuses (no_part_text file.now) result }
 {
     refusal(format!(in alloc;
-        "{file}: no part, or one that was cut off: 'mpw check --tiles' prints parts"
+        "{file}: no part, or a changed one: run that part again with 'mpw check --tiles'"
     ))
 }
 
@@ -87,9 +87,15 @@ pub fn no_part(alloc: Global, file: &str) -> FirmFault
 pub fn older_part(alloc: Global, file: &str) -> FirmFault
     ensures { Refuses (older_text file.now) result }
 {
-    refusal(format!(in alloc;
-        "{file}: a part of an older form, by tiles: print it again with 'mpw check --tiles'"
-    ))
+    refusal(format!(in alloc; "{file}: a part of an older mpw: run that part again with this one"))
+}
+
+/// What is told of a part that was changed, or cut off.
+#[tactic(auto, unfolding(crate::specs::ToldParts::damaged_text))]
+pub fn damaged_part(alloc: Global, file: &str) -> FirmFault
+    ensures { Refuses (damaged_text file.now) result }
+{
+    refusal(format!(in alloc; "{file}: the part was changed or cut off: run that part again"))
 }
 
 /// What is told of parts whose markers no check prints.

@@ -1,5 +1,6 @@
 use Rattle.std.proofs.Common.{take}
 use Rattle.std.specs.Io.KnownBytes.{Appends}
+use Rattle.mpw_parts.specs.Internal.Writing.{Takes}
 use Rattle.mpw_parts.specs.Text.{columns_text}
 use Rattle.mpw_parts.proofs.write.put_columns.Given as goal
 
@@ -7,3 +8,4 @@ abbrev pub invariant-loop-place : goal.invariant-loop-place
 invariant-loop-place g l =
     Appends (g.W.Write.contents l.initial.writer) (g.W.Write.contents l.writer)
     (columns_text (take l.place l.columns) (take l.place l.lists))
+    × Takes l.initial.hasher l.hasher (columns_text (take l.place l.columns) (take l.place l.lists))
