@@ -327,7 +327,8 @@ def is_unsummed():
     with Folder() as folder:
         with open("/dev/full", "wb") as output:
             status, _, told = folder.run(*CHECK, "--summary", "two-bars.gds", output=output)
-        return differing({"status": status, "told": told[1:]}, {"status": 3, "told": ["error: the standard output failed"]})
+        sentence = "error: the standard output can't be written: no space left: free some, or write to another disk"
+        return differing({"status": status, "told": told[1:]}, {"status": 3, "told": [sentence]})
 
 
 def is_no_limit(word):

@@ -14,6 +14,7 @@ MPW = os.path.join(os.path.dirname(HERE), "mpw")
 CHECK = ["check", "--deck", "bars.deck", "--top", "TOP"]
 LISTING = b"OK 2\nw:V:0:0:50:0:600 TOP\ns:V:0:50:90:0:600 TOP\n"
 OLD = b"what was there\n"
+NO_SPACE = "no space left: free some, or write to another disk"
 
 
 class Folder:
@@ -165,7 +166,7 @@ def is_full():
         folder.write("report", OLD)
         status, printed, told = folder.run(*CHECK, "--report", "report", "two-bars.gds", before=lambda: limited(True))
         found = {"status": status, "printed": printed, "told": told[1:], "report": folder.read("report"), "names": folder.names()}
-        sentence = "error: report: can't be written: the device is full, or it failed"
+        sentence = "error: report: can't be written: its device failed"
         names = ["bars.deck", "below", "report", "two-bars.gds"]
         return differing(found, {"status": 3, "printed": LISTING, "told": [sentence], "report": OLD, "names": names})
 
@@ -183,7 +184,7 @@ def has_failed(option):
     """A full device is a fault, and the output is never done."""
     with Folder() as folder:
         status, printed, told = folder.run(*CHECK, option, "/dev/full", "two-bars.gds")
-        sentence = "error: /dev/full: can't be written: the device is full, or it failed"
+        sentence = f"error: /dev/full: can't be written: {NO_SPACE}"
         found = {"status": status, "printed": printed, "told": told[1:]}
         return differing(found, {"status": 3, "printed": LISTING, "told": [sentence]})
 
@@ -192,7 +193,8 @@ def has_failed_to_print(*words):
     with Folder() as folder:
         with open("/dev/full", "wb") as output:
             status, _, told = folder.run(*CHECK, *words, "two-bars.gds", output=output)
-        return differing({"status": status, "told": told[1:]}, {"status": 3, "told": ["error: the standard output failed"]})
+        sentence = f"error: the standard output can't be written: {NO_SPACE}"
+        return differing({"status": status, "told": told[1:]}, {"status": 3, "told": [sentence]})
 
 
 def cannot_be(words, sentence):

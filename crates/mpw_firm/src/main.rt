@@ -9,7 +9,7 @@ ghost use Rattle.std.specs.Prelude.{◌≡◌, ◌∷◌, [], IfOk, IfErr};
 ghost use Rattle.std.specs.Process.{exit_status};
 ghost use Rattle.mpw_firm.specs.Came.{Ends, IsCheckDone, IsDone, IsDoneOf, IsDoneOfSome, IsStitched};
 ghost use Rattle.mpw_outputs.specs.Outputs.{on_output, Grows};
-ghost use Rattle.mpw_told.specs.Told.{Fails, IsMisuse, output_text};
+ghost use Rattle.mpw_told.specs.Told.{IsMisuse, OutputFails};
 
 mod apart;
 mod asked;
@@ -33,7 +33,7 @@ mod whole;
 use apart::{check_apart, stitch_apart};
 use asked::check;
 use mpw_asked::{Asked, Options, Portion, StitchOptions, read_options};
-use mpw_outputs::{Host, Outputs, Place, Text, put};
+use mpw_outputs::{Host, Outputs, Place, Space, Text, put};
 use mpw_told::{FirmFault, exit_status};
 use part::check_range;
 use std::alloc::Global;
@@ -59,7 +59,7 @@ fn words(rt: &HostRuntime) -> Result<Vec<String>, FirmFault>
 /// Prints the help or the version.
 fn print_told<O: Outputs>(outputs: &mut O, alloc: Global, text: &str) -> Result<usize, FirmFault>
     ensures told { IfOk result (λ found. Grows (O.kept outputs.old) (O.kept outputs.new) (on_output text.now ∷ []) × (found ≡ 0)) }
-    ensures failed { IfErr result (Fails output_text) }
+    ensures failed { IfErr result OutputFails }
 {
     put(outputs, alloc, Place::Standard, &Text::Told(text))?;
     Ok(0)
@@ -150,5 +150,6 @@ fn ended<O: Outputs>(rt: &HostRuntime, threads: &(impl Threads + Sync), outputs:
 /// the deck or a part has a fault, and 5 where memory was wanting; with 0 behind the help and the version too. A fault is told on the
 /// standard error.
 fn main(rt: HostRuntime) -> ExitCode {
-    ended(&rt, &rt, &mut Host::new(&rt))
+    let space = Space::new();
+    ended(&rt, &rt, &mut Host::new(&rt, &space))
 }

@@ -8,7 +8,7 @@ ghost use Rattle.mpw_limits.specs.Limits as listing;
 ghost use Rattle.mpw_markers.specs.declared.marker.Marker.{Marker};
 ghost use Rattle.mpw_outputs.specs.Outputs.{on_output, Grows, IsUnwritten};
 ghost use Rattle.mpw_report.specs.Content as told;
-ghost use Rattle.mpw_told.specs.Told.{Fails, output_text};
+ghost use Rattle.mpw_told.specs.Told.{OutputFails};
 
 use crate::checked::Checked;
 use crate::found::Held;
@@ -55,7 +55,7 @@ fn list_markers<O: Outputs>(
     checked: &Checked<'_>,
 ) -> Result<(), FirmFault>
     ensures kept { IfOk result (λ _. Grows (O.kept outputs.old) (O.kept outputs.new) (on_output (held_printed checked.now false) ∷ [])) }
-    ensures refused { IfErr result (Fails output_text) }
+    ensures refused { IfErr result OutputFails }
 {
     match (checked.limit, &checked.found.held) {
         (None, Held::All(book)) => {
@@ -76,7 +76,7 @@ fn list_counts<O: Outputs>(
     checked: &Checked<'_>,
 ) -> Result<(), FirmFault>
     ensures kept { IfOk result (λ _. Grows (O.kept outputs.old) (O.kept outputs.new) (on_output (held_printed checked.now true) ∷ [])) }
-    ensures refused { IfErr result (Fails output_text) }
+    ensures refused { IfErr result OutputFails }
 {
     let rules = checked.layout.deck().rules().as_slice();
     let counts = Counts {
@@ -90,7 +90,7 @@ fn list_counts<O: Outputs>(
 /// Prints the markers that are held; or how many each rule has, where that is asked for.
 fn list<O: Outputs>(outputs: &mut O, alloc: Global, checked: &Checked<'_>) -> Result<(), FirmFault>
     ensures kept { IfOk result (λ _. Grows (O.kept outputs.old) (O.kept outputs.new) (on_output (held_printed checked.now checked.now.summary) ∷ [])) }
-    ensures refused { IfErr result (Fails output_text) }
+    ensures refused { IfErr result OutputFails }
 {
     if checked.summary {
         list_counts(outputs, alloc, checked)
@@ -133,7 +133,7 @@ pub fn write_listed<O: Outputs>(
 ) -> Result<(), FirmFault>
     ensures kept { (book : List Marker) → IsOfBook (enough_listed (option_map string_bytes file.now) checked.now.summary checked.now.limit) checked.now book
         → IfOk result (λ _. Grows (O.kept outputs.old) (O.kept outputs.new) (listing_texts (option_map string_bytes file.now) (shown_of checked.now book))) }
-    ensures refused { IfErr result (λ fault. Fails output_text fault ⊎ IsUnwritten (option_map string_bytes file.now) fault) }
+    ensures refused { IfErr result (λ fault. OutputFails fault ⊎ IsUnwritten (option_map string_bytes file.now) fault) }
 {
     first_markers_are_listed();
     first_markers_have_the_items();

@@ -6,7 +6,7 @@ use Rattle.mpw_told.specs.declared.fault.FirmFault.{FirmFault}
 use Rattle.mpw_told.specs.declared.fault.FirmFault.TheVariants.{Memory}
 use Rattle.mpw_wire.specs.declared.fault.WireFault.{WireFault}
 use Rattle.mpw_wire.specs.declared.fault.WireFault.TheVariants as wire
-use Rattle.mpw_told.specs.Told.{Fails, output_text, CannotBeWritten}
+use Rattle.mpw_told.specs.Told.{Fails, OutputFails, output_text, reason_text, unwritten_text, CannotBeWritten}
 
 -- ---- what was put
 
@@ -37,7 +37,7 @@ Puts (Some xs) new place (Some text) =
 
 -- A text isn't put into that place, which is told; or there is no room.
 abbrev pub IsUnput : Option (List ℕ) → FirmFault → Type 0
-IsUnput None fault = Fails output_text fault
+IsUnput None fault = OutputFails fault
 IsUnput (Some file) fault = CannotBeWritten file fault
 
 -- The file that is wanted can't be written, where one is.
@@ -45,11 +45,16 @@ abbrev pub IsUnwritten : Option (List ℕ) → FirmFault → Type 0
 IsUnwritten None fault = ⊥
 IsUnwritten (Some file) fault = CannotBeWritten file fault
 
--- The same by what came of writing: want of memory as such, and each other fault as that of the place.
-abbrev pub IsOfWrite : Option (List ℕ) → WireFault → FirmFault → Type 0
-IsOfWrite place wire.Memory fault = fault ≡ Memory
-IsOfWrite place wire.Write fault = IsUnput place fault
-IsOfWrite place wire.Read fault = IsUnput place fault
+-- The same with why: no space is left, or else its device failed.
+abbrev pub IsUntaken : Option (List ℕ) → (full : Bool) → FirmFault → Type 0
+IsUntaken None full fault = Fails (output_text full) fault
+IsUntaken (Some file) full fault = Fails (unwritten_text file (reason_text full)) fault
+
+-- By what came of writing: out of memory as such, and each other fault as that of the place.
+abbrev pub IsOfWrite : Option (List ℕ) → WireFault → (full : Bool) → FirmFault → Type 0
+IsOfWrite place wire.Memory full fault = fault ≡ Memory
+IsOfWrite place wire.Write full fault = IsUntaken place full fault
+IsOfWrite place wire.Read full fault = IsUntaken place full fault
 
 -- ---- which file a name leads to
 

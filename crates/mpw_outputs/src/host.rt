@@ -1,16 +1,18 @@
 //! The outputs of a process: its standard output, and files. A file is written anew beside the one that it is to replace, and takes
 //! its place by a new name when it is whole: so a full disk, or the end of the process, leaves the old one as it was. Only what is
-//! no file, as a pipe or a device, is written in its place.
+//! no file, as a pipe or a device, is written in its place. What takes the bytes notes in a [`Space`] that a write found no space left.
 ghost use Rattle.std.specs.Prelude.{◌≡◌, None, Some, false, option_map, IfOk, IfErr};
 ghost use Rattle.std.specs.String.{string_bytes};
+ghost use Rattle.std.specs.Io.{WritesAtMost};
 ghost use Rattle.mpw_outputs.specs.Outputs.{IsUnput, Puts};
 
 use crate::outputs::{Draft, Outputs, Place};
 use crate::spot::FileSpot;
 use crate::texts::Writer;
-use mpw_told::{FirmFault, output_fault, unwritten_by};
+use mpw_told::{FirmFault, is_full, output_fault, unwritten_by};
 use mpw_wire::{Counted, Sink};
 use std::alloc::{AllocError, Global};
+use std::cell::Cell;
 use std::fs::{self, File, Metadata, OpenOptions};
 use std::io::{self, BufWriter, ErrorKind, Write};
 use std::os::unix::fs::MetadataExt;
@@ -18,15 +20,43 @@ use std::path::Path;
 use std::process;
 use std::rt::Stdout;
 
+/// Whether the last text found no space left.
+#[derive(Drop)]
+pub struct Space {
+    is_full: Cell<bool>,
+}
+
+impl Space {
+    /// Space that no text was written to.
+    pub fn new() -> Space {
+        Space {
+            is_full: Cell::new(false),
+        }
+    }
+
+    /// The outcome of a write, noted if it found no space left.
+    fn noted<T: Drop>(&self, outcome: io::Result<T>) -> io::Result<T>
+        ensures { result ≡ outcome }
+    {
+        if let Err(error) = &outcome {
+            if is_full(error.kind()) {
+                self.is_full.set(true);
+            }
+        }
+        outcome
+    }
+}
+
 /// The outputs of a process.
 #[derive(Clone, Copy, Drop)]
 pub struct Host<'a> {
     rt: &'a HostRuntime,
+    space: &'a Space,
 }
 
 /// What takes the bytes of a text.
 #[derive(Drop)]
-pub enum Device {
+enum Target {
     /// The standard output.
     Standard(Stdout),
     /// What is no file, as a pipe.
@@ -35,20 +65,43 @@ pub enum Device {
     New(File),
 }
 
-impl Write for Device {
-    fn write(&mut self, bytes: &[u8]) -> io::Result<usize> {
+impl Target {
+    /// Writes bytes.
+    fn put(&mut self, bytes: &[u8]) -> io::Result<usize>
+        ensures { WritesAtMost result bytes.now }
+    {
         match self {
-            Device::Standard(output) => output.write(bytes),
-            Device::Open(file) | Device::New(file) => file.write(bytes),
+            Target::Standard(output) => output.write(bytes),
+            Target::Open(file) | Target::New(file) => file.write(bytes),
         }
     }
 
-    fn flush(&mut self) -> io::Result<()> {
+    /// Hands on what was written.
+    fn hand_on(&mut self) -> io::Result<()> {
         match self {
-            Device::Standard(output) => output.flush(),
-            Device::Open(file) => file.flush(),
-            Device::New(file) => file.sync_all(),
+            Target::Standard(output) => output.flush(),
+            Target::Open(file) => file.flush(),
+            Target::New(file) => file.sync_all(),
         }
+    }
+}
+
+/// What takes the bytes of a text, and notes where no space is left.
+#[derive(Drop)]
+pub struct Device<'a> {
+    target: Target,
+    space: &'a Space,
+}
+
+impl Write for Device<'_> {
+    fn write(&mut self, bytes: &[u8]) -> io::Result<usize> {
+        let outcome = self.target.put(bytes);
+        self.space.noted(outcome)
+    }
+
+    fn flush(&mut self) -> io::Result<()> {
+        let outcome = self.target.hand_on();
+        self.space.noted(outcome)
     }
 }
 
@@ -94,23 +147,26 @@ pub struct HostName<'a> {
 }
 
 /// A text that is being written.
-type HostDraft<'a> = Draft<Counted<BufWriter<Device>>, HostName<'a>>;
+type HostDraft<'a> = Draft<Counted<BufWriter<Device<'a>>>, HostName<'a>>;
 
 impl<'a> Host<'a> {
-    /// The outputs of this process.
-    pub fn new(rt: &'a HostRuntime) -> Host<'a> {
-        Host { rt }
+    /// The outputs of this process, which note in this space that none is left.
+    pub fn new(rt: &'a HostRuntime, space: &'a Space) -> Host<'a> {
+        Host { rt, space }
     }
 
     /// The draft of a device.
     fn draft_on(
         self,
-        device: Device,
+        target: Target,
         name: Option<NewName<'a>>,
         file: Option<String>,
     ) -> io::Result<HostDraft<'a>>
         ensures { IfOk result (λ draft. draft.name.file ≡ file) }
     {
+        let space = self.space;
+        space.is_full.set(false);
+        let device = Device { target, space };
         let sink = Counted::new(BufWriter::new(self.rt.alloc(), device)?);
         Ok(Draft {
             writer: Writer { sink },
@@ -138,7 +194,7 @@ impl<'a> Host<'a> {
         if let Some(old) = old {
             made.set_permissions(old.permissions())?;
         }
-        self.draft_on(Device::New(made), Some(name), Some(file))
+        self.draft_on(Target::New(made), Some(name), Some(file))
     }
 
     /// Refuses a symbolic link whose file isn't there: a new file would take the place of the link.
@@ -171,7 +227,7 @@ impl<'a> Host<'a> {
             let place = fs::canonicalize(self.rt, file)?.into_string();
             self.draft_beside(place, Some(found), given)
         } else {
-            self.draft_on(Device::Open(old), None, Some(given))
+            self.draft_on(Target::Open(old), None, Some(given))
         }
     }
 
@@ -193,13 +249,15 @@ impl<'a> Host<'a> {
 }
 
 impl<'a> Outputs for Host<'a> {
-    type Bytes = Counted<BufWriter<Device>>;
+    type Bytes = Counted<BufWriter<Device<'a>>>;
 
     type Name = HostName<'a>;
 
     ghost kept = { λ _. None };
 
     ghost files = { λ _. None };
+
+    ghost full = { λ _. None };
 
     ghost place = { λ name. option_map string_bytes name.file };
 
@@ -215,7 +273,7 @@ impl<'a> Outputs for Host<'a> {
 
     fn begin(&mut self, alloc: Global, to: Place<'_>) -> Result<HostDraft<'a>, FirmFault> {
         match to {
-            Place::Standard => match self.draft_on(Device::Standard(self.rt.stdout()), None, None) {
+            Place::Standard => match self.draft_on(Target::Standard(self.rt.stdout()), None, None) {
                 Ok(draft) => Ok(draft),
                 Err(_) => Err(FirmFault::Memory),
             },
@@ -226,9 +284,13 @@ impl<'a> Outputs for Host<'a> {
         }
     }
 
+    fn is_full(&self) -> bool {
+        self.space.is_full.get()
+    }
+
     fn keep(&mut self, alloc: Global, draft: HostDraft<'a>) -> Result<(), FirmFault>
-        requires whole { ⟦<Counted<BufWriter<Device>> as Sink>⟧.pending draft.writer.sink ≡ false }
-        ensures kept { IfOk result (λ _. Puts None None (option_map string_bytes draft.entry.name.file) (⟦<Counted<BufWriter<Device>> as Sink>⟧.contents draft.entry.writer.sink)) }
+        requires whole { ⟦<Counted<BufWriter<Device<'a>>> as Sink>⟧.pending draft.writer.sink ≡ false }
+        ensures kept { IfOk result (λ _. Puts None None (option_map string_bytes draft.entry.name.file) (⟦<Counted<BufWriter<Device<'a>>> as Sink>⟧.contents draft.entry.writer.sink)) }
         ensures refused { IfErr result (IsUnput (option_map string_bytes draft.entry.name.file)) }
     {
         let Draft { writer, name } = draft;
@@ -241,7 +303,7 @@ impl<'a> Outputs for Host<'a> {
         match (kept, file) {
             (Ok(()), _) => Ok(()),
             (Err(error), Some(file)) => Err(unwritten_by(alloc, file.as_str(), error)),
-            (Err(_), None) => Err(output_fault(alloc)),
+            (Err(_), None) => Err(output_fault(alloc, self.is_full())),
         }
     }
 }

@@ -14,7 +14,7 @@ mod summary;
 mod texts;
 mod uses;
 
-pub use host::Host;
+pub use host::{Host, Space};
 pub use outputs::{Draft, Outputs, Place, put};
 pub use spot::FileSpot;
 pub use summary::{Counts, left_out_text, rule_counts};

@@ -1,11 +1,11 @@
 //! Where texts are written to. `specs/Outputs.antt` has what contracts say of it.
-ghost use Rattle.std.specs.Prelude.{◌≡◌, ℕ, List, [], Option, Some, false, IfOk, IfErr, IfSome};
-ghost use Rattle.mpw_outputs.specs.Outputs.{Kept, Spot, Grows, IsOfWrite, IsUnput, Puts};
+ghost use Rattle.std.specs.Prelude.{◌≡◌, ℕ, Bool, List, [], Option, Some, false, IfOk, IfErr, IfSome};
+ghost use Rattle.mpw_outputs.specs.Outputs.{Kept, Spot, Grows, IsOfWrite, IsUnput, IsUntaken, Puts};
 ghost use Rattle.mpw_outputs.specs.Texts.{kept_of, place_of, text_of};
 
 use crate::spot::FileSpot;
 use crate::texts::{Text, Writer, write_text};
-use mpw_told::{FirmFault, output_fault, unwritten};
+use mpw_told::{FirmFault, output_fault, unwritten, write_reason};
 use mpw_wire::{Sink, WireFault};
 use std::alloc::{AllocError, Global};
 
@@ -40,6 +40,9 @@ pub trait Outputs {
 
     ghost files: { Self → Option (List ℕ → Option Spot) };
 
+    /// Whether writing the last draft found no space left, or `None`, which claims nothing.
+    ghost full: { Self → Option Bool };
+
     /// The name of a draft's place; none is the standard output's.
     ghost place: { Self.Name → Option (List ℕ) };
 
@@ -64,6 +67,10 @@ pub trait Outputs {
         ensures kept { kept self.new ≡ kept self.old }
         ensures refused { IfErr result (IsUnput (place_of to.entry)) };
 
+    /// Whether writing the last draft found no space left.
+    fn is_full(&self) -> bool
+        ensures { IfSome (full self.now) (λ full. result ≡ full) };
+
     /// Puts a text into its place, whole and at once.
     ///
     /// # Errors
@@ -81,7 +88,7 @@ pub trait Outputs {
 /// Writes a text and puts it into its place, once all of it was handed on.
 ///
 /// # Errors
-/// `Device` where that failed, and `Memory`. What was in the place of a file is then as it was.
+/// `Device` where that failed, which says so if no space was left, and `Memory`. What was in the place of a file is then as it was.
 pub fn put<O: Outputs>(
     outputs: &mut O,
     alloc: Global,
@@ -93,28 +100,28 @@ pub fn put<O: Outputs>(
 {
     let mut draft = outputs.begin(alloc, to)?;
     if let Err(why) = write_text(alloc, &mut draft.writer, text) {
-        return Err(unput(alloc, to, why));
+        return Err(unput(alloc, to, why, outputs.is_full()));
     }
     outputs.keep(alloc, draft)
 }
 
 /// What is told of a place that doesn't take a text.
-fn untaken(alloc: Global, to: Place<'_>) -> FirmFault
-    ensures { IsUnput (place_of to.entry) result }
+fn untaken(alloc: Global, to: Place<'_>, is_full: bool) -> FirmFault
+    ensures { IsUntaken (place_of to.entry) is_full result }
 {
     match to {
-        Place::Standard => output_fault(alloc),
-        Place::File(file) => unwritten(alloc, file, "the device is full, or it failed"),
+        Place::Standard => output_fault(alloc, is_full),
+        Place::File(file) => unwritten(alloc, file, write_reason(is_full)),
     }
 }
 
-/// What is told of what came of writing a text for a place.
-pub fn unput(alloc: Global, to: Place<'_>, why: WireFault) -> FirmFault
+/// What is told of what came of writing a text for a place, and whether no space was left there.
+pub fn unput(alloc: Global, to: Place<'_>, why: WireFault, is_full: bool) -> FirmFault
     ensures place { IsUnput (place_of to.entry) result }
-    ensures told { IsOfWrite (place_of to.entry) why result }
+    ensures told { IsOfWrite (place_of to.entry) why is_full result }
 {
     match why {
         WireFault::Memory => FirmFault::Memory,
-        WireFault::Read | WireFault::Write => untaken(alloc, to),
+        WireFault::Read | WireFault::Write => untaken(alloc, to, is_full),
     }
 }

@@ -1,7 +1,7 @@
 -- The exit status of a check.
 use Rattle.std.specs.Prelude.{ℕ, Bool, true, false, Result, Ok, Err, nat_lt, if◌then◌else◌}
 use Rattle.std.specs.declared.io.ErrorKind.{ErrorKind}
-use Rattle.std.specs.declared.io.ErrorKind.TheVariants.{OutOfMemory}
+use Rattle.std.specs.declared.io.ErrorKind.TheVariants.{OutOfMemory, StorageFull, QuotaExceeded}
 use Rattle.mpw_told.specs.declared.fault.FirmFault.{FirmFault}
 use Rattle.mpw_told.specs.declared.fault.FirmFault.TheVariants.{Usage, Device, Refused, Memory}
 
@@ -21,3 +21,9 @@ exit_of (Err fault) = status_of fault
 abbrev pub is_memory : ErrorKind → Bool
 is_memory OutOfMemory = true
 is_memory kind = false
+
+-- One that means that no space is left, on the disk or in the user's quota.
+abbrev pub is_full : ErrorKind → Bool
+is_full StorageFull = true
+is_full QuotaExceeded = true
+is_full kind = false

@@ -1,5 +1,5 @@
 -- What a fault tells.
-use Rattle.std.specs.Prelude.{◌≡◌, ℕ, List, ◌++◌, codes, Option, None, Some}
+use Rattle.std.specs.Prelude.{◌≡◌, ℕ, Bool, true, false, List, ◌++◌, codes, Option, None, Some}
 use Rattle.std.specs.String.{string_bytes}
 use Rattle.mpw_told.specs.declared.fault.FirmFault.{FirmFault}
 use Rattle.mpw_told.specs.declared.fault.FirmFault.TheVariants.{Usage, Device, Refused, Memory}
@@ -61,5 +61,27 @@ CannotBeRead file fault = (reason : List ℕ) × Fails (unread_text file reason)
 abbrev pub CannotBeWritten : List ℕ → FirmFault → Type 0
 CannotBeWritten file fault = (reason : List ℕ) × Fails (unwritten_text file reason) fault
 
-unfoldable pub output_text : List ℕ
-output_text = codes "the standard output failed"
+-- Why an output wasn't written: no space is left, or else its device failed.
+unfoldable pub space_text : List ℕ
+space_text = codes "no space left: free some, or write to another disk"
+
+unfoldable pub device_text : List ℕ
+device_text = codes "its device failed"
+
+abbrev pub reason_text : Bool → List ℕ
+reason_text true = space_text
+reason_text false = device_text
+
+-- The same of the standard output.
+unfoldable pub output_space_text : List ℕ
+output_space_text = codes "the standard output can't be written: " ++ space_text
+
+unfoldable pub output_device_text : List ℕ
+output_device_text = codes "the standard output failed"
+
+abbrev pub output_text : Bool → List ℕ
+output_text true = output_space_text
+output_text false = output_device_text
+
+abbrev pub OutputFails : FirmFault → Type 0
+OutputFails fault = (full : Bool) × Fails (output_text full) fault

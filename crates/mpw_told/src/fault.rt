@@ -1,7 +1,7 @@
 //! Why a check ends without a listing. `specs/Said.antt` has what is printed of it.
 ghost use Rattle.std.specs.Prelude.{◌≡◌, Some};
 ghost use Rattle.mpw_told.specs.Said.{said};
-ghost use Rattle.mpw_told.specs.Status.{exit_of, is_memory, status_of};
+ghost use Rattle.mpw_told.specs.Status.{exit_of, is_full, is_memory, status_of};
 ghost use Rattle.mpw_told.specs.declared.fault.FirmFault.TheVariants.{Memory};
 
 use std::alloc::AllocError;
@@ -41,6 +41,13 @@ pub fn is_memory(kind: ErrorKind) -> bool
     ensures { result ≡ is_memory kind }
 {
     matches!(kind, ErrorKind::OutOfMemory)
+}
+
+/// Whether an error of that kind means that no space is left, on the disk or in the user's quota.
+pub fn is_full(kind: ErrorKind) -> bool
+    ensures { result ≡ is_full kind }
+{
+    matches!(kind, ErrorKind::StorageFull | ErrorKind::QuotaExceeded)
 }
 
 /// The exit status of a check that found so many markers: 0 without, 1 with some; else the fault's.

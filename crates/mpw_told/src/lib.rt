@@ -13,9 +13,9 @@ mod sentences;
 mod told;
 mod told_parts;
 
-pub use fault::{FirmFault, exit_status, is_memory};
+pub use fault::{FirmFault, exit_status, is_full, is_memory};
 pub use told::{
     check_fault, deck_fault, library_fault, misuse, output_fault, refusal, unread_by, unwritten,
-    unwritten_by,
+    unwritten_by, write_reason,
 };
 pub use told_parts::{PartFile, beyond_plan, damaged_part, no_markers, no_part, older_part, parts_fault};

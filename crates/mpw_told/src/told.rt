@@ -3,13 +3,13 @@ ghost use Rattle.std.specs.Prelude.{◌≡◌, ℕ, List, true, false, IfOk};
 ghost use Rattle.std.specs.IoError.{error_kind};
 ghost use Rattle.std.specs.String.{string_bytes};
 ghost use Rattle.mpw_records.specs.Words.{fault_text};
-ghost use Rattle.mpw_told.specs.Status.{is_memory};
-ghost use Rattle.mpw_told.specs.Told.{CannotBeRead, CannotBeWritten, Fails, Misuses, Refuses, Tells, output_text, unread_text, unwritten_text};
+ghost use Rattle.mpw_told.specs.Status.{is_full, is_memory};
+ghost use Rattle.mpw_told.specs.Told.{CannotBeRead, CannotBeWritten, Fails, Misuses, Refuses, Tells, output_text, reason_text, space_text, unread_text, unwritten_text};
 ghost use Rattle.mpw_told.specs.declared.fault.FirmFault.TheVariants.{Memory};
 ghost use Rattle.mpw_told.specs.ToldFaults.{check_told, deck_text, deck_told, library_text, line_sentence, named_text, outside_text, record_text, spaced, structure_text};
 
 use crate::colon::is_of_colon;
-use crate::fault::{FirmFault, is_memory};
+use crate::fault::{FirmFault, is_full, is_memory};
 use crate::place::structure_at;
 use crate::sentences::{of_colon, of_deck, of_library, of_structure};
 use mpw_check::CheckFault;
@@ -177,6 +177,26 @@ fn unread(alloc: Global, file: &str, reason: &str) -> FirmFault
     failure(format!(in alloc; "{file}: can't be read: {reason}"))
 }
 
+/// Why an output can't be written that has no space left.
+#[tactic(auto, unfolding(crate::specs::Told::space_text))]
+fn no_space() -> &'static str
+    ensures { result.now ≡ space_text }
+{
+    "no space left: free some, or write to another disk"
+}
+
+/// Why an output can't be written: no space is left, or else its device failed.
+#[tactic(auto, unfolding(crate::specs::Told::device_text))]
+pub fn write_reason(is_full: bool) -> &'static str
+    ensures { result.now ≡ reason_text is_full }
+{
+    if is_full {
+        no_space()
+    } else {
+        "its device failed"
+    }
+}
+
 /// What is told of a file that can't be written, for that reason.
 #[tactic(auto, unfolding(crate::specs::Told::unwritten_text))]
 pub fn unwritten(alloc: Global, file: &str, reason: &str) -> FirmFault
@@ -206,21 +226,45 @@ pub fn unread_by(alloc: Global, file: &str, error: io::Error) -> FirmFault
     }
 }
 
-/// The fault of a file that can't be written, with what the system says of it. Out of memory stays that.
+/// The fault of a file that can't be written, with what the system says of it; if no space is left, with that. Out of memory stays that.
 pub fn unwritten_by(alloc: Global, file: &str, error: io::Error) -> FirmFault
     ensures written { CannotBeWritten file.now result }
     ensures memory { is_memory (error_kind error) ≡ true → result ≡ Memory }
+    ensures full { is_full (error_kind error) ≡ true → Fails (unwritten_text file.now space_text) result }
 {
+    if is_full(error.kind()) {
+        return unwritten(alloc, file, no_space());
+    }
     match reason_of(alloc, error) {
         Ok(reason) => unwritten(alloc, file, reason.as_str()),
         Err(_) => FirmFault::Memory,
     }
 }
 
-/// What is told where the standard output failed.
-#[tactic(auto, unfolding(crate::specs::Told::output_text))]
-pub fn output_fault(alloc: Global) -> FirmFault
-    ensures { Fails output_text result }
+/// What is told of the standard output if no space is left.
+#[tactic(auto, unfolding(crate::specs::Told::output_space_text))]
+fn full_output(alloc: Global) -> FirmFault
+    ensures { Fails (output_text true) result }
+{
+    let reason = no_space();
+    failure(format!(in alloc; "the standard output can't be written: {reason}"))
+}
+
+/// What is told of the standard output if it failed otherwise.
+#[tactic(auto, unfolding(crate::specs::Told::output_device_text))]
+fn failed_output(alloc: Global) -> FirmFault
+    ensures { Fails (output_text false) result }
 {
     failure(String::from_str(alloc, "the standard output failed"))
+}
+
+/// What is told of the standard output if it can't be written: no space is left, or else it failed.
+pub fn output_fault(alloc: Global, is_full: bool) -> FirmFault
+    ensures { Fails (output_text is_full) result }
+{
+    if is_full {
+        full_output(alloc)
+    } else {
+        failed_output(alloc)
+    }
 }
