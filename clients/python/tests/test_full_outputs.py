@@ -30,7 +30,7 @@ class Full(unittest.TestCase):
 
     def test_standard_output(self):
         for words in ([*CHECK, LIBRARY], [*CHECK, "--summary", LIBRARY], [*CHECK, "--limit", "1", LIBRARY], [*CHECK, "--tiles", "1/1", LIBRARY],
-                      ["stitch", "part"], ["stitch", "--limit", "1", "part"], ["--help"], ["--version"]):
+                      ["stitch", "part"], ["stitch", "--limit", "1", "part"], ["check", "--help"], ["stitch", "--version"]):
             with self.subTest(words=words), open("/dev/full", "wb") as output:
                 status, _, told = self.run_program(*words, output=output)
                 self.assertEqual((status, told[-1]), (3, f"error: the standard output {NO_SPACE}"))

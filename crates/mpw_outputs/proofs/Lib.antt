@@ -2,3 +2,4 @@
 mod Counted
 pub mod Growth
 mod Separate
+mod Unput

@@ -116,6 +116,7 @@ fn untaken(alloc: Global, to: Place<'_>, is_full: bool) -> FirmFault
 }
 
 /// What is told of what came of writing a text for a place, and whether no space was left there.
+#[tactic(auto, using(crate::proofs::Unput::untaken_is_unput, crate::proofs::Unput::memory_is_unput))]
 pub fn unput(alloc: Global, to: Place<'_>, why: WireFault, is_full: bool) -> FirmFault
     ensures place { IsUnput (place_of to.entry) result }
     ensures told { IsOfWrite (place_of to.entry) why is_full result }

@@ -18,8 +18,9 @@ unfolding encode_with
 digits table [] all = All-nil (λ byte. (byte == 10) ≡ false)
 digits table (b ∷ bytes) all =
     let P : ℕ → Type 0 = λ byte. (byte == 10) ≡ false in
-    All-cons P (slice_index table (b / 16)) _ (digit table (b / 16) all)
-    (All-cons P (slice_index table (b % 16)) _ (digit table (b % 16) all)
+    All-cons P (slice_index table (b / 16)) (slice_index table (b % 16) ∷ encode_with table bytes)
+    (digit table (b / 16) all)
+    (All-cons P (slice_index table (b % 16)) (encode_with table bytes) (digit table (b % 16) all)
     (digits table bytes all))
 
 table_one : IsOne 10 lower_digits
@@ -41,15 +42,15 @@ table_one = All-from_recursion (λ byte. (byte == 10) ≡ false) lower_digits (
                 refl,
                 (
                   refl,
-                  (refl, (refl, (refl, (refl, (refl, (refl, (refl, tt)))))))
-                )
-              )
-            )
-          )
-        )
-      )
-    )
-  )
+                  (refl, (refl, (refl, (refl, (refl, (refl, (refl, tt))))))),
+                ),
+              ),
+            ),
+          ),
+        ),
+      ),
+    ),
+  ),
 )
 
 pub digest_one_line : (body : List ℕ) → IsOne 10 (digest_line body)

@@ -225,21 +225,21 @@ lines_behind listed last = map line_of listed ++ last ∷ []
 abbrev last_of : Found → List ℕ
 last_of p = digest_line (body_text p)
 
+text_with : (p : Found) (lines : AreLines p.columns p.lists) (last : List ℕ)
+    → body_text p ++ ended last
+    ≡ flat_map ended (head_line p.subject p.first ∷ lines_behind lines.listed last)
+unfolding body_text
+text_with p lines last =
+    append_assoc (ended (head_line p.subject p.first)) (columns_text p.columns p.lists) (ended last)
+    ∙ ap (λ t. ended (head_line p.subject p.first) ++ t)
+    (ap (λ t. t ++ ended last) lines.text
+    ∙ ap (λ t. flat_map ended (map line_of lines.listed) ++ t) (sym (append-nil (ended last)))
+    ∙ sym (flat_map-append ended (map line_of lines.listed) (last ∷ [])))
+
 text_is : (p : Found) (lines : AreLines p.columns p.lists) → part_text p ≡ flat_map ended
     (head_line p.subject p.first ∷ lines_behind lines.listed (last_of p))
 unfolding part_text
 text_is p lines = text_with p lines (last_of p)
-  where
-    text_with : (p : Found) (lines : AreLines p.columns p.lists) (last : List ℕ)
-        → body_text p ++ ended last ≡ flat_map ended
-        (head_line p.subject p.first ∷ lines_behind lines.listed last)
-    unfolding body_text
-    text_with p lines last =
-        append_assoc (ended (head_line p.subject p.first)) (columns_text p.columns p.lists)
-        (ended last)
-        ∙ ap (λ t. ended (head_line p.subject p.first) ++ t)
-        (ap (λ t. t ++ ended last) lines.text
-        ∙ sym (flat_map-append ended (map line_of lines.listed) (last ∷ [])))
 
 lines_read : (listed : List Listed) (last : List ℕ) → All IsLine listed
     → listed_of (lines_behind listed last) ≡ Some listed

@@ -29,23 +29,24 @@ one_column_more (c ∷ cs) (l ∷ ls) (suc i) d e less below =
     ∙ sym (append_assoc (ended (column_line c l)) (columns_text (take i cs) (take i ls))
     (ended (column_line (get_or cs i d) (get_or ls i e))))
 
-one_more : (cs : List Column) (ls : List (List Key)) (i : ℕ) (d : Column) (e : List Key)
-    (line : List ℕ) → length cs ≡ length ls → i < length cs
-    → line ≡ ended (column_line (get_or cs i d) (get_or ls i e))
+one_more : (cs : List Column) (ls : List (List Key)) (i : ℕ) (d : Column) (e keys : List Key)
+    (line : List ℕ) → length cs ≡ length ls → i < length cs → keys ≡ get_or ls i e
+    → line ≡ ended (column_line (get_or cs i d) keys)
     → columns_text (take i cs) (take i ls) ++ line ≡ columns_text (take (i + 1) cs) (take (i + 1) ls)
-one_more cs ls i d e line long less is =
+one_more cs ls i d e keys line long less at is =
     let next_place : suc i ≡ i + 1 = omega arith in
-    ap (λ t. columns_text (take i cs) (take i ls) ++ t) is
+    ap (λ t. columns_text (take i cs) (take i ls) ++ t)
+    (is ∙ ap (λ (ks : List Key). ended (column_line (get_or cs i d) ks)) at)
     ∙ sym (one_column_more cs ls i d e less (omega (arith, long, less)))
     ∙ ap (λ n. columns_text (take n cs) (take n ls)) next_place
 
-pub one_written : (cs : List Column) (ls : List (List Key)) (i : ℕ) (d : Column) (e : List Key)
+pub one_written : (cs : List Column) (ls : List (List Key)) (i : ℕ) (d : Column) (e keys : List Key)
     (line : List ℕ) (old middle new : Option (List ℕ)) → length cs ≡ length ls → i < length cs
-    → line ≡ ended (column_line (get_or cs i d) (get_or ls i e))
+    → keys ≡ get_or ls i e → line ≡ ended (column_line (get_or cs i d) keys)
     → Appends old middle (columns_text (take i cs) (take i ls)) → Appends middle new line
     → Appends old new (columns_text (take (i + 1) cs) (take (i + 1) ls))
-one_written cs ls i d e line old middle new long less is before next =
-    subst (Appends old new) (one_more cs ls i d e line long less is)
+one_written cs ls i d e keys line old middle new long less at is before next =
+    subst (Appends old new) (one_more cs ls i d e keys line long less at is)
     (Appends-trans old middle new (columns_text (take i cs) (take i ls)) line before next)
 
 -- ---- what a hasher takes
@@ -59,11 +60,11 @@ pub both_taken : (old middle new : Sha256) (first second : List ℕ) → Takes o
 both_taken old middle new first second before next m held =
     subst (Holds256 new) (append_assoc m first second) (next (m ++ first) (before m held))
 
-pub one_taken : (cs : List Column) (ls : List (List Key)) (i : ℕ) (d : Column) (e : List Key)
+pub one_taken : (cs : List Column) (ls : List (List Key)) (i : ℕ) (d : Column) (e keys : List Key)
     (line : List ℕ) (old middle new : Sha256) → length cs ≡ length ls → i < length cs
-    → line ≡ ended (column_line (get_or cs i d) (get_or ls i e))
+    → keys ≡ get_or ls i e → line ≡ ended (column_line (get_or cs i d) keys)
     → Takes old middle (columns_text (take i cs) (take i ls)) → Takes middle new line
     → Takes old new (columns_text (take (i + 1) cs) (take (i + 1) ls))
-one_taken cs ls i d e line old middle new long less is before next =
-    subst (Takes old new) (one_more cs ls i d e line long less is)
+one_taken cs ls i d e keys line old middle new long less at is before next =
+    subst (Takes old new) (one_more cs ls i d e keys line long less at is)
     (both_taken old middle new (columns_text (take i cs) (take i ls)) line before next)

@@ -18,4 +18,6 @@ pub use told::{
     check_fault, deck_fault, library_fault, misuse, output_fault, refusal, unread_by, unwritten,
     unwritten_by, write_reason,
 };
-pub use told_parts::{PartFile, beyond_plan, damaged_part, no_markers, no_part, older_part, parts_fault};
+pub use told_parts::{
+    PartFile, beyond_plan, damaged_part, no_markers, no_part, older_part, parts_fault,
+};
