@@ -1,4 +1,4 @@
--- What is told of a word: the entries that have it, in order.
+-- What the help says about a word: the entries that have it, in order.
 use Rattle.std.specs.Prelude.{ℕ, Bool, false, ◌||◌, nat_eq, List, [], ◌++◌, codes, if◌then◌else◌}
 use Rattle.std.specs.Cmp.Lexicographic.{pointwise}
 use Rattle.mpw_help.specs.declared.entry.Entry.{Entry}
@@ -41,7 +41,7 @@ entry_text entry =
     (entry.form.now ++ codes "\n    " ++ entry.meaning.now ++ codes "\n")
     ++ detail_text entry.detail
 
--- what is told of it where that word is asked for
+-- what the help prints if it is asked for that word
 unfoldable pub help_text : List ℕ → Entry → List ℕ
 help_text word entry = if is_asked word entry then entry_text entry else []
 

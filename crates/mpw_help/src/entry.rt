@@ -2,10 +2,10 @@
 ghost use Rattle.std.specs.Prelude.{◌≡◌};
 ghost use Rattle.mpw_help.specs.Help.{has_number, is_asked};
 
-/// What is told of a word besides its meaning.
+/// What the help says about a word besides its meaning.
 #[derive(Clone, Copy)]
 pub enum Detail {
-    /// A request of a connection: its tests in order, each with what is told where it fails, and its reply.
+    /// A request of a connection: its tests in order, each with the reply if it fails, and its reply.
     Request {
         tests: &'static str,
         reply: &'static str,
@@ -30,9 +30,9 @@ pub enum Detail {
 pub struct Entry {
     /// The word by which it is found.
     pub word: &'static str,
-    /// The line that asks it, or that is told.
+    /// The request's line, or the reply's.
     pub form: &'static str,
-    /// What it does, or when it is told.
+    /// What it does, or when it comes.
     pub meaning: &'static str,
     /// By what it is: tests and reply, statuses, or what to do.
     pub detail: Detail,
@@ -43,7 +43,7 @@ pub struct Entry {
 pub struct Table {
     /// The subject, which stands before the entries' words where `mpw help` lists them.
     pub title: &'static str,
-    /// In the order in which they are told.
+    /// In the order in which the help prints them.
     pub entries: &'static [Entry],
 }
 

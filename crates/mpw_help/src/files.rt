@@ -2,7 +2,7 @@
 
 use crate::entry::{Detail, Entry};
 
-/// Of a library's text, told with the byte of its record.
+/// Faults of a library's text. Each is reported with the byte of its record.
 static LIBRARY: [Entry; 17] = [
     Entry {
         word: "short",
@@ -166,12 +166,12 @@ static LIBRARY: [Entry; 17] = [
     },
 ];
 
-/// Of a library's text, told with the byte of its record.
+/// Faults of a library's text. Each is reported with the byte of its record.
 pub(crate) fn library() -> &'static [Entry] {
     &LIBRARY
 }
 
-/// Of a deck's text, told with the line.
+/// Faults of a deck's text. Each is reported with its line.
 static DECK: [Entry; 7] = [
     Entry {
         word: "word",
@@ -240,7 +240,7 @@ static DECK: [Entry; 7] = [
     },
 ];
 
-/// Of a deck's text, told with the line.
+/// Faults of a deck's text. Each is reported with its line.
 pub(crate) fn deck() -> &'static [Entry] {
     &DECK
 }

@@ -1,7 +1,7 @@
 //! What the requests, denials, codes and commands of the desk mean: the table from which `mpw help` and the tables of docs/
 //! are made.
 //!
-//! [`tables`] has an [`Entry`] for each, by subject. [`has_word`] tells whether entries have a word, and [`write_help`] writes all that
+//! [`tables`] has an [`Entry`] for each, by subject. [`has_word`] says whether entries have a word, and [`write_help`] writes all that
 //! have it, in order: a word may be a request's and a code's, as `shapes` is. [`write_words`] lists the words.
 #![tactic(auto)]
 

@@ -1,4 +1,4 @@
-//! What is told of a word.
+//! Writes what the help says about a word.
 ghost use Rattle.std.specs.Prelude.{◌≡◌};
 ghost use Rattle.std.specs.List.{flat_map, list_any};
 ghost use Rattle.mpw_help.specs.Help.{label_text, line_text, detail_text, entry_text, help_text, word_text, is_asked};
@@ -15,7 +15,7 @@ pub fn has_word(entries: &[Entry], word: &str) -> bool
     entries.iter().any(|entry| entry.is_asked(word))
 }
 
-/// What a line behind the meaning begins with.
+/// How a line after the meaning begins.
 #[derive(Clone, Copy)]
 pub(crate) enum Label {
     Tests,
@@ -37,7 +37,7 @@ fn text(label: &Label) -> &str
     }
 }
 
-/// Writes a line behind the meaning.
+/// Writes a line after the meaning.
 #[tactic(auto, unfolding(crate::specs::Help::line_text))]
 fn put_line<W: Write>(writer: &mut W, label: Label, line: &str) -> io::Result<()>
     ensures { Adds W.contents writer.old writer.new result (line_text label line.now) }
@@ -45,7 +45,7 @@ fn put_line<W: Write>(writer: &mut W, label: Label, line: &str) -> io::Result<()
     put(writer, &[text(&label), line, "\n"])
 }
 
-/// Writes what is told besides the meaning.
+/// Writes what comes after the meaning.
 #[tactic(auto, unfolding(crate::specs::Help::detail_text))]
 fn put_detail<W: Write>(writer: &mut W, detail: Detail) -> io::Result<()>
     ensures { Adds W.contents writer.old writer.new result (detail_text detail) }
@@ -85,7 +85,7 @@ fn put_asked<W: Write>(writer: &mut W, entry: &Entry, word: &str) -> io::Result<
 /// Writes the entries that have the word, or whose code has that number, in order. One pass.
 ///
 /// # Errors
-/// The writer's; it then holds a part of the text.
+/// The writer's error. The writer then holds a part of the text.
 pub fn write_help<W: Write>(writer: &mut W, entries: &[Entry], word: &str) -> io::Result<()>
     ensures { Adds W.contents writer.old writer.new result (flat_map (help_text word.now) entries.now) }
 {
@@ -106,7 +106,7 @@ fn put_word<W: Write>(writer: &mut W, entry: &Entry) -> io::Result<()>
 /// Writes the words of the entries in order, with a space before each.
 ///
 /// # Errors
-/// The writer's; it then holds a part of the text.
+/// The writer's error. The writer then holds a part of the text.
 pub fn write_words<W: Write>(writer: &mut W, entries: &[Entry]) -> io::Result<()>
     ensures { Adds W.contents writer.old writer.new result (flat_map word_text entries.now) }
 {

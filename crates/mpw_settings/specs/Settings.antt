@@ -132,11 +132,11 @@ AreGiven (Serve service) words =
     (fault_of program_app words ≡ []) × AreOf (subcommand_of program_app words) (Serve service)
 AreGiven (Help text) words = IsAmong DisplayHelp (fault_of program_app words)
 
--- the words have another form, or their subcommand gives no settings; and help isn't all that is told of them
+-- the words have another form, or their subcommand gives no settings; and they don't ask for the help alone
 pub record GiveNone (words : List Text) : Type 0 where
   pub unset : fault_of program_app words ≡ [] → GivesNone (AreOf (subcommand_of program_app words))
   pub unhelped : fault_of program_app words ≢ DisplayHelp ∷ []
 
--- a fault is want of memory, or tells what is so
+-- a fault is out of memory, or says what is so
 abbrev pub IsFaultOf : Type 0 → SettingsFault → Type 0
 IsFaultOf told fault = (fault ≡ Memory) ⊎ told

@@ -11,7 +11,7 @@ pub enum SettingsFault {
     /// It isn't one; the text says what is wrong and what is accepted.
     #[error("{0}")]
     Usage(String),
-    /// There is no room to read it.
+    /// Memory runs out.
     #[error("error: out of memory")]
     Memory,
 }

@@ -24,7 +24,7 @@ pub struct Officer {
 /// The subcommand with the options of an officer.
 ///
 /// # Errors
-/// Where there is no room for them.
+/// If memory runs out.
 pub fn with_officer<'a>(alloc: Global, command: Command<'a>) -> Result<Command<'a>, AllocError>
     ensures { IfOk result (λ with. (app : App) → HasForm app command.entry → HasForm (with_officer app) with) }
 {

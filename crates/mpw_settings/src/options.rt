@@ -47,7 +47,7 @@ pub fn flag<'a>(alloc: Global, name: &'a str, help: &'a str) -> Arg<'a>
 /// The subcommand with one more option.
 ///
 /// # Errors
-/// Where there is no room for it.
+/// If memory runs out.
 pub fn with_option<'a>(command: Command<'a>, option: Arg<'a>) -> Result<Command<'a>, AllocError>
     ensures { IfOk result (λ with. (app : App) (rule : Rule) → HasForm app command.entry → IsOption rule option.entry → HasForm (with_rule app rule) with) }
 {

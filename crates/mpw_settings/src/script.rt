@@ -23,7 +23,7 @@ pub struct Script {
 /// The subcommand `script`.
 ///
 /// # Errors
-/// If there is no room for it.
+/// If memory runs out.
 pub fn script_command<'a>(alloc: Global) -> Result<Command<'a>, AllocError>
     ensures { IfOk result (HasForm script_app) }
 {

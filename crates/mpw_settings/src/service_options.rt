@@ -84,7 +84,7 @@ fn with_further<'a>(alloc: Global, command: Command<'a>) -> Result<Command<'a>, 
 /// The subcommand `serve`.
 ///
 /// # Errors
-/// If there is no room for it.
+/// If memory runs out.
 pub fn serve_command<'a>(alloc: Global) -> Result<Command<'a>, AllocError>
     ensures { IfOk result (HasForm serve_app) }
 {

@@ -55,7 +55,7 @@ fn settings_of(alloc: Global, matches: &ArgMatches<'_>) -> Result<Settings, Sett
     }
 }
 
-/// The help that `clap` tells as an error.
+/// The help, which `clap` returns as an error.
 fn help_of(alloc: Global, error: &Error) -> Result<String, SettingsFault>
     ensures ok { IfOk result (λ _. kind_of error.now ≡ ErrorKind.DisplayHelp) }
     ensures refused { IfErr result (IsFaultOf ((kind_of error.now ≢ ErrorKind.OutOfMemory) × (kind_of error.now ≢ ErrorKind.DisplayHelp))) }

@@ -25,7 +25,7 @@ pub struct Store {
 /// The subcommand with the options of a store.
 ///
 /// # Errors
-/// If there is no room for them.
+/// If memory runs out.
 pub fn with_store<'a>(alloc: Global, command: Command<'a>) -> Result<Command<'a>, AllocError>
     ensures { IfOk result (λ with. (app : App) → HasForm app command.entry → HasForm (with_store app) with) }
 {

@@ -28,7 +28,7 @@ pub const MAX_LOGIN: u32 = 3600;
 /// The subcommand with the options of what strangers may use.
 ///
 /// # Errors
-/// If there is no room for them.
+/// If memory runs out.
 pub fn with_strangers<'a>(alloc: Global, command: Command<'a>) -> Result<Command<'a>, AllocError>
     ensures { IfOk result (λ with. (app : App) → HasForm app command.entry → HasForm (with_strangers app) with) }
 {

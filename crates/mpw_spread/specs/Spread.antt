@@ -19,7 +19,7 @@ pub record Texts : Type 0 where
   pub top : List ℕ
   pub library : List ℕ
 
--- What a part tells of them, where the layout has this extent and so many columns.
+-- What a part says of them if the layout has this extent and so many columns.
 abbrev pub subject_of : Texts → Option Box2 → ℕ → Checked
 subject_of texts extent columns = record {
   library = sha256 texts.library;
@@ -29,7 +29,7 @@ subject_of texts extent columns = record {
   columns = columns;
 }
 
--- The deck and the library are read to the snapshot, which has the extent that is told.
+-- The deck and the library give the snapshot, which has the extent that the part names.
 pub record AreOf (texts : Texts) (snapshot : Snapshot) (subject : Checked) : Type 0 where
   pub rules : Deck
   pub read : deck_of texts.deck ≡ Ok rules

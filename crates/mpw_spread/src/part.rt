@@ -43,7 +43,7 @@ fn columns_in(alloc: Global, columns: &[Column], span: Span) -> Result<Vec<Colum
 }
 
 /// The part with the keys of the columns of a span, from a plan that [`crate::columns_for_shares`] gives. It costs what
-/// [`lists_of_columns`] does for these columns, and progress is told as there.
+/// [`lists_of_columns`] does for these columns, and progress is reported as there.
 ///
 /// # Errors
 /// Want of memory.

@@ -117,7 +117,7 @@ fn read_columns(words: &[&[u8]]) -> Option<ColumnRange>
 /// One pass.
 ///
 /// # Errors
-/// Where there is no room for its words.
+/// If memory runs out.
 #[tactic(auto, unfolding(crate::specs::Ranges::range_of))]
 pub fn read_range(alloc: Global, text: &[u8]) -> Result<Option<ColumnRange>, AllocError>
     ensures { IfOk result (λ found. found ≡ range_of text.now) }
