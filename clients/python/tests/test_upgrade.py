@@ -2,6 +2,7 @@
 The program is MPW_PROGRAM, else the one that the gate built."""
 import glob
 import os
+import re
 import shutil
 import subprocess
 import sys
@@ -74,8 +75,10 @@ class OldStores(unittest.TestCase):
                         self.assertEqual([waiver.signer for waiver in desk.waivers()], [None, "dora"])
                         desk.sign(ASKED)
                         self.assertEqual(desk.verdict().number, 1)
-                    self.assertEqual(served.end()[::2], (0, ""))
+                    status, _, told = served.end()
                 before, after = rows_of(copy), rows_of(store)
+                self.assertEqual(status, 0)
+                self.assertRegex(told, f"^mpw: {re.escape(store)} has {len(before)} rows and [0-9]+ finished runs?\n$")
                 self.assertEqual((after[:len(before)], after[-2][2]), (before, f"sign {ASKED}"))
 
 
