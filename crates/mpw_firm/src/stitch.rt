@@ -21,7 +21,7 @@ use mpw_told::{FirmFault, PartFile, damaged_part, no_part, older_part};
 use std::alloc::{AllocError, Global};
 use std::io;
 
-/// What is told of a file whose text is no part.
+/// The sentence about a file whose text is no part.
 fn unread_part(alloc: Global, file: &str, text: &[u8]) -> FirmFault
     ensures { Refuses (unread_text (is_older text.now) (begins_as_part text.now) file.now) result }
 {

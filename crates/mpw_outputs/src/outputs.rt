@@ -88,7 +88,7 @@ pub trait Outputs {
 /// Writes a text and puts it into its place, once all of it was handed on.
 ///
 /// # Errors
-/// `Device` where that failed, which says so if no space was left, and `Memory`. What was in the place of a file is then as it was.
+/// `Device` where that failed, which says so if no space was left, and `Memory`. The file that was there is then unchanged.
 pub fn put<O: Outputs>(
     outputs: &mut O,
     alloc: Global,
@@ -115,7 +115,7 @@ fn untaken(alloc: Global, to: Place<'_>, is_full: bool) -> FirmFault
     }
 }
 
-/// What is told of what came of writing a text for a place, and whether no space was left there.
+/// The result of writing a text to a place, and whether no space was left there.
 #[tactic(auto, using(crate::proofs::Unput::untaken_is_unput, crate::proofs::Unput::memory_is_unput))]
 pub fn unput(alloc: Global, to: Place<'_>, why: WireFault, is_full: bool) -> FirmFault
     ensures place { IsUnput (place_of to.entry) result }

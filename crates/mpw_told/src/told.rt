@@ -241,7 +241,7 @@ pub fn unwritten_by(alloc: Global, file: &str, error: io::Error) -> FirmFault
     }
 }
 
-/// What is told of the standard output if no space is left.
+/// The sentence about the standard output if no space is left.
 #[tactic(auto, unfolding(crate::specs::Told::output_space_text))]
 fn full_output(alloc: Global) -> FirmFault
     ensures { Fails (output_text true) result }
@@ -250,7 +250,7 @@ fn full_output(alloc: Global) -> FirmFault
     failure(format!(in alloc; "the standard output can't be written: {reason}"))
 }
 
-/// What is told of the standard output if it failed otherwise.
+/// The sentence about the standard output if it failed otherwise.
 #[tactic(auto, unfolding(crate::specs::Told::output_device_text))]
 fn failed_output(alloc: Global) -> FirmFault
     ensures { Fails (output_text false) result }
@@ -258,7 +258,7 @@ fn failed_output(alloc: Global) -> FirmFault
     failure(String::from_str(alloc, "the standard output failed"))
 }
 
-/// What is told of the standard output if it can't be written: no space is left, or else it failed.
+/// The sentence about the standard output if it can't be written: no space is left, or else it failed.
 pub fn output_fault(alloc: Global, is_full: bool) -> FirmFault
     ensures { Fails (output_text is_full) result }
 {

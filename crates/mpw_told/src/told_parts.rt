@@ -90,7 +90,7 @@ pub fn older_part(alloc: Global, file: &str) -> FirmFault
     refusal(format!(in alloc; "{file}: a part of an older mpw: run that part again with this one"))
 }
 
-/// What is told of a part that was changed, or cut off.
+/// The sentence about a part that was changed or cut off.
 #[tactic(auto, unfolding(crate::specs::ToldParts::damaged_text))]
 pub fn damaged_part(alloc: Global, file: &str) -> FirmFault
     ensures { Refuses (damaged_text file.now) result }
