@@ -3,3 +3,5 @@ mod FirstLemmas
 mod TileLemmas
 mod ListLemmas
 mod GroupLemmas
+mod GroupOwn
+mod GroupFirsts

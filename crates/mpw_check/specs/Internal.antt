@@ -2,3 +2,4 @@
 pub mod Drawn
 pub mod First
 pub mod Tiled
+pub mod Groups

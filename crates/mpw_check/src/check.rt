@@ -254,7 +254,7 @@ fn shape_count(snapshot: &Snapshot) -> u64 {
 /// - if there are more than 2^20 flat shapes;
 /// - if more than 4096 tiles of the deck's side cover the layout;
 /// - if arrays have at least half of its flat shapes, since equal columns of these are checked once;
-/// - if there are more than 2^16 flat shapes, and at least four for each drawn shape and each reference, since equal parts of columns are checked once.
+/// - if there are more than 2^16 flat shapes, and at least three for each drawn shape and each reference, since equal parts of columns are checked once.
 ///
 /// Cost: a visit of the children of a structure on each level of these arrays, and one pass over the structures.
 pub fn checked_tiles(snapshot: &Snapshot) -> Option<u32>

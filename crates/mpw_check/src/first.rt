@@ -1,7 +1,7 @@
 //! Finds the first markers of each rule of a layout, and how many markers there are.
 //!
 //! If a layout is checked by tiles, its whole book is stitched, and one pass over it counts and selects them. A layout that is checked by columns can have
-//! more markers than there is memory for. It is left to [`first_of_columns`], which doesn't store the others.
+//! more markers than there is memory for. It is left to [`mpw_columns::first_of_columns`], which doesn't store the others.
 
 ghost use Rattle.std.specs.Prelude.{◌≡◌, ◌<◌, ◌+◌, ◌^◌, [], Some, length, replicate, slice_index, All, IfOk, OnOk};
 ghost use Rattle.mpw_columns.specs.First.{IsFirstOfLayout};
@@ -10,7 +10,8 @@ ghost use Rattle.mpw_check.specs.Lists.{tile_count};
 ghost use Rattle.mpw_check.specs.Internal.First.{AddsOne};
 
 use crate::check::{check_all, checked_tiles};
-use mpw_columns::{Bounds, FirstMarkers, MAX_SHOWN, Progress, first_of_columns};
+use crate::group_firsts::{Sought, first_by_columns};
+use mpw_columns::{FirstMarkers, Progress};
 use mpw_markers::Marker;
 use mpw_tiles::Snapshot;
 use std::alloc::{AllocError, Global};
@@ -82,7 +83,7 @@ fn first_of_tiles<P: Progress>(
 /// has and how many there are, if the shelf has exactly one submission. They are the first of [`check_layout`](crate::check_layout).
 ///
 /// It checks in the same way, by tiles or by columns. By tiles, of which there are at most 4096, the whole book is in memory before one pass over it.
-/// By columns it costs what [`first_of_columns`] does with [`MAX_SHOWN`], which doesn't store the others. The result is the same either way.
+/// By columns it costs what [`mpw_columns::first_of_columns`] does with [`mpw_columns::MAX_SHOWN`], which doesn't store the others. The result is the same either way.
 ///
 /// # Errors
 /// Out of memory.
@@ -99,11 +100,8 @@ pub fn first_of_layout<P: Progress>(
     match checked_tiles(snapshot) {
         Some(tiles) => first_of_tiles(rt, alloc, snapshot, tiles, most, progress),
         None => {
-            let bounds = Bounds {
-                shapes: MAX_SHOWN,
-                markers: most,
-            };
-            first_of_columns(rt, alloc, snapshot, bounds, progress)
+            let sought = Sought { snapshot, most };
+            first_by_columns(rt, alloc, &sought, progress)
         }
     }
 }

@@ -15,6 +15,7 @@ mod check;
 mod fault;
 mod first;
 mod following;
+mod group_firsts;
 mod groups;
 mod laws;
 mod layout;

@@ -2,6 +2,7 @@
 pub mod Bands
 pub mod Blocks
 pub mod Checked
+pub mod Counted
 pub mod Firsts
 pub mod Found
 pub mod Like

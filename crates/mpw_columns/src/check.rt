@@ -7,6 +7,8 @@ ghost use Rattle.mpw_keys.specs.Columns.{seen_box, upright};
 ghost use Rattle.mpw_columns.specs.Plan.{IsColumnWithin};
 ghost use Rattle.mpw_columns.specs.Lists.{IsColumnList};
 ghost use Rattle.mpw_columns.specs.Internal.Found.{IsUpright};
+ghost use Rattle.mpw_keys.specs.Firsts.{capped};
+ghost use Rattle.mpw_columns.specs.Internal.Counted.{keys_at, keys_shared, share_at};
 ghost use Rattle.mpw_columns.specs.Internal.Checked.{AreBatches, AreNext, IsLayout, HaveLists, IsTop, IsBatch};
 
 use crate::batch::{Batch, Source, Top, count_along, top_of};
@@ -115,16 +117,32 @@ pub(crate) struct Own<'a> {
 }
 
 impl Own<'_> {
-    /// How many keys all columns have that share these lists, displaced. The lists are those of the columns from index `from` on.
-    pub(crate) fn keys_from(&self, from: usize, lists: &[ColumnKeys]) -> usize {
+    /// How many columns share the list of the column that is `k` places after another; 1 if that isn't known.
+    fn share(&self, from: usize, k: usize) -> usize
+        ensures { result ≡ share_at self.now.shares.now from k }
+    {
+        match self.shares.get(from.saturating_add(k)) {
+            Some(share) => *share,
+            None => 1,
+        }
+    }
+
+    /// How many keys the columns have that share one of these lists, up to 2^64 - 1.
+    fn keys_at(&self, from: usize, lists: &[ColumnKeys], k: usize) -> usize
+        requires { k < length lists.now }
+        ensures { result ≡ capped (keys_at self.now.shares.now from lists.now k) }
+    {
+        self.share(from, k)
+            .saturating_mul(lists[k].as_slice().len())
+    }
+
+    /// How many keys all columns have that share these lists, displaced, up to 2^64 - 1. The lists are those of the columns from index `from` on.
+    pub(crate) fn keys_from(&self, from: usize, lists: &[ColumnKeys]) -> usize
+        ensures { result ≡ keys_shared self.now.shares.now from lists.now }
+    {
         let mut keys = 0usize;
-        for (k, list) in lists.iter().enumerate() {
-            let share = self
-                .shares
-                .get(from.saturating_add(k))
-                .copied()
-                .unwrap_or(1);
-            keys = keys.saturating_add(share.saturating_mul(list.as_slice().len()));
+        for k in 0..lists.len() {
+            keys = keys.saturating_add(self.keys_at(from, lists, k));
         }
         keys
     }

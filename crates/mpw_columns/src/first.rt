@@ -10,6 +10,7 @@ ghost use Rattle.mpw_keys.specs.Keys.{IsNear};
 ghost use Rattle.mpw_columns.specs.First.{IsFirstOfLayout};
 ghost use Rattle.mpw_columns.specs.Plan.{IsColumnWithin};
 ghost use Rattle.mpw_columns.specs.Internal.Checked.{AreBatches, IsLayout};
+ghost use Rattle.mpw_columns.specs.Internal.Counted.{keys_held};
 ghost use Rattle.mpw_columns.specs.Internal.Firsts.{AddsFirsts, HasFirsts, HasLayoutListing, HasListing, IsPlacedAt, IsSpot};
 ghost use Rattle.mpw_columns.specs.Internal.Found.{IsUpright};
 ghost use Rattle.mpw_columns.specs.Internal.Like.{AreLikes, own_columns};
@@ -25,7 +26,7 @@ use crate::like::{own_columns, shares_of};
 use crate::plan::counted_columns;
 use crate::progress::Progress;
 use mpw_edges::test_decides_pair_steps;
-use mpw_keys::{Column, ColumnKeys, Firsts, Placed, Shared, shared_lists_have_the_first};
+use mpw_keys::{Column, ColumnKeys, First, Firsts, Placed, Shared, shared_lists_have_the_first};
 use mpw_markers::Marker;
 use mpw_tiles::Snapshot;
 use std::alloc::{AllocError, Global};
@@ -73,11 +74,20 @@ fn list_count(snapshot: &Snapshot) -> u32
     2 * rule_count(snapshot.deck().rules().as_slice())
 }
 
-/// How many keys are held of a column.
-fn kept_of(firsts: &Firsts) -> usize {
+/// How many keys are held of a list.
+fn held_of(list: &First) -> usize
+    ensures { result ≡ length list.now.keys.items }
+{
+    list.keys.len()
+}
+
+/// How many keys are held of the lists of a column, up to 2^64 - 1.
+fn kept_of(lists: &[First]) -> usize
+    ensures { result ≡ keys_held lists.now }
+{
     let mut kept = 0usize;
-    for list in &firsts.lists {
-        kept = kept.saturating_add(list.keys.len());
+    for list in lists {
+        kept = kept.saturating_add(held_of(list));
     }
     kept
 }
@@ -95,7 +105,7 @@ fn add_firsts(
     let mut kept = 0usize;
     for list in lists {
         let column = Firsts::of(alloc, list, count, most)?;
-        kept = kept.saturating_add(kept_of(&column));
+        kept = kept.saturating_add(kept_of(column.lists.as_slice()));
         firsts.push(column)?;
     }
     Ok(kept)

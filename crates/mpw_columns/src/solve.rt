@@ -12,7 +12,7 @@ use crate::cores::{keys_in, rectangles_in};
 use crate::kept::Kept;
 use crate::things::{Task, rectangles_of_things, things_in};
 use mpw_contents::Contents;
-use mpw_cuts::{Core, Cuts, cuts_of};
+use mpw_cuts::{Core, Cuts, cuts_of, shown_by};
 use mpw_edges::test_decides_pair_steps;
 use mpw_geom::Box2;
 use mpw_markers::Key;
@@ -23,8 +23,11 @@ use std::alloc::{AllocError, Global};
 /// How often a core is cut at most.
 const MAX_DEPTH: u32 = 256;
 
-/// For cuts, a core with n entries may take this number times (n plus this number) visits. What is left then is checked without more cuts.
-const AS_OFTEN: u64 = 512;
+/// How much work on cuts a flat shape is worth, in visits of an entry: about half of the work of checking it in a core without cuts.
+const WORTH: u64 = 96;
+
+/// The work of a rectangle that is listed for a small core, in visits.
+const RECTANGLE: u64 = 64;
 
 /// A core that is seen along the axis, the entries of its window, and the lines along which it is still to be cut: rows (y) or positions across them (x).
 #[derive(Clone, Copy)]
@@ -47,7 +50,10 @@ struct Halves<'a> {
 /// The cost of choosing lines for an entry, or of listing its shapes, in visits.
 const LISTED: usize = 16;
 
-/// The pieces that were found, the cores that were solved, and how many entries may still be visited to choose cuts.
+/// The cost of each core in addition to its entries, in visits.
+const CORE: usize = 256;
+
+/// The pieces that were found, the cores that were solved, and how much work may still be spent on cuts and on the cores that they leave, in visits.
 #[derive(Drop)]
 struct Solution {
     keys: Vec<Key>,
@@ -113,11 +119,8 @@ impl<'a> Work<'a> {
     /// How many visits a core takes: one for each entry if lines are given, otherwise what it takes to choose them or to list the shapes.
     fn cost(&self) -> usize {
         let count = self.things.things().len();
-        if self.lines.is_empty() {
-            count.saturating_mul(LISTED)
-        } else {
-            count
-        }
+        let each = if self.lines.is_empty() { LISTED } else { 1 };
+        count.saturating_mul(each).saturating_add(CORE)
     }
 
     /// The parts of the core at the middle one of its lines. `None` if there is none, or if it isn't inside.
@@ -160,14 +163,14 @@ fn leaf_rectangles(
     }
 }
 
-/// Adds the pieces of a core that isn't cut any more. The only error is out of memory.
+/// Adds the pieces of a core that isn't cut any more. Returns how many rectangles it had. The only error is out of memory.
 fn add_leaf(
     alloc: Global,
     keys: &mut Vec<Key>,
     task: &Task<'_>,
     core: &Box2,
     things: &Contents,
-) -> Result<(), AllocError>
+) -> Result<usize, AllocError>
     requires layout { IsLayout task.now.layout.now }
     requires upright { IsUpright core.now }
     requires things { AreThingsIn task.now.layout.now task.now.axis core.now things.now }
@@ -177,10 +180,35 @@ fn add_leaf(
     let rectangles = leaf_rectangles(alloc, task, core, things)?;
     let mut found = keys_in(alloc, task.layout, task.axis, core, rectangles.as_slice())?;
     keys.append(&mut found)?;
-    Ok(())
+    Ok(rectangles.len())
+}
+
+/// The work of a core that isn't cut any more: a visit for each flat shape of its entries, and the check of the rectangles that are listed.
+fn leaf_work(task: &Task<'_>, work: &Work<'_>, listed: usize) -> u64 {
+    shown_by(task.layout.snapshot.shelf(), work.things).saturating_add(
+        (listed as u64).saturating_mul(RECTANGLE),
+    )
 }
 
 impl Solution {
+    /// Adds the pieces of a core that isn't cut any more, and counts its work. The only error is out of memory.
+    fn add_leaf(
+        &mut self,
+        alloc: Global,
+        task: &Task<'_>,
+        work: &Work<'_>,
+    ) -> Result<(), AllocError>
+        requires layout { IsLayout task.now.layout.now }
+        requires upright { IsUpright work.now.core }
+        requires things { AreThingsIn task.now.layout.now task.now.axis work.now.core work.now.things.now }
+        ensures pieces { OnOk result (AddsLayoutPieces task.now.layout.now task.now.axis work.now.core self.old.keys.items self.new.keys.items) }
+        ensures kept { OnOk result (self.new.kept.solved.items ≡ self.old.kept.solved.items) }
+    {
+        let listed = add_leaf(alloc, &mut self.keys, task, &work.core, work.things)?;
+        self.left = self.left.saturating_sub(leaf_work(task, work, listed));
+        Ok(())
+    }
+
     /// Whether a core of `count` entries may be cut. Counts their visits.
     fn may_cut(&mut self, count: usize) -> bool
         ensures keys { self.new.keys.items ≡ self.old.keys.items }
@@ -278,10 +306,10 @@ fn solve(
     ensures solved { OnOk result (All (IsSolved task.now.layout.now task.now.axis) solution.new.kept.solved.items) }
 {
     if depth == 0 {
-        return add_leaf(alloc, &mut solution.keys, task, &work.core, work.things);
+        return solution.add_leaf(alloc, task, work);
     }
     if !solution.may_cut(work.cost()) {
-        return add_leaf(alloc, &mut solution.keys, task, &work.core, work.things);
+        return solution.add_leaf(alloc, task, work);
     }
     if let Some(halves) = work.halves() {
         let part = things_in(alloc, task, &halves.first, work.things)?;
@@ -330,19 +358,17 @@ fn seen_core(task: &Task<'_>, work: &Work<'_>) -> Core {
     }
 }
 
-/// How many visits may be spent on cuts of a core with these entries.
-fn looks_at(things: &Contents) -> u64 {
-    (things.things().len() as u64)
-        .saturating_add(AS_OFTEN)
-        .saturating_mul(AS_OFTEN)
+/// How much work may be spent on cuts of a core with these entries, and on the cores that they leave, in visits.
+fn work_for(task: &Task<'_>, things: &Contents) -> u64 {
+    shown_by(task.layout.snapshot.shelf(), things).saturating_mul(WORTH)
 }
 
 /// The keys of the maximal runs in a core that is seen along the axis. The entries have exactly what the layout has in its window.
 ///
 /// A core is cut along lines that its entries suggest, until few shapes are left. A part with the content of an earlier part, displaced, takes that
-/// part's pieces. Each cut is a pass over the part's entries. All cuts of a core with n entries take at most 512 * (n + 512) visits. If many instances
-/// overlap, what is left then is checked without more cuts. The pieces of all parts are sorted, and those that touch are joined. At most 2^20 entries
-/// and pieces of solved parts are held. The only error is out of memory.
+/// part's pieces. Each cut is a pass over the part's entries. Cuts and what they leave take at most half of the work of the core's flat shapes. If that is
+/// spent, since many instances overlap or few parts repeat, the rest is checked without more cuts. The pieces of all parts are sorted, and those that touch
+/// are joined. At most 2^20 entries and pieces of solved parts are held. The only error is out of memory.
 pub(crate) fn runs_in(
     alloc: Global,
     task: &Task<'_>,
@@ -365,7 +391,7 @@ pub(crate) fn runs_in(
     let mut solution = Solution {
         keys: Vec::new(alloc),
         kept: Kept::new(alloc),
-        left: looks_at(work.things),
+        left: work_for(task, work.things),
     };
     solve(alloc, task, &mut solution, &work, MAX_DEPTH)?;
     joined(alloc, solution.keys)

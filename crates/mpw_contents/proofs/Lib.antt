@@ -15,4 +15,3 @@ pub mod Instances
 pub mod Arrays
 pub mod Coded
 pub mod Layered
-pub mod Examples

@@ -1,7 +1,7 @@
 //! Opens an array by one level: each instance that may touch the window is replaced by its structure's own shapes and by an array for each
 //! of its children.
 
-ghost use Rattle.std.specs.Prelude.{◌≡◌, ◌<◌, ◌++◌, ◌∷◌, [], length, map, slice_get, option_copied, OnOk, IfOk, IfSome, IfNone, IsTrue, Contains};
+ghost use Rattle.std.specs.Prelude.{◌≡◌, ◌<◌, ◌≤◌, ◌++◌, ◌∷◌, [], length, map, slice_get, option_copied, Err, OnOk, IfOk, IfErr, IfSome, IfNone, IsTrue, Contains};
 ghost use Rattle.std.specs.List.{flat_map};
 ghost use Rattle.mpw_geom.specs.Plane.{IsInPlane};
 ghost use Rattle.mpw_structures.specs.Element.{IsElement, IsReference};
@@ -10,6 +10,7 @@ ghost use Rattle.mpw_contents.specs.Things.{drawn, element_at, element_in, place
 ghost use Rattle.mpw_contents.specs.Internal.Making.{IsLayout, HaveBoxes, IsNodeOf, IsArray, IsThing, LeadsTo, Adds, Shows};
 ghost use Rattle.mpw_contents.specs.Internal.Opening.{name_shown, as_reference, child_shown, structure_shapes, structure_children, instances_shown, IsMissed, IsPlacedReference};
 ghost use Rattle.mpw_contents.specs.Internal.Own.{own_window};
+ghost use Rattle.mpw_contents.specs.declared.stop.Stop.TheVariants.{Many, Memory};
 ghost use Rattle.mpw_contents.specs.declared.thing.Thing.TheVariants as variants;
 
 use crate::fit::{area_of, fitted, is_area_met, is_own_met, may_meet};
@@ -119,7 +120,9 @@ impl<'a> Layout<'a> {
     /// # Errors
     /// If there are already as many entries as the options allow; or out of memory.
     pub fn push(&self, thing: &Thing, things: &mut Vec<Thing>) -> Result<(), Stop>
-        ensures { OnOk result (things.new.items ≡ things.old.items ++ thing.now ∷ []) }
+        ensures added { OnOk result (things.new.items ≡ things.old.items ++ thing.now ∷ []) }
+        ensures full { self.now.most ≤ length things.old.items → result ≡ Err Many }
+        ensures fails { length things.old.items < self.now.most → IfErr result (λ stop. stop ≡ Memory) }
     {
         if things.len() >= self.most {
             return Err(Stop::Many);

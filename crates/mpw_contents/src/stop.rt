@@ -1,5 +1,8 @@
 //! The reasons why no contents are made.
 
+ghost use Rattle.std.specs.Prelude.{◌≡◌};
+ghost use Rattle.mpw_contents.specs.declared.stop.Stop.TheVariants.{Memory};
+
 use std::alloc::{AllocError, AllocFailed};
 
 /// Why no contents are made.
@@ -14,12 +17,16 @@ pub enum Stop {
 }
 
 impl From<AllocError> for Stop {
+    ghost from_gives = { λ _ stop. stop ≡ Memory };
+
     fn from(_error: AllocError) -> Stop {
         Stop::Memory
     }
 }
 
 impl<T: Drop> From<AllocFailed<T>> for Stop {
+    ghost from_gives = { λ _ stop. stop ≡ Memory };
+
     fn from(_error: AllocFailed<T>) -> Stop {
         Stop::Memory
     }

@@ -2,11 +2,13 @@
 //!
 //! Parts that are identical up to translation are checked once, so the cuts should make few kinds of parts. An array with half of all shapes is cut on a line
 //! of its lattice, into equal halves. An array of many instances is cut off from what is around it. Adjacent instances are separated by cuts, all at once and
-//! rows first: what is left are the inside of each and what two share. A core with few shapes isn't cut.
+//! rows first: what is left are the inside of each and what two share. A core with few shapes isn't cut, nor is one with an array of half of its shapes whose
+//! instances overlap several times over if cuts cost more than they save.
 
 use crate::clean::clean_lines;
 use crate::common::common_edge;
 use crate::large::{edge_of_large, line_of_lattice};
+use crate::overlap::is_crowded;
 use crate::tally::Tally;
 use crate::view::View;
 use mpw_contents::Contents;
@@ -104,8 +106,8 @@ fn line_of_array(
     contents: &Contents,
     tally: &Tally,
 ) -> Result<Option<Cut>, AllocError> {
-    if let Some(room) = tally.half() {
-        let line = line_of_lattice(view, &room);
+    if let Some(array) = tally.half() {
+        let line = line_of_lattice(view, &array.room);
         if line.is_some() {
             return Ok(line);
         }
@@ -120,6 +122,11 @@ fn cuts_by(
     contents: &Contents,
     tally: &Tally,
 ) -> Result<Cuts, AllocError> {
+    if let Some(array) = tally.half() {
+        if is_crowded(view, &array) {
+            return Ok(Cuts::none(alloc));
+        }
+    }
     if let Some(cut) = line_of_array(alloc, view, contents, tally)? {
         return Cuts::one(alloc, cut);
     }

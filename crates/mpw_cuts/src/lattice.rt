@@ -294,7 +294,7 @@ pub fn line_between(lattices: &[Lattice], from: i64, to: i64) -> Option<i64> {
 }
 
 /// With at least this many flat shapes for each drawn shape and each reference, a layout is regular.
-const MANY_PLACED: u64 = 4;
+const MANY_PLACED: u64 = 3;
 
 /// Whether a layout has many flat shapes for each drawn shape and each reference, so that a window has far fewer entries than flat shapes. Cost: one pass
 /// over the structures.

@@ -209,6 +209,11 @@ impl Room {
         }
     }
 
+    /// The length of an instance along y, or along x.
+    pub fn reach(&self, are_rows: bool) -> u64 {
+        span_of(&self.first, are_rows).length()
+    }
+
     /// The interval of all instances along y, or along x.
     pub fn span(&self, are_rows: bool) -> Span {
         span_of(&self.first, are_rows)

@@ -38,6 +38,8 @@ pub(crate) struct Greatest {
     pub room: Room,
     /// An estimate of how many flat shapes they have.
     pub shown: u64,
+    /// How many shapes and references the structure of one has itself.
+    pub own: u64,
 }
 
 /// Whether an array has at least [`LARGE`] instances, so that it is cut off.
@@ -57,8 +59,8 @@ impl Tally {
         }
     }
 
-    /// Counts an array of more than one instance.
-    fn add_several(&mut self, room: Room, shown: u64) {
+    /// Counts an array of more than one instance, whose structure has `own` shapes and references.
+    fn add_several(&mut self, room: Room, shown: u64, own: u64) {
         self.inside = self.inside.saturating_add(2);
         if is_large(&room) {
             self.large = self.large.saturating_add(1);
@@ -68,7 +70,7 @@ impl Tally {
             None => true,
         };
         if is_greatest {
-            self.greatest = Some(Greatest { room, shown });
+            self.greatest = Some(Greatest { room, shown, own });
         }
     }
 
@@ -82,7 +84,7 @@ impl Tally {
         self.shown = self.shown.saturating_add(shown);
         self.instances = self.instances.saturating_add(1);
         if count >= 2 {
-            self.add_several(room, shown);
+            self.add_several(room, shown, view.own_of_each(array));
         } else if view.is_mostly_inside(&room.first) {
             self.inside = self.inside.saturating_add(1);
         }
@@ -125,12 +127,8 @@ impl Tally {
     }
 
     /// The array with at least half of all flat shapes, if there is one.
-    pub fn half(&self) -> Option<Room> {
-        let greatest = self.greatest?;
-        if greatest.shown.saturating_mul(2) >= self.shown {
-            Some(greatest.room)
-        } else {
-            None
-        }
+    pub fn half(&self) -> Option<Greatest> {
+        self.greatest
+            .filter(|greatest| greatest.shown.saturating_mul(2) >= self.shown)
     }
 }

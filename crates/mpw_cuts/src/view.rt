@@ -2,7 +2,7 @@
 
 use crate::cutting::Core;
 use crate::room::{Room, Span, seen_box, seen_step, seen_where_placed, span_of};
-use mpw_contents::{Array, Shape, Thing};
+use mpw_contents::{Array, Contents, Shape, Thing};
 use mpw_geom::{Box2, Point};
 use mpw_hier::{Node, Shelf};
 
@@ -44,6 +44,14 @@ impl<'a> View<'a> {
     /// How many flat shapes each instance of an array has.
     pub fn shown_by_each(&self, array: &Array) -> u64 {
         self.nodes.get(array.node).map_or(0, |node| node.size.count)
+    }
+
+    /// How many shapes and references the structure of an array has itself.
+    pub fn own_of_each(&self, array: &Array) -> u64 {
+        match self.nodes.get(array.node) {
+            Some(node) => { (node.shapes.len() as u64).saturating_add(node.children.len() as u64) }
+            None => 0,
+        }
     }
 
     /// The position of a shape.
@@ -95,6 +103,31 @@ impl<'a> View<'a> {
         }
         area_of(&inside) > area_of(b) / 2
     }
+}
+
+/// An estimate of how many flat shapes entries of a shelf's first submission have. Cost: linear in their number. Takes no memory.
+pub fn shown_by(shelf: &Shelf, contents: &Contents) -> u64 {
+    let Some(nodes) = shelf.nodes(0) else {
+        return 0;
+    };
+    let mut shown = 0u64;
+    for thing in contents.things() {
+        let more = match thing {
+            Thing::Shape(_) => 1,
+            Thing::Array(array) => shown_by_array(nodes, array),
+        };
+        shown = shown.saturating_add(more);
+    }
+    shown
+}
+
+/// An estimate of how many flat shapes the instances of an array have.
+fn shown_by_array(nodes: &[Node], array: &Array) -> u64 {
+    nodes
+        .get(array.node)
+        .map_or(0, |node| node.size.count)
+        .saturating_mul(u64::from(array.columns))
+        .saturating_mul(u64::from(array.rows))
 }
 
 /// The area of a box.

@@ -1,5 +1,5 @@
 -- Markers of groups, joined rule by rule: their order, and which they are.
-use Rattle.std.proofs.Common.{◌≡◌, ◌∙◌, ℕ, zero, suc, ◌+◌, ◌<◌, ◌≤◌, ◌==◌, Bool, true, false, cond, List, [], ◌∷◌, ◌++◌, length, get_or, map, take, append-nil, Option, Some, None, Ordering, Less, Equal, nat_cmp, ◌⊎◌, inl, inr, refl, sym, ap, subst, arith}
+use Rattle.std.proofs.Common.{◌≡◌, ◌∙◌, ℕ, zero, suc, ◌+◌, ◌<◌, ◌≤◌, ◌==◌, Bool, true, false, cond, List, [], ◌∷◌, ◌++◌, length, get_or, map, take, Option, Some, None, Ordering, Less, Equal, nat_cmp, ◌⊎◌, inl, inr, refl, sym, ap, subst, arith}
 use Rattle.std.specs.Prelude.{All, AllPairs, Contains, filter, slice_get, slice_index_or}
 use Rattle.std.specs.Ordering.{int_cmp, ordering_then}
 use Rattle.std.proofs.lemmas.Bool.{eqb-true, eq-eqb}
@@ -14,7 +14,6 @@ use Rattle.mpw_markers.specs.Book.{IsBook}
 use Rattle.mpw_markers.specs.Markers.{line_of, IsFilled}
 use Rattle.mpw_markers.specs.Met.{IsAscending}
 use Rattle.mpw_markers.specs.Order.{StandsBefore}
-use Rattle.mpw_job.proofs.Tests.{is_false}
 use Rattle.mpw_groups.specs.declared.joining.Owner.{Owner}
 use Rattle.mpw_groups.specs.Joined.{joined_from, taken, taken_at, with_rule}
 use Rattle.mpw_groups.proofs.Squared.{line_at}
@@ -241,14 +240,3 @@ taken_more place rule found i m inside at same =
     ++ cond b (m ∷ []) [])) (eq-eqb m.rule place same)
     ∙ map-append (with_rule rule) (filter (λ (y : Marker). y.rule == place) (take i found))
     (m ∷ [])
-
-pub taken_less : (place rule : ℕ) (found : List Marker) (i : ℕ) (m : Marker) → i < length found
-    → m ≡ get_or found i m → (m.rule ≡ place → ⊥)
-    → taken place rule (take (i + 1) found) ≡ taken place rule (take i found)
-taken_less place rule found i m inside at other =
-    ap (map (with_rule rule)) (filter_more (λ (x : Marker). x.rule == place) found i m inside
-    ∙ ap (λ (x : Marker). filter (λ (y : Marker). y.rule == place) (take i found)
-    ++ cond (x.rule == place) (x ∷ []) []) (sym at)
-    ∙ ap (λ b. filter (λ (y : Marker). y.rule == place) (take i found) ++ cond b (m ∷ []) [])
-    (is_false (m.rule == place) (λ e. other (eqb-true m.rule place e)))
-    ∙ append-nil (filter (λ (y : Marker). y.rule == place) (take i found)))

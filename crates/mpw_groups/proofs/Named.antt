@@ -17,10 +17,6 @@ or-true : (a : Bool) → (a || true) ≡ true
 or-true true = refl
 or-true false = refl
 
-or-assoc : (a b c : Bool) → ((a || b) || c) ≡ (a || (b || c))
-or-assoc true b c = refl
-or-assoc false b c = refl
-
 -- ---- one layer of a list
 
 pub none_more : (layers : List Layer) (i : ℕ) (d layer : Layer) → i < length layers
@@ -60,16 +56,6 @@ pub has_pushed : (layers : List Layer) (layer other : Layer)
 has_pushed layers layer other =
     list_any-append (λ (own : Layer). same_layer own other) layers (layer ∷ [])
     ∙ ap (λ b. is_among layers other || b) (or-false (same_layer layer other))
-
--- two layers that are added
-pub has_both : (old middle new : List Layer) (first second : Layer)
-    → ((other : Layer) → is_among middle other ≡ (is_among old other || same_layer first other))
-    → ((other : Layer) → is_among new other ≡ (is_among middle other || same_layer second other))
-    → (other : Layer) → is_among new other
-    ≡ (is_among old other || (same_layer first other || same_layer second other))
-has_both old middle new first second a b other =
-    b other ∙ ap (λ c. c || same_layer second other) (a other)
-    ∙ or-assoc (is_among old other) (same_layer first other) (same_layer second other)
 
 -- the layers of one more rule, and of all
 pub named_more : (rules : List Rule) (i : ℕ) (rule : Rule) (old new : List Layer)

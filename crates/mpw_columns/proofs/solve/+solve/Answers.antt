@@ -1,4 +1,4 @@
-use Rattle.std.proofs.Common.{List, sym, subst, arith}
+use Rattle.std.proofs.Common.{◌∙◌, List, sym, subst, arith}
 use Rattle.std.specs.Prelude.{All}
 use Rattle.std.proofs.lemmas.Result.{on_ok_weaker}
 use Rattle.mpw_markers.specs.declared.marker.Key.{Key}
@@ -75,10 +75,15 @@ solve-requires-2 t c = (
   ),
 )
 
+pub returns-then-depth-eq0-clause-solved : goal.returns-then-depth-eq0-clause-solved
+returns-then-depth-eq0-clause-solved t c = on_ok_weaker c.add_leaf.result
+    (λ same. subst (All (IsSolved c.args.task.now.layout.now c.args.task.now.axis))
+    (sym same) c.requires.solved) c.add_leaf.ensures.kept
+
 pub returns-then-not-may_cut-clause-solved : goal.returns-then-not-may_cut-clause-solved
 returns-then-not-may_cut-clause-solved t c = on_ok_weaker c.add_leaf-then-not-may_cut.result
-    (λ _. subst (All (IsSolved c.args.task.now.layout.now c.args.task.now.axis))
-    (sym c.may_cut.ensures.kept) c.requires.solved) c.add_leaf-then-not-may_cut.ensures
+    (λ same. subst (All (IsSolved c.args.task.now.layout.now c.args.task.now.axis))
+    (sym (same ∙ c.may_cut.ensures.kept)) c.requires.solved) c.add_leaf-then-not-may_cut.ensures.kept
 
 pub add_kept-requires-clause-solved : goal.add_kept-requires-clause-solved
 add_kept-requires-clause-solved t c =

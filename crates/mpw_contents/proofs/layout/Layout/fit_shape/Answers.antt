@@ -21,6 +21,6 @@ returns c =
     let l = c.args.self.now in
     let shown = thing_items l.shelf.now c.args.thing.now in
     adds_one l shown c.args.things.now.items c.push.new.things.items c.args.thing.now
-    c.in_ok-push.ensures
+    c.in_ok-push.ensures.added
     (subst (IsThing l.nodes.now) (sym c.requires.same) (subst IsNear c.requires.same c.requires.near))
     c.requires.boxed (shows_same l.window shown shown refl)

@@ -10,4 +10,4 @@ returns c =
     let thing = things.Array c.args.array.now in
     let shown = thing_items l.shelf.now thing in
     adds_one l shown c.args.things.now.items c.push.new.things.items thing
-    (c.in_ok-push.ensures ∙ ap (λ t. c.args.things.now.items ++ t ∷ []) c.requires.same) c.requires.array tt (shows_same l.window shown shown refl)
+    (c.in_ok-push.ensures.added ∙ ap (λ t. c.args.things.now.items ++ t ∷ []) c.requires.same) c.requires.array tt (shows_same l.window shown shown refl)

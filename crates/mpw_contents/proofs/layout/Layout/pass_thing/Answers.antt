@@ -11,4 +11,4 @@ returns-in-Shape c =
     on_ok_weaker c.push.result
     (λ e. adds_one l shown c.args.things.now.items c.push.new.things.items c.args.thing.now e
     c.requires.thing c.requires.boxed (shows_same l.window shown shown refl))
-    c.push.ensures
+    c.push.ensures.added

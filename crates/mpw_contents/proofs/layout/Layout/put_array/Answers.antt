@@ -31,7 +31,7 @@ returns-in-Some-fitted c =
     (λ e. some_left c.names_are_opened.ensures l c.requires.layout a c.requires.array
     c.in-Some.node.now at c.in-Some-extent.extent c.in-Some-extent.is
     c.in-Some-fitted.array c.in-Some-fitted.ensures.some c.args.things.now.items
-    c.push.new.things.items e) c.push.ensures
+    c.push.new.things.items e) c.push.ensures.added
 
 pub returns-in-None : goal.returns-in-None
 returns-in-None c =

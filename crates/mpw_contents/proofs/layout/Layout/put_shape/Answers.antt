@@ -79,4 +79,4 @@ returns c =
     (same ∙ copied_some c.element.result c.in-Some.element _ c.in-Some.is c.element.ensures.is)
     (sym c.element_box.ensures ∙ c.in-Some-element_box.is) c.area_of-area.ensures)
     (shows_same l.window (drawn t o) (thing_items l.shelf.now thing) (ap (drawn t) (sym same))))
-    c.push.ensures
+    c.push.ensures.added
