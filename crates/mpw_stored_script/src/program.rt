@@ -10,7 +10,7 @@ ghost use Rattle.sqlite.specs.Held.{state};
 ghost use Rattle.sqlite.specs.State.{HasCleanDisk};
 
 use crate::fault::{StoredFault, exit_status};
-use crate::opening::open_desk;
+use crate::opening::open_announced;
 use crate::serving::{Stopped, serve_store};
 use mpw_events::Handler;
 use mpw_serve::{End, Executor, Progress};
@@ -192,8 +192,8 @@ fn close(rt: &HostRuntime, conn: FileConnection) {
     }
 }
 
-/// Opens the file of a store as the settings say, buffers the input and the output, and goes on as [`run_opened`], whose exit status is returned. The
-/// store is closed then.
+/// Opens the file of a store as the settings say, prints on the standard error how many rows it has, buffers the input and the output, and goes on as
+/// [`run_opened`], whose exit status is returned. The store is closed then.
 pub fn run_stored_script<H, T, P, R, W>(
     rt: &HostRuntime,
     executor: Executor<'_, T, P>,
@@ -210,7 +210,7 @@ where
     ensures { EndsOverFile (exit_status result) }
 {
     let (settings, officer) = store;
-    let store = open_desk(rt, settings);
+    let store = open_announced(rt, settings);
     let io = buffered(rt.alloc(), input, output);
     let (status, conn) = run_opened::<_, H, T, P, _, _>(rt, executor, store, officer, io);
     if let Some(conn) = conn {

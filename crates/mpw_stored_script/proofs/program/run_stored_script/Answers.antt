@@ -2,7 +2,7 @@ use Rattle.mpw_stored_script.proofs.EndingLemmas.{ends_opened}
 use Rattle.mpw_stored_script.proofs.program.run_stored_script.Goals as goal
 
 pub run_opened-conn-requires-after_bounds : goal.run_opened-conn-requires-after_bounds
-run_opened-conn-requires-after_bounds g c κs within = c.open_desk-store.ensures.idle
+run_opened-conn-requires-after_bounds g c κs within = c.open_announced-store.ensures.idle
 
 pub returns-in-Some : goal.returns-in-Some
 returns-in-Some g c = ends_opened _ _ _ _ _ _ _ c.run_opened-conn.ensures.unopened
