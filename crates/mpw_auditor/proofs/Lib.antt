@@ -1,2 +1,3 @@
 pub mod AnsweringLemmas
 pub mod SettingsLemmas
+mod ReportLemmas

@@ -1,5 +1,5 @@
 -- What a parse found, by name, and what asks for nothing.
-use Rattle.std.proofs.Common.{◌≡◌, ◌∙◌, inl, inr, sym, subst, ℕ, codes, Bool, true, false, List, [], ◌∷◌, Option, Some, None, refl, ap, map, find, option_map, option_and_then, Result, Ok, Err, slice_get, if◌then◌else◌}
+use Rattle.std.proofs.Common.{◌≡◌, ◌∙◌, inl, inr, sym, subst, Bool, true, false, List, [], ◌∷◌, Option, Some, None, refl, ap, map, find, option_map, option_and_then, Result, Ok, Err, slice_get, if◌then◌else◌}
 use Rattle.std.specs.Prelude.{◌≢◌, IfErr}
 use Rattle.std.specs.Result.{IsErrAnd}
 use Rattle.std.specs.Str.{bytes_eq}

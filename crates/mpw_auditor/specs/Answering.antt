@@ -9,14 +9,14 @@ use Rattle.sqlite.specs.declared.error.ErrorCode.{ErrorCode}
 use Rattle.sqlite.specs.declared.error.ErrorCode.TheVariants.{NotADatabase, DatabaseCorrupt, TransactionState}
 use Rattle.sqlite.specs.State.{State}
 use Rattle.sqlite.specs.Store.{Ghosts}
+use Rattle.mpw_replay.specs.Replaying.{IsReplayed, IsUnreplayed}
+use Rattle.mpw_replay.specs.declared.replayed.Replayed.{Replayed}
 use Rattle.mpw_store.specs.Changes.{IsOther, IsReady, no_schema}
-use Rattle.mpw_store.specs.Reading.{TakesAll}
 use Rattle.mpw_store.specs.declared.fault.StoreFault.{StoreFault}
 use Rattle.mpw_store.specs.declared.fault.StoreFault.TheVariants as store
 use Rattle.mpw_store_file.specs.declared.fault.FileFault.{FileFault}
 use Rattle.mpw_store_file.specs.declared.fault.FileFault.TheVariants as file
 use Rattle.mpw_stored_rows.specs.Rows.{Entry}
-use Rattle.mpw_store_listing.specs.Checking.{Accepts}
 use Rattle.mpw_store_listing.specs.Failing.{AcceptsAll, IsUnread}
 use Rattle.mpw_store_listing.specs.Listing.{ListsStore, head_text}
 use Rattle.mpw_store_listing.specs.Payload.{HasPayload}
@@ -33,10 +33,12 @@ IsListed db old new =
 abbrev pub LacksPayload : Database → ℕ → Type 0
 LacksPayload db place = (db.schema ≡ no_schema) ⊎ HasPayload db.trees place None
 
--- a database with nothing, which counts as no rows; or one whose every row is one, and these are so many
-abbrev pub IsSound : Database → ℕ → Type 0
-IsSound db count =
-    ((db.schema ≡ no_schema) × (count ≡ 0)) ⊎ TakesAll Accepts tt db.trees count tt
+-- a desk accepts the rows, and a number is left for a connection after them
+abbrev pub IsSound : State → Replayed → Type 0
+IsSound s replayed = IsReplayed s replayed × (replayed.is_full ≡ false)
+
+abbrev pub going_on : Replayed → Result Replayed AuditFault
+going_on replayed = if replayed.is_full then Err audit.Full else Ok replayed
 
 -- ---- faults of a store that is checked
 
@@ -92,6 +94,8 @@ IsUnprinted g old new failed failed' (audit.Usage text) = ⊥
 IsUnprinted g old new failed failed' (audit.File fault) = ⊥
 IsUnprinted g old new failed failed' (audit.Unsound fault) = ⊥
 IsUnprinted g old new failed failed' (audit.NoPayload place) = ⊥
+IsUnprinted g old new failed failed' audit.Full = ⊥
+IsUnprinted g old new failed failed' (audit.Log frames more) = ⊥
 IsUnprinted g old new failed failed' audit.Memory = ⊥
 
 -- why there is no payload at a place: these, or no row there has one
@@ -102,22 +106,21 @@ IsUnfound g old new place (audit.Usage text) = ⊥
 IsUnfound g old new place (audit.File fault) = ⊥
 IsUnfound g old new place (audit.Unsound fault) = ⊥
 IsUnfound g old new place audit.Output = ⊥
+IsUnfound g old new place audit.Full = ⊥
+IsUnfound g old new place (audit.Log frames more) = ⊥
 IsUnfound g old new place audit.Memory = ⊥
 
--- why a store's rows aren't counted: these, as of a store that isn't sound, or of one that can't be read
+-- why a store isn't sound, or can't be checked: the rows can't be handed to a desk, or no number is left for a connection
 abbrev pub IsUncounted : {S : Type 0} → Ghosts S → State → State → AuditFault → Type 0
 IsUncounted g old new (audit.Unsound why) =
-    (is_unsound why ≡ true) × IsUnanswered Accepts g old new why
+    (is_unsound why ≡ true) × IsUnreplayed g old new why
 IsUncounted g old new (audit.Store why) =
-    (is_unsound why ≡ false) × IsUnanswered Accepts g old new why
+    (is_unsound why ≡ false) × IsUnreplayed g old new why
+IsUncounted g old new audit.Full =
+    (replayed : Replayed) × IsReplayed old replayed × (replayed.is_full ≡ true)
 IsUncounted g old new (audit.Usage text) = ⊥
 IsUncounted g old new (audit.File fault) = ⊥
+IsUncounted g old new (audit.Log frames more) = ⊥
 IsUncounted g old new (audit.NoPayload place) = ⊥
 IsUncounted g old new audit.Output = ⊥
 IsUncounted g old new audit.Memory = ⊥
-
--- an open database with nothing, and no transaction
-pub record IsBlank (s : State) : Type 0 where
-  pub is_open : IsTrue s.is_open
-  pub alone : s.in_transaction ≡ false
-  pub schema : s.now.schema ≡ no_schema

@@ -1,5 +1,6 @@
 pub mod Answering
 pub mod Forms
+pub mod Reporting
 pub mod Settings
 pub mod Status
 pub mod Telling

@@ -5,7 +5,8 @@ ghost use Rattle.sqlite.specs.State.{HasCleanDisk};
 ghost use Rattle.sqlite.specs.declared.error.Error.TheVariants.{SqliteFailure};
 ghost use Rattle.sqlite.specs.declared.error.ErrorCode.TheVariants.{DatabaseCorrupt, NotADatabase};
 ghost use Rattle.mpw_auditor.specs.Status.{status_of};
-ghost use Rattle.mpw_auditor.specs.Answering.{IsBlank, IsListed, IsSound, IsUncounted, IsUnfound, IsUnprinted, checked, is_broken, is_broken_by, is_unsound, unopened};
+ghost use Rattle.mpw_auditor.specs.Answering.{IsListed, IsSound, IsUncounted, IsUnfound, IsUnprinted, checked, going_on, is_broken, is_broken_by, is_unsound, unopened};
+ghost use Rattle.mpw_replay.specs.Replaying.{IsBlank, blank};
 ghost use Rattle.mpw_store.specs.Changes.{IsOther, IsReady};
 ghost use Rattle.mpw_store_listing.specs.Listing.{ListsStore, head_text};
 ghost use Rattle.mpw_store_listing.specs.Payload.{HasPayload};
@@ -14,12 +15,16 @@ ghost use Rattle.std.specs.Io.Iter.{u64_saturate};
 ghost use Rattle.std.specs.Io.KnownBytes.{Appends};
 
 use crate::fault::AuditFault;
+use mpw_events::Handler;
+use mpw_replay::{Replayed, replay};
+use mpw_serve::{Executor, Progress};
 use mpw_store::{StoreFault, find_table};
 use mpw_store_file::FileFault;
-use mpw_store_listing::{check_rows, payload_at, write_head, write_rows};
+use mpw_store_listing::{payload_at, write_head, write_rows};
 use mpw_wire::Sink;
 use sqlite::{Alter, Connection, Error as SqlError, ErrorCode};
 use std::alloc::Global;
+use std::thread::Threads;
 
 /// Lists all rows in a sink, with a head.
 fn list_rows<S: Alter, W: Sink + Drop>(
@@ -164,24 +169,37 @@ pub(crate) fn unopened(fault: FileFault) -> AuditFault
     }
 }
 
-/// How many rows a store has whose every row is one.
+/// Of a store whose rows a desk accepts: it isn't sound if no number is left for a connection, since no desk goes on from it.
 ///
 /// # Errors
-/// `Unsound` if one isn't, or if the file is no store; and those of the store.
-pub(crate) fn count_in<S: Alter>(alloc: Global, conn: &mut Connection<S>) -> Result<u32, AuditFault>
-    ensures sound { HasCleanDisk (state S.Store conn.new) → IsTrue (state S.Store conn.old).is_open → IfOk result (IsSound (state S.Store conn.old).now) }
+/// `Full` in that case.
+fn going_on(replayed: Replayed) -> Result<Replayed, AuditFault>
+    ensures { result ≡ going_on replayed }
+{
+    if replayed.is_full {
+        Err(AuditFault::Full)
+    } else {
+        Ok(replayed)
+    }
+}
+
+/// What is reported of a store whose rows a desk accepts. The connection is one to a copy, in which the ends of sessions are stored.
+///
+/// # Errors
+/// `Unsound` if a row isn't accepted, or if the file is no store; `Full`; and those of the store.
+pub(crate) fn replay_in<'a, S: Alter, H: Handler + Drop, T: Threads + Sync, P: Progress + Drop>(
+    executor: Executor<'a, T, P>,
+    conn: &mut Connection<S>,
+) -> Result<Replayed, AuditFault>
+    ensures sound { HasCleanDisk (state S.Store conn.new) → IsTrue (state S.Store conn.old).is_open → IfOk result (IsSound (state S.Store conn.old)) }
 
     // Each fault is reported only for its cause; another database always. One with nothing has no rows.
     ensures cause { HasCleanDisk (state S.Store conn.new) → IsTrue (state S.Store conn.old).is_open → IfErr result (IsUncounted S.Store (state S.Store conn.old) (state S.Store conn.new)) }
     ensures other { IsOther (state S.Store conn.old) → result ≡ Err (AuditFault.Unsound StoreFault.Other) }
-    ensures blank { IsBlank (state S.Store conn.old) → result ≡ Ok 0 }
+    ensures blank { IsBlank (state S.Store conn.old) → result ≡ Ok blank }
 {
-    match find_table(conn) {
-        Ok(true) => match check_rows(alloc, conn) {
-            Ok(rows) => Ok(rows),
-            Err(fault) => Err(checked(fault)),
-        },
-        Ok(false) => Ok(0),
+    match replay::<S, H, T, P>(executor, conn) {
+        Ok(replayed) => going_on(replayed),
         Err(fault) => Err(checked(fault)),
     }
 }

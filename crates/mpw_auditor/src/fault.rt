@@ -25,6 +25,13 @@ pub enum AuditFault {
     /// The store that is checked isn't sound.
     #[error("error: the store isn't sound: {0}")]
     Unsound(StoreFault),
+    /// No number is left for a connection.
+    #[error("error: the store isn't sound: no number is left for a connection")]
+    Full,
+    /// The log doesn't end as a desk leaves it: the frames that are taken, and those that follow.
+    #[error("error: the store isn't sound: its log was cut off or is damaged after {0} frames. {1} further frames of it would be lost at the next start. \
+         Restore the last backup, or look for the whole log")]
+    Log(usize, usize),
     /// No row of that place has a payload.
     #[error("error: no row {0} has a payload")]
     NoPayload(u32),
@@ -45,7 +52,7 @@ impl AuditFault {
             AuditFault::Usage(_) => 2,
             AuditFault::File(fault) => fault.status(),
             AuditFault::Store(fault) => status_of_store(*fault),
-            AuditFault::Unsound(_) => 4,
+            AuditFault::Unsound(_) | AuditFault::Full | AuditFault::Log(_, _) => 4,
             AuditFault::NoPayload(_) | AuditFault::Output => 3,
             AuditFault::Memory => 5,
         }

@@ -1,15 +1,18 @@
-//! The program of who audits a store: `mpw trail FILE` lists its rows or writes one's payload, and `mpw store check FILE` tells whether every
-//! row is one. No desk is made of the rows, and nothing is written to the file.
+//! The program of who audits a store: `mpw trail FILE` lists its rows or writes one's payload, and `mpw store check FILE` reports whether a desk accepts
+//! all rows, and how the log ends. Nothing is written to the file.
 #![tactic(auto)]
 
 mod answering;
 mod fault;
+mod report;
 mod settings;
 mod telling;
 
 use fault::{AuditFault, exit_status};
+use mpw_core::Core;
 use settings::{misread, read_settings};
 use std::process::ExitCode;
+use std::thread::Threads;
 use std::{env, io};
 use telling::tell;
 
@@ -21,18 +24,18 @@ fn words(rt: &HostRuntime) -> Result<Vec<String>, AuditFault> {
     }
 }
 
-/// Reads the command line, and tells what it asks for.
-fn run(rt: &HostRuntime) -> Result<(), AuditFault> {
+/// Reads the command line, and prints what it asks for.
+fn run(rt: &HostRuntime, threads: &(impl Threads + Sync)) -> Result<(), AuditFault> {
     let words = words(rt)?;
     let words: Vec<&str> = words.iter().map(|word| word.as_str()).collect(rt.alloc())?;
     let asked = read_settings(rt.alloc(), words.as_slice())?;
-    tell(rt, &asked)
+    tell::<Core, _>(rt, threads, &asked)
 }
 
-/// Exits with 0 where it was told, 2 where the command line isn't one, 3 where the file can't be read or the output failed, 4 where a store that is
-/// checked isn't sound, and 5 where memory was wanting.
+/// Exits with 0 if it was printed, 2 if the command line isn't one, 3 if the file can't be read or the output failed, 4 if a store that is checked isn't
+/// sound, and 5 if memory ran out.
 fn main(rt: HostRuntime) -> ExitCode {
-    let ended = run(&rt);
+    let ended = run(&rt, &rt);
     if let Err(fault) = &ended {
         let _ = eprintln!(rt; "{fault}");
     }

@@ -1,6 +1,6 @@
 use Rattle.std.proofs.Common.{ap, ◌∙◌}
 use Rattle.std.proofs.lemmas.Result.{IfOk-weaker}
-use Rattle.clap.specs.Words.{App, app_of, with_subcommand}
+use Rattle.clap.specs.Words.{App, with_subcommand}
 use Rattle.mpw_auditor.specs.Forms.{program_app, store_app, trail_app}
 use Rattle.mpw_auditor.proofs.settings.program_command.Goals as goal
 
