@@ -10,6 +10,12 @@ stage_after Rest byte = if byte == 10 then Payload 0 else Line
 stage_after Line byte = if byte == 10 then Payload 0 else Line
 stage_after (Payload bytes) byte = Payload (u64_saturate (bytes + 1))
 
+-- so many more bytes of a payload are counted
+abbrev pub stage_with : Stage → ℕ → Stage
+stage_with Rest more = Rest
+stage_with Line more = Line
+stage_with (Payload bytes) more = Payload (u64_saturate (bytes + more))
+
 abbrev pub is_rest : Stage → Bool
 is_rest Rest = true
 is_rest Line = false

@@ -1,6 +1,9 @@
 //! How many bytes of payloads are read of all strangers together.
 ghost use Rattle.std.specs.Prelude.{◌≡◌, ◌-◌, min};
 
+/// How many bytes of submissions that are denied a user may send in a service's life: 256 MB.
+pub const DENIED_BYTES: u64 = 268_435_456;
+
 /// What is left of the bytes that strangers may send. It only gets smaller, so what was lent never exceeds what it began with.
 #[derive(Clone, Copy, PartialEq, Eq, Debug)]
 pub struct Budget {

@@ -15,7 +15,7 @@ mod retries;
 mod stage;
 mod visit;
 
-pub use budget::Budget;
+pub use budget::{Budget, DENIED_BYTES};
 pub use drain::{DRAIN_BYTES, DRAIN_TIME, Drain};
 pub use login::{FAILED_LOGIN, login_delay};
 pub use pail::{OWN_LINES, OWN_RATE, Pail};

@@ -1,6 +1,6 @@
 //! What a connection is read for: a line, or the payload that belongs to it.
 ghost use Rattle.std.specs.Prelude.{◌≡◌};
-ghost use Rattle.mpw_admission.specs.Stage.{is_line, is_payload, is_rest, stage_after};
+ghost use Rattle.mpw_admission.specs.Stage.{is_line, is_payload, is_rest, stage_after, stage_with};
 
 /// What a connection is read for.
 #[derive(Clone, Copy)]
@@ -22,6 +22,16 @@ impl Stage {
             Stage::Payload(bytes) => Stage::Payload(bytes.saturating_add(1)),
             _ if byte == b'\n' => Stage::Payload(0),
             _ => Stage::Line,
+        }
+    }
+
+    /// What it is read for after so many more bytes, if they are of a payload. A line stays as it is.
+    pub fn with(self, more: u64) -> Stage
+        ensures { result ≡ stage_with self more }
+    {
+        match self {
+            Stage::Payload(bytes) => Stage::Payload(bytes.saturating_add(more)),
+            stage => stage,
         }
     }
 

@@ -1,6 +1,7 @@
 //! Reads a connection within its limits.
 //!
-//! A line is counted at its first byte, and ends with its line feed. What is read after that and before the reply is its payload.
+//! A line is counted at its first byte, and ends with its line feed. What is read after that and before the reply is its payload. Payloads of users
+//! are long, so each of their bytes that came with an earlier one is handed on without a look at the limits.
 ghost use Rattle.std.specs.Io.{ReadsAtMost};
 
 use crate::rations::{Rations, own_lines};
@@ -95,6 +96,8 @@ pub struct Intake<'s, 'a, R: Wait + Clock> {
     /// What strangers may take together, if that is limited.
     rations: Option<&'a Rations>,
     account: Account,
+    /// How many bytes of the buffer are of a user's payload, and were counted already.
+    counted: usize,
 }
 
 impl<'s, 'a, R: Wait + Clock> Drop for Intake<'s, 'a, R> {
@@ -106,6 +109,7 @@ impl<'s, 'a, R: Wait + Clock> Drop for Intake<'s, 'a, R> {
             watch: _,
             rations: _,
             account: _,
+            counted: _,
         } = self;
         drop(input);
     }
@@ -132,6 +136,7 @@ impl<'s, 'a, R: Wait + Clock> Intake<'s, 'a, R> {
             watch: &arrival.watch,
             rations,
             account,
+            counted: 0,
         })
     }
 
@@ -196,8 +201,15 @@ impl<'s, 'a, R: Wait + Clock> Intake<'s, 'a, R> {
         unreachable!()
     }
 
-    /// Takes a byte of a stranger's payload out of what was lent to it.
+    /// Sees to it that a payload's byte may be read. That of a stranger is taken out of what was lent to it, and that of a user is free, as long as the user
+    /// may send payloads.
     fn pay_byte(&mut self, rations: &Rations) -> io::Result<()> {
+        if !self.watch.is_stranger() {
+            return match self.watch.is_spent() {
+                true => Err(self.end(Limit::Memory)),
+                false => Ok(()),
+            };
+        }
         if self.account.lent == 0 {
             self.account.lent = rations.lend(self.rt, LOAN);
         }
@@ -217,7 +229,8 @@ impl<'s, 'a, R: Wait + Clock> Intake<'s, 'a, R> {
         if self.watch.take_answer() {
             self.account.note_answer();
         }
-        if self.account.stage.is_payload() && self.watch.is_stranger() {
+        self.counted = 0;
+        if self.account.stage.is_payload() {
             self.pay_byte(rations)?;
         }
         if self.input.buffer().is_empty() {
@@ -234,16 +247,65 @@ impl<'s, 'a, R: Wait + Clock> Intake<'s, 'a, R> {
                 self.await_turn(rations)?;
             }
             self.account.note_byte(buffer[0]);
+            self.count_ahead();
         }
         Ok(count)
+    }
+
+    /// Counts the bytes of a user's payload that are in the buffer already.
+    fn count_ahead(&mut self) {
+        let is_user = !self.watch.is_stranger() && !self.watch.is_spent();
+        if is_user && self.account.stage.is_payload() {
+            self.counted = self.input.buffer().len();
+            self.account.stage = self.account.stage.with(self.counted as u64);
+        }
+    }
+
+    /// Whether the bytes of the buffer need no look at the limits.
+    #[inline(always)]
+    fn is_free(&self) -> bool {
+        match self.rations {
+            Some(_) => self.counted > 0 && !self.watch.is_answered(),
+            None => true,
+        }
+    }
+
+    /// Takes the next byte of the buffer, if it has one.
+    #[inline(always)]
+    fn next_buffered(&mut self) -> Option<u8> {
+        let byte = *self.input.buffer().first()?;
+        self.input.consume(1);
+        self.counted = self.counted.saturating_sub(1);
+        Some(byte)
+    }
+
+    /// Reads the first byte that isn't free.
+    fn read_on(&mut self, buffer: &mut [u8]) -> io::Result<usize>
+        ensures { ReadsAtMost result buffer.new }
+    {
+        match self.rations {
+            Some(rations) => self.read_byte(rations, buffer),
+            None => self.input.read(buffer),
+        }
     }
 }
 
 impl<'s, 'a, R: Wait + Clock> Read for Intake<'s, 'a, R> {
+    /// Reads a byte, or more if there are no limits.
+    #[inline(always)]
     fn read(&mut self, buffer: &mut [u8]) -> io::Result<usize> {
-        match self.rations {
-            Some(rations) => self.read_byte(rations, buffer),
-            None => self.input.read(buffer),
+        if !self.is_free() {
+            return self.read_on(buffer);
+        }
+        let Some(place) = buffer.first_mut() else {
+            return Ok(0);
+        };
+        match self.next_buffered() {
+            Some(byte) => {
+                *place = byte;
+                Ok(1)
+            }
+            None => self.read_on(buffer),
         }
     }
 }

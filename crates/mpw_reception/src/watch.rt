@@ -8,17 +8,19 @@ use std::sync::{Mutex, Wait};
 pub enum Limit {
     /// It took too long for a line or a payload, or was a stranger for too long.
     Time,
-    /// No bytes are left for the payloads of strangers.
+    /// No bytes are left for the payloads of strangers, or for those of its user.
     Memory,
     /// It doesn't read what is written to it.
     Unread,
 }
 
-/// What is known of a connection while it is served: whether it had a session, whether its last line was answered, and the limit that it met.
+/// What is known of a connection while it is served: whether it had a session, whether its last line was answered, whether its user may send payloads, and the limit
+/// that it met.
 #[derive(Drop)]
 pub struct Watch {
     has_session: AtomicBool,
     is_answered: AtomicBool,
+    is_spent: AtomicBool,
     limit: Mutex<Option<Limit>>,
 }
 
@@ -28,6 +30,7 @@ impl Watch {
         Watch {
             has_session: AtomicBool::new(false),
             is_answered: AtomicBool::new(false),
+            is_spent: AtomicBool::new(false),
             limit: Mutex::new(None),
         }
     }
@@ -42,14 +45,30 @@ impl Watch {
         !self.has_session.load(Ordering::SeqCst)
     }
 
+    /// Notes whether no payload of its user is read any more.
+    pub fn note_spent(&self, is_spent: bool) {
+        self.is_spent.store(is_spent, Ordering::SeqCst);
+    }
+
+    /// Whether no payload of its user is read any more.
+    pub(crate) fn is_spent(&self) -> bool {
+        self.is_spent.load(Ordering::SeqCst)
+    }
+
     /// Notes that a reply was written as a whole.
     pub fn note_answer(&self) {
         self.is_answered.store(true, Ordering::SeqCst);
     }
 
+    /// Whether a reply was written that wasn't taken.
+    #[inline(always)]
+    pub(crate) fn is_answered(&self) -> bool {
+        self.is_answered.load(Ordering::SeqCst)
+    }
+
     /// Whether a reply was written since the last call.
     pub(crate) fn take_answer(&self) -> bool {
-        let is_answered = self.is_answered.load(Ordering::SeqCst);
+        let is_answered = self.is_answered();
         if is_answered {
             self.is_answered.store(false, Ordering::SeqCst);
         }
