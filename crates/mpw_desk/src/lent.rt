@@ -9,17 +9,18 @@ use crate::pass::Pass;
 use crate::room::Room;
 use crate::shared::Shared;
 use mpw_events::{Handler, Keeper, Response};
-use mpw_requests::{Request, SharedRequest};
+use mpw_requests::SharedRequest;
 use mpw_serve::{Responder, Served, serve_connection};
 use mpw_wire::{Sink, Source};
 use std::alloc::Global;
 use std::marker::Model;
 use std::sync::Wait;
 
-/// Sees the requests of a connection and their answers, for example to write a log. It is called outside the lock, and no contract speaks of it.
+/// Sees the requests of a connection and their answers, for example to write a log. It is called outside the lock.
 pub trait Witness {
-    /// The request is about to be passed to the desk.
-    fn asked(&mut self, request: &Request);
+    /// The request is about to be passed to the desk. The witness returns it, or an equal one whose memory others share.
+    fn asked(&mut self, request: SharedRequest) -> SharedRequest
+        ensures { result ≡ request };
 
     /// The request before was answered; none if out of memory.
     fn answered(&mut self, response: Option<&Response>);
@@ -30,7 +31,9 @@ pub trait Witness {
 pub struct Unwatched;
 
 impl Witness for Unwatched {
-    fn asked(&mut self, _request: &Request) {}
+    fn asked(&mut self, request: SharedRequest) -> SharedRequest {
+        request
+    }
 
     fn answered(&mut self, _response: Option<&Response>) {}
 }
@@ -99,7 +102,7 @@ where
     ghost parted = { IsParted };
 
     fn ask(&mut self, request: SharedRequest) -> Option<Response> {
-        self.witness.asked(request.get());
+        let request = self.witness.asked(request);
         match self.shared.ask(self.rt, &mut self.pass, request) {
             Ok(response) => {
                 self.witness.answered(Some(&response));

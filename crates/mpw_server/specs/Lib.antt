@@ -1,4 +1,3 @@
-pub mod Counting
 pub mod Staff
 pub mod Status
 pub mod Stored

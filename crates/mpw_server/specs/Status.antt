@@ -3,6 +3,8 @@ use Rattle.std.specs.Prelude.{◌≡◌, ℕ, Bool, true, false, Result, Ok, Err
 use Rattle.mpw_stored_script.specs.Status as stored
 use Rattle.mpw_service.specs.Status.{status_of_serving}
 use Rattle.mpw_service.specs.declared.fault.ServeFault.TheVariants as serving
+use Rattle.mpw_log.specs.declared.logger.LogFault.{LogFault}
+use Rattle.mpw_log.specs.declared.logger.LogFault.TheVariants as log
 use Rattle.mpw_server.specs.declared.fault.ServiceFault.{ServiceFault}
 use Rattle.mpw_server.specs.declared.fault.ServiceFault.TheVariants as service
 
@@ -17,6 +19,12 @@ status_of (service.Serve fault) = status_of_serving fault
 status_of service.Mismatch = 4
 status_of service.Full = 3
 status_of service.FullStore = 3
+
+-- why a service doesn't begin whose log isn't written
+abbrev pub fault_of_log : LogFault → ServiceFault
+fault_of_log log.File = service.Log
+fault_of_log log.Thread = service.Serve serving.Thread
+fault_of_log log.Memory = service.Serve serving.Memory
 
 -- 0 if the calls were printed
 abbrev pub exit_of : Result (Unit {0}) ServiceFault → ℕ

@@ -8,7 +8,6 @@
 //! needs no core.
 #![tactic(auto)]
 
-mod counting;
 mod desk;
 mod fault;
 mod laws;

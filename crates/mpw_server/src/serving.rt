@@ -120,7 +120,7 @@ fn store_of<S: Alter + Drop, H: Handler + Drop>(
 fn serve_opened<S, H, R>(
     host: &HostRuntime,
     rt: &R,
-    staff: Staff,
+    terms: &Terms<'_>,
     begun: Begun<H, OptionalKeeper<S>>,
     opened: Opened,
 ) -> (Result<(), ServiceFault>, Option<Connection<S>>)
@@ -133,15 +133,11 @@ where
     requires parts { opened.blank.parts ≡ 2097152 }
     ensures { Ends (kept_desk (H.desk begun.core.value) (kept_by begun.keeper) (failures_of begun.keeper)) result.0 (ComesBack result.1 (λ conn. state S.Store conn)) }
 {
-    let Opened {
-        blank,
-        log,
-        listener,
-    } = opened;
+    let Opened { blank, listener } = opened;
     let opening = Opening {
         listener,
-        staff,
-        log: &log,
+        staff: terms.staff,
+        log: terms.log,
     };
     match serve_kept(rt, host.alloc(), begun, blank, opening) {
         Ok(served) => {
@@ -169,7 +165,7 @@ where
     ensures { Ends (kept_desk (H.desk begun.core.value) (kept_by begun.keeper) (failures_of begun.keeper)) result.0 (ComesBack result.1 (λ conn. state S.Store conn)) }
 {
     match open(host, rt, terms) {
-        Ok(opened) => serve_opened(host, rt, terms.staff, begun, opened),
+        Ok(opened) => serve_opened(host, rt, terms, begun, opened),
         Err(fault) => (Err(fault), store_of(begun)),
     }
 }

@@ -1,5 +1,6 @@
 //! What a service keeps to while its desks change.
 
+use mpw_log::Log;
 use mpw_service::Staff;
 use mpw_settings::Service;
 use std::net::TcpListener;
@@ -11,16 +12,19 @@ pub struct Terms<'a> {
     pub service: &'a Service,
     /// How many threads serve and work, and within which limits.
     pub staff: Staff,
+    /// Gets a line for each connection and for each request.
+    pub log: &'a Log,
     /// The socket, once it is bound, if a further desk may need it.
     pub(crate) socket: Option<TcpListener>,
 }
 
 impl<'a> Terms<'a> {
     /// Before the socket is bound.
-    pub fn new(service: &'a Service, staff: Staff) -> Terms<'a> {
+    pub fn new(service: &'a Service, staff: Staff, log: &'a Log) -> Terms<'a> {
         Terms {
             service,
             staff,
+            log,
             socket: None,
         }
     }

@@ -2,7 +2,7 @@
 
 use crate::fault::ServeFault;
 use crate::lobby::Lobby;
-use crate::log::Log;
+use mpw_log::Log;
 use mpw_reception::{accept, is_momentary};
 use std::alloc::Global;
 use std::net::{TcpListener, TcpStream};

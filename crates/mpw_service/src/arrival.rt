@@ -2,10 +2,10 @@
 
 use crate::hall::Hall;
 use crate::lobby::Lobby;
-use crate::log::Peer;
 use crate::scribe::{Asks, Scribe, Stay, Tally};
 use mpw_desk::{Caller, Pass, Room, serve_caller};
 use mpw_events::{Handler, Keeper};
+use mpw_log::Peer;
 use mpw_reception::{Arrival, Intake, Outflow};
 use mpw_wire::Counted;
 use std::io::BufWriter;

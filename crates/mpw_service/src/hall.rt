@@ -1,9 +1,9 @@
 //! What the threads of a service share.
 
 use crate::lobby::Lobby;
-use crate::log::Log;
 use mpw_desk::{Room, Shared};
 use mpw_events::{Handler, Keeper};
+use mpw_log::Log;
 use std::alloc::Global;
 use std::sync::Wait;
 

@@ -2,7 +2,7 @@
 //!
 //! One thread accepts connections. As many threads as there may be connections at once serve them, one after the other, and workers execute runs
 //! meanwhile. Each connection and each worker has a pass of the desk. All passes come back at the end, so that [`mpw_desk::Shared::finish`] can
-//! compare what they counted with the desk's history. The log gets a line for each connection and for each request.
+//! compare what they counted with the desk's history. The log of `mpw_log` gets a line for each connection and for each request.
 //!
 //! The desk's core and its keeper are type parameters here, so this crate needs no core, no store and no file.
 #![tactic(auto)]
@@ -11,8 +11,8 @@ mod accepting;
 mod arrival;
 mod fault;
 mod hall;
+mod ledger;
 mod lobby;
-mod log;
 mod opening;
 mod parts;
 mod patience;
@@ -23,7 +23,7 @@ mod steering;
 mod threads;
 
 pub use fault::ServeFault;
-pub use log::Log;
+pub use mpw_log::Log;
 pub use mpw_reception::Strangers;
 pub use opening::{Begun, Opening};
 pub use parts::Gathered;

@@ -1,6 +1,7 @@
 //! What all threads of a service share but the desk: its places, its limits, and how it ends.
 
 use crate::fault::ServeFault;
+use crate::ledger::Ledger;
 use crate::staff::Staff;
 use crate::steering::Steering;
 use mpw_reception::{Rations, Reception};
@@ -16,6 +17,8 @@ pub(crate) struct Lobby {
     pub(crate) reception: Reception,
     /// What is left for strangers, if that is limited.
     pub(crate) rations: Option<Rations>,
+    /// What sessions sent that wasn't accepted, if strangers are limited.
+    pub(crate) ledger: Ledger,
     /// Lets workers wait.
     pub(crate) steering: Steering,
     /// What a thread lacked, if one lacked something.
@@ -42,6 +45,7 @@ impl Lobby {
             staff,
             reception,
             rations,
+            ledger: Ledger::new(alloc),
             steering: Steering::new(staff.holds_run),
             fault: Mutex::new(None),
         })

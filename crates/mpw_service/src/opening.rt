@@ -1,9 +1,9 @@
 //! What a service begins with: its socket and its log, and the desk that it shares.
 ghost use Rattle.std.specs.Prelude.{◌≡◌};
 
-use crate::log::Log;
 use crate::staff::Staff;
 use mpw_events::{Handler, Keeper};
+use mpw_log::Log;
 use std::net::TcpListener;
 
 /// The socket of a service, its threads and its log.

@@ -15,7 +15,7 @@ returns-in-Ok g c =
     (ends_by begun left.calls left.fault (ComesBack left.store (λ conn. state g.S.Store conn))
     c.end.result.0 c.in-Ok.ensures.leaves c.end.ensures.well c.end.ensures.closed c.end.ensures.reason)
 
-pub returns : goal.returns
-returns g c =
+pub returns-in-Err : goal.returns-in-Err
+returns-in-Err g c =
     ends_lost (g.H.Handler.desk c.args.begun.core.value) (kept_by c.args.begun.keeper)
     (failures_of c.args.begun.keeper) _ c.in-Err.fault c.in-Err.ensures.lost refl
