@@ -36,6 +36,7 @@ pub record IsAlone (found : Found) : Type 0 where
   pub skip : first_value found (codes "skip-layers") ≡ None
   pub limit : first_value found (codes "limit") ≡ None
   pub unreached : one_text found (codes "skip-unreached") ≢ Some (codes "true")
+  pub faultless : one_text found (codes "skip-faulty") ≢ Some (codes "true")
   pub faults : one_text found (codes "faults") ≢ Some (codes "true")
   pub summary : one_text found (codes "summary") ≢ Some (codes "true")
 
@@ -55,6 +56,7 @@ IsPortion found (Whole choices) =
     ≡ option_map Some choices.limit)
     × IsFlag found (codes "faults") choices.faults
     × IsFlag found (codes "skip-unreached") choices.unreached
+    × IsFlag found (codes "skip-faulty") choices.faultless
     × IsFlag found (codes "summary") choices.summary
 IsPortion found (Columns range) =
     (option_map range_of (first_value found (codes "tiles")) ≡ Some (Some range)) × IsAlone found

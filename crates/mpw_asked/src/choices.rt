@@ -25,6 +25,8 @@ pub struct Choices {
     pub skip: Vec<Layer>,
     /// Whether the structures that the checked one doesn't reach are left out.
     pub unreached: bool,
+    /// Whether the elements that have a fault of their own are left out.
+    pub faultless: bool,
     /// How many markers of each rule are listed, written and drawn at most.
     pub limit: Option<u32>,
     /// Whether all faults of the library's elements are told, where it has one.
@@ -57,6 +59,11 @@ fn with_flags<'a>(alloc: Global, command: Command<'a>) -> Result<Command<'a>, Al
         "skip-unreached",
         "With --top, leaves out the structures that it doesn't reach, and prints their faults",
     );
+    let faulty = flag(
+        alloc,
+        "skip-faulty",
+        "Leaves out the elements with a fault of their own, and prints each; the status is then never 0",
+    );
     let faults = flag(
         alloc,
         "faults",
@@ -67,7 +74,11 @@ fn with_flags<'a>(alloc: Global, command: Command<'a>) -> Result<Command<'a>, Al
         "summary",
         "Prints the number of markers of each rule and of all, instead of their listing",
     );
-    command.arg(unreached)?.arg(faults)?.arg(summary)
+    command
+        .arg(unreached)?
+        .arg(faulty)?
+        .arg(faults)?
+        .arg(summary)
 }
 
 /// The command line's form, with these options.
@@ -208,6 +219,8 @@ fn columns_alone(alloc: Global, matches: &ArgMatches<'_>) -> Result<(), FirmFaul
     alone(alloc, matches.get_str("limit"), limit)?;
     let unreached = "error: a part is of the whole library: --skip-unreached is for a check of all";
     unflagged(alloc, matches.get_flag("skip-unreached"), unreached)?;
+    let faulty = "error: a part is of the whole library: --skip-faulty is for a check of all";
+    unflagged(alloc, matches.get_flag("skip-faulty"), faulty)?;
     let faults = "error: a part is of a library without faults: give --faults to a check of all";
     unflagged(alloc, matches.get_flag("faults"), faults)?;
     let summary = "error: a part has all markers of its columns: --summary is for a check of all";
@@ -231,6 +244,7 @@ pub fn read_portion(alloc: Global, matches: &ArgMatches<'_>) -> Result<Portion, 
             tile: read_tile(alloc, matches.get_str("tile"))?,
             skip: read_skip(alloc, matches.get_str("skip-layers"))?,
             unreached: matches.get_flag("skip-unreached"),
+            faultless: matches.get_flag("skip-faulty"),
             limit: read_limit(alloc, matches.get_str("limit"))?,
             faults: matches.get_flag("faults"),
             summary: matches.get_flag("summary"),

@@ -1,2 +1,4 @@
 -- The lemmas of this crate.
-mod Lifts
+mod LeftOut
+mod Levels
+mod Ways

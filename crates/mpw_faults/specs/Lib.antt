@@ -1,4 +1,5 @@
 pub mod Areas
 pub mod Details
 pub mod Faults
+pub mod LeavingOut
 pub mod Lifting

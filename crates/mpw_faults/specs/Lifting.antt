@@ -1,10 +1,13 @@
 -- The position of an element in the coordinates of a top, by the references that lead to its structure.
-use Rattle.std.specs.Prelude.{ℕ, zero, suc, ◌^◌, ◌==◌, ◌&&◌, ◌||◌, nat_le, unsigned_abs, ℤ, Bool, true, List, [], ◌∷◌, filter, drop, Option, Some, None, option_map, option_and_then, Ok, Err, if◌then◌else◌}
+use Rattle.std.specs.Prelude.{◌≡◌, ℕ, zero, suc, ◌^◌, ◌==◌, ◌&&◌, ◌||◌, nat_le, unsigned_abs, ℤ, Bool, true, List, [], ◌∷◌, filter, drop, Option, Some, None, option_map, option_and_then, Ok, Err, if◌then◌else◌}
 use Rattle.mpw_elements.specs.Grammar.{element}
 use Rattle.mpw_elements.specs.Reading.{Reading}
 use Rattle.mpw_faults.specs.Areas.{own_area}
 use Rattle.mpw_faults.specs.Details.{first_point}
+use Rattle.mpw_faults.specs.declared.lifting.Known.{Known}
+use Rattle.mpw_faults.specs.declared.way.Seen.{Seen}
 use Rattle.mpw_faults.specs.declared.lifting.Step.{Step}
+use Rattle.mpw_faults.specs.declared.way.Way.{Way}
 use Rattle.mpw_geom.specs.Names.{name_eq}
 use Rattle.mpw_geom.specs.Placing.{placed_point}
 use Rattle.mpw_geom.specs.Plane.{box_at, box_between}
@@ -89,21 +92,47 @@ abbrev pub to_step : ℕ → Option Box2 → Option Step
 to_step structure None = None
 to_step structure (Some area) = Some (record { structure = structure; area = area })
 
-abbrev pub above : (structure : ℕ) → Box2 → Option Placing → Option Step
-above structure area None = None
-above structure area (Some t) = to_step structure (placed_area t area)
+abbrev pub above : Box2 → Option Way → Option Step
+above area None = None
+above area (Some w) = to_step w.structure (placed_area w.placing area)
 
--- By the only reference that may lead to a structure.
-abbrev pub by_one : ℕ → List ℕ → Box2 → List ElementSpan → Option Step
-by_one unit text area [] = None
-by_one unit text area (e ∷ []) =
-    above e.structure area (placing_in unit (outcomes_of (drop e.start text)))
-by_one unit text area (e ∷ f ∷ rest) = None
+abbrev pub to_way : ℕ → Option Placing → Option Way
+to_way structure None = None
+to_way structure (Some t) = Some (record { structure = structure; placing = t })
 
--- From the structure whose STRNAME is at an offset.
+-- The only element of a list, if it has just one.
+abbrev pub only : List ElementSpan → Option ElementSpan
+only [] = None
+only (e ∷ []) = Some e
+only (e ∷ f ∷ rest) = None
+
+abbrev pub way_by : ℕ → List ℕ → Option ElementSpan → Option Way
+way_by unit text None = None
+way_by unit text (Some e) =
+    to_way e.structure (placing_in unit (outcomes_of (drop e.start text)))
+
+-- The only reference that may lead to the structure whose STRNAME is at an offset, if its placing can be read.
+abbrev pub way_from : ℕ → List ℕ → List ElementSpan → ℕ → Option Way
+way_from unit text spans at =
+    way_by unit text (only (filter (refers text (name_at text at)) spans))
+
 abbrev pub step_from : ℕ → List ℕ → List ElementSpan → ℕ → Box2 → Option Step
-step_from unit text spans at area =
-    by_one unit text area (filter (refers text (name_at text at)) spans)
+step_from unit text spans at area = above area (way_from unit text spans at)
+
+-- ---- what is known of a text
+
+-- A text that is read, with its unit, its elements, and the name of the top as its record has it.
+pub record Read : Type 0 where
+  pub unit : ℕ
+  pub text : List ℕ
+  pub spans : List ElementSpan
+  pub top : List ℕ
+
+abbrev pub read_of : Seen → Read
+read_of s = record { unit = s.unit; text = s.text.now; spans = s.spans.now; top = s.top.now }
+
+abbrev pub IsKnown : Read → Known → Type 0
+IsKnown r k = k.way ≡ way_from r.unit r.text r.spans k.at
 
 -- ---- up to the top
 

@@ -1,6 +1,7 @@
 //! Finds all faults of a text.
 ghost use Rattle.std.specs.Prelude.{◌≡◌, ◌≤◌, ◌++◌, IfOk};
-ghost use Rattle.mpw_faults.specs.Faults.{begun_by, by_unit, faults_of, of_elements, told, unit_of};
+ghost use Rattle.mpw_faults.specs.Faults.{begun_by, faults_of, of_elements, told};
+ghost use Rattle.mpw_faults.specs.LeavingOut.{element_faults};
 
 use crate::found::FaultFound;
 use crate::own::own_fault;
@@ -39,9 +40,13 @@ fn of_elements(alloc: Global, unit: u16, text: &[u8]) -> Result<Vec<FaultFound>,
     Ok(found)
 }
 
-/// The faults of a text's elements; none if the unit can't be read.
-fn by_unit(alloc: Global, text: &[u8]) -> Result<Vec<FaultFound>, AllocError>
-    ensures { IfOk result (λ found. found.items ≡ by_unit (unit_of text.now) text.now) }
+/// The faults of a text's elements: each element is read by itself, from its first record on, and each that has a fault gives one, in the
+/// order of the text. [`elements_of`] defines the elements. There are none if the database unit can't be read. Each element is read once.
+///
+/// # Errors
+/// Out of memory.
+pub fn element_faults(alloc: Global, text: &[u8]) -> Result<Vec<FaultFound>, AllocError>
+    ensures { IfOk result (λ found. found.items ≡ element_faults text.now) }
 {
     match unit_of(text) {
         Some(unit) => of_elements(alloc, unit, text),
@@ -94,7 +99,7 @@ pub fn all_faults(alloc: Global, text: &[u8]) -> Result<Vec<FaultFound>, AllocEr
     match read_library(alloc, text) {
         Ok(_) => Ok(Vec::new(alloc)),
         Err(ReadError::Fault(fault)) => {
-            let found = by_unit(alloc, text)?;
+            let found = element_faults(alloc, text)?;
             begun_by(alloc, fault, found.as_slice())
         }
         Err(ReadError::Memory) => Err(AllocError),

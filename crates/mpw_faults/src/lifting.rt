@@ -1,36 +1,44 @@
 //! Computes the position of an element in the coordinates of a top, by the references that lead to its structure.
-ghost use Rattle.std.specs.Prelude.{◌≡◌, ◌≤◌, drop, filter, IfOk, IsTrue, option_map};
-ghost use Rattle.mpw_faults.specs.Lifting.{above, area_of, are_near, by_one, high, is_near, is_reference, lifted, low, may_name, named_in, placed_area, placing_by, placing_in, point_of, refers, single, step_from, to_step};
+ghost use Rattle.std.specs.Prelude.{◌≡◌, ◌≤◌, All, IfOk, IfSome, IsTrue, option_map};
+ghost use Rattle.mpw_faults.specs.Lifting.{IsKnown, above, area_of, are_near, high, is_near, lifted, low, placed_area, point_of, read_of, step_from, to_step, way_from};
 ghost use Rattle.mpw_geom.specs.Names.{name_eq};
 ghost use Rattle.mpw_geom.specs.Plane.{IsInPlane};
-ghost use Rattle.mpw_records.specs.Records.{outcomes_of};
 ghost use Rattle.mpw_skipping.specs.Structures.{name_at};
 
 use crate::area::own_area;
 use crate::details::first_point;
-use crate::own::from;
-use mpw_elements::{ReadError, read_element};
+use crate::way::{Seen, Way, name_at, way_from};
 use mpw_geom::{Box2, Placing, Point};
-use mpw_records::Records;
-use mpw_records::kind::{AREF, ENDEL, SNAME, SREF};
-use mpw_skipping::{ElementSpan, record_at};
-use mpw_structures::{Element, Reference, Storage};
+use mpw_skipping::ElementSpan;
 use std::alloc::{AllocError, Global};
+use std::marker::Model;
 
 /// How many levels of references are followed upwards.
 const MAX_LEVELS: usize = 64;
 
-/// A text of a library, its unit, its elements, and the name of the top as its record has it.
-#[derive(Clone, Copy, Drop)]
-pub struct Seen<'a> {
-    /// The database unit, in nm.
-    pub unit: u16,
-    /// The text.
-    pub text: &'a [u8],
-    /// Its elements.
-    pub spans: &'a [ElementSpan],
-    /// The top's name, with the NUL that makes the number of its bytes even.
-    pub top: &'a [u8],
+/// A text, in which positions are lifted to the top. What leads to a structure is searched for once, so each search costs one visit of each
+/// element, and each further position in that structure none. Contracts see the text, its unit, its elements and the top.
+pub struct Lifts<'a> {
+    seen: Seen<'a>,
+    known: Vec<Known>,
+}
+
+impl Drop for Lifts<'_> {
+    fn drop(self) {
+        let Lifts { seen: _, known } = self;
+        drop(known);
+    }
+}
+
+impl<'a> Model for Lifts<'a> {
+    ghost use Rattle.std.specs.Prelude.{◌≤◌, All};
+    ghost use Rattle.mpw_faults.specs.Lifting.{IsKnown, Read, read_of};
+
+    ghost Value = { Read };
+
+    ghost view = { λ l. read_of l.seen };
+
+    ghost invariant = { λ l. (l.seen.unit ≤ 1000) × All (IsKnown (read_of l.seen)) l.known.items };
 }
 
 /// A box in the coordinates of the structure whose STRNAME is at an offset.
@@ -40,130 +48,11 @@ struct Step {
     area: Box2,
 }
 
-/// The data of the record at an offset: the name in it.
-fn name_at(text: &[u8], at: usize) -> &[u8]
-    ensures { result.now ≡ name_at text.entry.now at }
-{
-    match record_at(text, at) {
-        Ok(found) => found.bytes,
-        Err(_) => &[],
-    }
-}
-
-/// The first SNAME of the element that begins at an offset.
-#[tactic(auto, unfolding(crate::specs::Lifting::named_in))]
-fn named_in(text: &[u8], at: usize) -> Option<&[u8]>
-    ensures { option_map (λ name. name.now) result ≡ named_in (outcomes_of (drop at text.entry.now)) }
-{
-    let mut records = Records::new(from(text, at));
-    while let Some(outcome) = records.next() {
-        match outcome {
-            Ok(found) if found.kind == SNAME => return Some(found.bytes),
-            Ok(found) if found.kind == ENDEL => return None,
-            Ok(_) => {}
-            Err(_) => return None,
-        }
-    }
-    None
-}
-
-/// Whether an element with that SNAME may refer to the structure with that name.
-fn may_name(found: Option<&[u8]>, name: &[u8]) -> bool
-    ensures { result ≡ may_name name.now (option_map (λ n. n.now) found.entry) }
-{
-    match found {
-        Some(other) => other == name,
-        None => true,
-    }
-}
-
-/// Whether elements of that kind are references.
-fn is_reference(kind: u8) -> bool
-    ensures { result ≡ is_reference kind }
-{
-    (kind == SREF) | (kind == AREF)
-}
-
-/// Whether an element may refer to the structure with that name.
-fn refers(text: &[u8], name: &[u8], span: &ElementSpan) -> bool
-    ensures { result ≡ refers text.now name.now span.now }
-{
-    if is_reference(span.kind) {
-        may_name(named_in(text, span.start), name)
-    } else {
-        false
-    }
-}
-
-/// The elements that may refer to the structure with that name.
-fn references_to(
-    alloc: Global,
-    text: &[u8],
-    spans: &[ElementSpan],
-    name: &[u8],
-) -> Result<Vec<ElementSpan>, AllocError>
-    ensures { IfOk result (λ found. found.items ≡ filter (refers text.now name.now) spans.now) }
-{
-    let mut found = Vec::new(alloc);
-    for span in spans {
-        if refers(text, name, span) {
-            found.push(*span)?;
-        }
-    }
-    Ok(found)
-}
-
-/// The placing of a reference that places its structure once.
-fn single(reference: &Reference) -> Option<Placing>
-    ensures { result ≡ single reference.now }
-{
-    if (reference.columns == 1) & (reference.rows == 1) {
-        Some(Placing {
-            orient: reference.orient,
-            by: reference.origin,
-        })
-    } else {
-        None
-    }
-}
-
-/// The placing of an element that is such a reference.
-fn placing_by(element: &Option<Element>) -> Option<Placing>
-    ensures { result ≡ placing_by element.now }
-{
-    match element {
-        Some(Element::Reference(reference)) => single(reference.get()),
-        Some(Element::Boundary(_)) => None,
-        Some(Element::Path(_)) => None,
-        None => None,
-    }
-}
-
-/// The placing of the element that begins at an offset of a text with that unit, if it is such a reference.
-fn placing_in(
-    alloc: Global,
-    unit: u16,
-    text: &[u8],
+/// The only reference that may lead to the structure whose STRNAME is at an offset, if there is just one, and it is such a reference.
+#[derive(Clone, Copy)]
+struct Known {
     at: usize,
-) -> Result<Option<Placing>, AllocError>
-    requires { unit ≤ 1000 }
-    ensures { IfOk result (λ placing. placing ≡ placing_in unit (outcomes_of (drop at text.now))) }
-{
-    let mut records = Records::new(from(text, at));
-    match records.next() {
-        None => Ok(None),
-        Some(Err(_)) => Ok(None),
-        Some(Ok(first)) => match read_element(
-            Storage { alloc, text: None },
-            &mut records,
-            first,
-            unit,
-        ) {
-            Ok(element) => Ok(placing_by(&element)),
-            Err(ReadError::Fault(_)) => Ok(None),
-            Err(ReadError::Memory) => Err(AllocError),
-        },
-    }
+    way: Option<Way>,
 }
 
 /// Whether a coordinate lies within -2^47 to 2^47 nm.
@@ -207,12 +96,47 @@ fn placed_area(placing: Placing, area: Box2) -> Option<Box2>
     Some(Box2::between(placing.apply(low), placing.apply(high)))
 }
 
-/// The box in that structure, placed.
-fn above(structure: usize, area: Box2, placing: Option<Placing>) -> Option<Step>
-    ensures { result ≡ above structure area placing }
+/// The same, if it is known.
+fn known_at(seen: &Seen<'_>, known: &[Known], at: usize) -> Option<Option<Way>>
+    requires { All (IsKnown (read_of seen.now)) known.now }
+    ensures { IfSome result (λ way. way ≡ way_from seen.now.unit seen.now.text.now seen.now.spans.now at) }
 {
-    match placing {
-        Some(placing) => match placed_area(placing, area) {
+    for one in known {
+        if one.at == at {
+            return Some(one.way);
+        }
+    }
+    None
+}
+
+/// The same. It is known afterwards.
+fn way_to(
+    alloc: Global,
+    seen: &Seen<'_>,
+    known: &mut Vec<Known>,
+    at: usize,
+) -> Result<Option<Way>, AllocError>
+    requires unit { seen.now.unit ≤ 1000 }
+    requires known { All (IsKnown (read_of seen.now)) known.old.items }
+    ensures way { IfOk result (λ way. way ≡ way_from seen.now.unit seen.now.text.now seen.now.spans.now at) }
+    ensures known { All (IsKnown (read_of seen.now)) known.new.items }
+{
+    match known_at(seen, known.as_slice(), at) {
+        Some(way) => Ok(way),
+        None => {
+            let way = way_from(alloc, seen, at)?;
+            known.push(Known { at, way })?;
+            Ok(way)
+        }
+    }
+}
+
+/// The box of a structure in the one that a reference to it is in.
+fn above(area: Box2, way: Option<Way>) -> Option<Step>
+    ensures { result ≡ above area way }
+{
+    match way {
+        Some(Way { structure, placing }) => match placed_area(placing, area) {
             Some(area) => Some(Step { structure, area }),
             None => None,
         },
@@ -224,21 +148,17 @@ fn above(structure: usize, area: Box2, placing: Option<Placing>) -> Option<Step>
 fn step_from(
     alloc: Global,
     seen: &Seen<'_>,
+    known: &mut Vec<Known>,
     at: usize,
     area: Box2,
 ) -> Result<Option<Step>, AllocError>
-    requires { seen.now.unit ≤ 1000 }
-    ensures { IfOk result (λ step. step ≡ step_from seen.now.unit seen.now.text.now seen.now.spans.now at area) }
+    requires unit { seen.now.unit ≤ 1000 }
+    requires known { All (IsKnown (read_of seen.now)) known.old.items }
+    ensures step { IfOk result (λ step. step ≡ step_from seen.now.unit seen.now.text.now seen.now.spans.now at area) }
+    ensures known { All (IsKnown (read_of seen.now)) known.new.items }
 {
-    let found = references_to(alloc, seen.text, seen.spans, name_at(seen.text, at))?;
-    match found.as_slice() {
-        [] => Ok(None),
-        [one] => {
-            let placing = placing_in(alloc, seen.unit, seen.text, one.start)?;
-            Ok(above(one.structure, area, placing))
-        }
-        [_, _, ..] => Ok(None),
-    }
+    let way = way_to(alloc, seen, known, at)?;
+    Ok(above(area, way))
 }
 
 /// Whether the structure whose STRNAME is at an offset is the top.
@@ -252,42 +172,23 @@ fn is_top(seen: &Seen<'_>, at: usize) -> bool
 fn lift(
     alloc: Global,
     seen: &Seen<'_>,
+    known: &mut Vec<Known>,
     levels: usize,
-    at: usize,
-    area: Box2,
+    step: Step,
 ) -> Result<Option<Box2>, AllocError>
-    requires { seen.now.unit ≤ 1000 }
-    ensures { IfOk result (λ found. found ≡ lifted levels seen.now.unit seen.now.text.now seen.now.spans.now seen.now.top.now at area) }
+    requires unit { seen.now.unit ≤ 1000 }
+    requires known { All (IsKnown (read_of seen.now)) known.old.items }
+    ensures area { IfOk result (λ found. found ≡ lifted levels seen.now.unit seen.now.text.now seen.now.spans.now seen.now.top.now step.structure step.area) }
+    ensures known { All (IsKnown (read_of seen.now)) known.new.items }
 {
-    if is_top(seen, at) {
-        return Ok(Some(area));
+    if is_top(seen, step.structure) {
+        return Ok(Some(step.area));
     }
     if levels == 0 {
         return Ok(None);
     }
-    match step_from(alloc, seen, at, area)? {
-        Some(next) => lift(alloc, seen, levels - 1, next.structure, next.area),
-        None => Ok(None),
-    }
-}
-
-/// The least box with all points of an element in the top's coordinates, in nm. `None` if the element has no points. Each structure on the way to the top
-/// must be placed exactly once in the text, by a reference that can be read and that has neither columns nor rows; otherwise the result is `None`. A
-/// reference whose target isn't found counts as one to every structure. The result is also `None` with more than 64 levels, or if a box or a displacement
-/// on the way exceeds 2^47 nm. Cost: one visit of each element for each level.
-///
-/// # Errors
-/// Out of memory.
-pub fn area_in_top(
-    alloc: Global,
-    seen: &Seen<'_>,
-    element: &ElementSpan,
-) -> Result<Option<Box2>, AllocError>
-    requires { seen.now.unit ≤ 1000 }
-    ensures { IfOk result (λ area. area ≡ area_of seen.now.unit seen.now.text.now seen.now.spans.now seen.now.top.now element.now) }
-{
-    match own_area(seen.unit, seen.text, element.points) {
-        Some(area) => lift(alloc, seen, MAX_LEVELS, element.structure, area),
+    match step_from(alloc, seen, known, step.structure, step.area)? {
+        Some(next) => lift(alloc, seen, known, levels - 1, next),
         None => Ok(None),
     }
 }
@@ -312,23 +213,78 @@ fn corner(area: Option<Box2>) -> Option<Point>
     }
 }
 
-/// The first point of an element in the top's coordinates, in nm, if it is known by the rules of [`area_in_top`].
-///
-/// # Errors
-/// Out of memory.
-pub fn point_in_top(
-    alloc: Global,
-    seen: &Seen<'_>,
-    element: &ElementSpan,
-) -> Result<Option<Point>, AllocError>
-    requires { seen.now.unit ≤ 1000 }
-    ensures { IfOk result (λ point. point ≡ point_of seen.now.unit seen.now.text.now seen.now.spans.now seen.now.top.now element.now) }
-{
-    match first_point(seen.unit, seen.text, element.points) {
-        Some(point) => {
-            let area = Box2::at(point);
-            Ok(corner(lift(alloc, seen, MAX_LEVELS, element.structure, area)?))
+impl<'a> Lifts<'a> {
+    /// A text in which nothing is known yet.
+    pub fn new(alloc: Global, seen: Seen<'a>) -> Lifts<'a>
+        requires { seen.unit ≤ 1000 }
+        ensures { result ≡ read_of seen.entry }
+    {
+        Lifts {
+            seen,
+            known: Vec::new(alloc),
         }
-        None => Ok(None),
+    }
+
+    /// The text.
+    pub fn text(&self) -> &'a [u8]
+        ensures { result.now ≡ self.now.text }
+    {
+        self.seen.text
+    }
+
+    /// A box in the top's coordinates.
+    fn lift(
+        &mut self,
+        alloc: Global,
+        structure: usize,
+        area: Box2,
+    ) -> Result<Option<Box2>, AllocError>
+        ensures same { self.new ≡ self.old }
+        ensures area { IfOk result (λ found. found ≡ lifted 64 self.old.unit self.old.text self.old.spans self.old.top structure area) }
+    {
+        let step = Step { structure, area };
+        lift(alloc, &self.seen, &mut self.known, MAX_LEVELS, step)
+    }
+
+    /// The least box with all points of an element in the top's coordinates, in nm. `None` if the element has no points. Each structure on the way to the top
+    /// must be placed exactly once in the text, by a reference that can be read and that has neither columns nor rows; otherwise the result is `None`. A
+    /// reference whose target isn't found counts as one to every structure. The result is also `None` with more than 64 levels, or if a box or a displacement
+    /// on the way exceeds 2^47 nm.
+    ///
+    /// # Errors
+    /// Out of memory.
+    pub fn area_in_top(
+        &mut self,
+        alloc: Global,
+        element: &ElementSpan,
+    ) -> Result<Option<Box2>, AllocError>
+        ensures same { self.new ≡ self.old }
+        ensures area { IfOk result (λ area. area ≡ area_of self.old.unit self.old.text self.old.spans self.old.top element.now) }
+    {
+        match own_area(self.seen.unit, self.seen.text, element.points) {
+            Some(area) => self.lift(alloc, element.structure, area),
+            None => Ok(None),
+        }
+    }
+
+    /// The first point of an element in the top's coordinates, in nm, if it is known by the rules of [`Lifts::area_in_top`].
+    ///
+    /// # Errors
+    /// Out of memory.
+    pub fn point_in_top(
+        &mut self,
+        alloc: Global,
+        element: &ElementSpan,
+    ) -> Result<Option<Point>, AllocError>
+        ensures same { self.new ≡ self.old }
+        ensures point { IfOk result (λ point. point ≡ point_of self.old.unit self.old.text self.old.spans self.old.top element.now) }
+    {
+        match first_point(self.seen.unit, self.seen.text, element.points) {
+            Some(point) => {
+                let area = self.lift(alloc, element.structure, Box2::at(point))?;
+                Ok(corner(area))
+            }
+            None => Ok(None),
+        }
     }
 }

@@ -1,5 +1,5 @@
 -- The markers of a structure, whatever the side of the tiles is.
-use Rattle.std.proofs.Common.{◌≡◌, ℕ, List, [], Option, None, Some, subst, refl}
+use Rattle.std.proofs.Common.{◌≡◌, ℕ, false, List, [], Option, None, Some, subst, refl}
 use Rattle.mpw_check.specs.Drawn.{drawn_shelf, IsDrawnFrom}
 use Rattle.mpw_check.specs.Tiled.{MarkersAreTheLibrarys}
 use Rattle.mpw_choices.specs.Sides.{with_side}
@@ -39,12 +39,12 @@ read_from deck top library made layout of drawn =
     (of.0, of.1, subst (λ d. IsDrawnFrom d top library layout) of.2 drawn)
 
 -- Where nothing is left out, the text is read as it is.
-kept_plain : (library : List ℕ) (source : Source) → IsSourceOf [] None library source
+kept_plain : (library : List ℕ) (source : Source) → IsSourceOf [] None false library source
     → kept_text source ≡ library
-kept_plain library source of = rw (of.structures, of.layers) of.text_is
+kept_plain library source of = rw (of.faulty, of.structures, of.layers) of.text_is
 
 drawn_plain : (top : Option (List ℕ)) (deck : Deck) (library : List ℕ) (source : Source)
-    (drawn : Drawn) → IsSourceOf [] None library source → IsDrawnBy top deck source drawn
+    (drawn : Drawn) → IsSourceOf [] None false library source → IsDrawnBy top deck source drawn
     → IsTopOf top library drawn.top × IsDrawnFrom deck drawn.top library drawn.layout
 drawn_plain top deck library source drawn of by =
     let same = kept_plain library source of in (
@@ -53,7 +53,7 @@ drawn_plain top deck library source drawn of by =
     )
 
 pub part_read : (top : Option (List ℕ)) (side : Option ℕ) (deck library : List ℕ)
-    (source : Source) (drawn : Drawn) → side ≡ None → IsSourceOf [] None library source
+    (source : Source) (drawn : Drawn) → side ≡ None → IsSourceOf [] None false library source
     → IsDrawnOf top side deck source drawn
     → IsReadFrom deck drawn.top library drawn.layout
 part_read top side deck library source drawn none is of =
@@ -62,7 +62,7 @@ part_read top side deck library source drawn none is of =
     (drawn_plain top of.made library source drawn is of.by).1
 
 pub part_named : (top : Option (List ℕ)) (side : Option ℕ) (deck library : List ℕ)
-    (source : Source) (drawn : Drawn) → IsSourceOf [] None library source
+    (source : Source) (drawn : Drawn) → IsSourceOf [] None false library source
     → IsDrawnOf top side deck source drawn
     → IsTopOf top library drawn.top
 part_named top side deck library source drawn is of =

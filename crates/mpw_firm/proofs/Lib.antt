@@ -1,4 +1,5 @@
 -- The lemmas of the program that checks a cell.
+mod Capped
 pub mod Flat
 pub mod HeldTexts
 mod KeyTexts

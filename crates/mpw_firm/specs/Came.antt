@@ -1,11 +1,11 @@
 -- What came of a command: the texts that stand in their places, and how many markers were found.
-use Rattle.std.specs.Prelude.{◌≡◌, ℕ, List, [], ◌∷◌, ◌++◌, false, length, slice_get, Option, None, Some, option_map, Result, IfOk}
+use Rattle.std.specs.Prelude.{◌≡◌, ℕ, ◌+◌, List, [], ◌∷◌, ◌++◌, false, length, map, slice_get, Option, None, Some, option_map, Result, IfOk}
 use Rattle.std.specs.String.{string_bytes}
 use Rattle.mpw_job.specs.Layout.{AreLayoutMarkers}
 use Rattle.mpw_markers.specs.declared.marker.Marker.{Marker}
 use Rattle.mpw_parts.specs.Parts.{Found}
 use Rattle.mpw_parts.specs.Text.{part_text}
-use Rattle.mpw_picture.specs.Drawn.{IsDrawn}
+use Rattle.mpw_picture.specs.Drawn.{IsDrawnWith}
 use Rattle.mpw_picture.specs.Text.{picture_text}
 use Rattle.mpw_picture.specs.declared.picture.Picture.{Picture}
 use Rattle.mpw_picture.specs.declared.picture.View.{View}
@@ -18,13 +18,14 @@ use Rattle.mpw_firm.specs.Drawings.{AreFlatOf, IsReadBy, IsReadFrom, IsTopOf}
 use Rattle.mpw_firm.specs.Keys.{IsViewOf}
 use Rattle.mpw_sources.specs.Looks.{IsLookedAt}
 use Rattle.mpw_sources.specs.Notes.{notes_of, rule_notes}
+use Rattle.mpw_sources.specs.Seen.{told_seen}
 use Rattle.mpw_outputs.specs.Counted.{capped}
 use Rattle.mpw_outputs.specs.Outputs.{Kept, Grows, in_file, on_output}
 use Rattle.mpw_firm.specs.Ranges.{HasColumnsOf}
 use Rattle.mpw_sources.specs.Sources.{kept_text}
 use Rattle.mpw_firm.specs.Counts.{count_of}
 use Rattle.mpw_told.specs.Status.{exit_of}
-use Rattle.mpw_firm.specs.Shown.{Shown, content_of, listing_text, most_of}
+use Rattle.mpw_firm.specs.Shown.{Shown, areas_of, content_of, listing_text, most_of}
 use Rattle.mpw_firm.specs.Stitched.{IsWholeOf}
 use Rattle.mpw_firm.specs.declared.checked.Drawn.{Drawn}
 use Rattle.mpw_asked.specs.declared.choices.Choices.{Choices}
@@ -59,7 +60,7 @@ PutsPicture None s old new texts = Grows old new texts
 PutsPicture (Some wanted) s old new texts =
     (view : View) × (picture : Picture)
     × IsViewOf (option_map string_bytes wanted.key) s.layout s.book (most_of s.limit) view
-    × IsDrawn s.layout s.book view picture
+    × IsDrawnWith s.layout s.book (areas_of s.faults) (length s.faults) view picture
     × Grows old new
     (texts ++ (in_file (string_bytes wanted.file) (picture_text s.layout.deck.rules s.top picture)
     ∷ []))
@@ -70,7 +71,8 @@ PutsAll options s old new =
     PutsPicture options.picture s old new
     (listing_texts (option_map string_bytes options.report) s)
 
--- What is shown of a check: the library's file, the limit that is chosen, what is told of what is looked at, and whether the numbers are chosen.
+-- What is shown of a check: the library's file, the limit that is chosen, what is told of what is looked at, whether the numbers are chosen,
+-- and the elements that are left out for their faults.
 abbrev pub shown_by : Options → Choices → Drawn → List Marker → Shown
 shown_by options choices drawn book = record {
   original = Some (string_bytes options.file);
@@ -80,6 +82,7 @@ shown_by options choices drawn book = record {
   limit = choices.limit;
   notes = notes_of drawn.layout;
   summary = choices.summary;
+  faults = map told_seen drawn.left_out.items;
 }
 
 -- What is shown of parts with these notes: they name no file, and their markers are listed.
@@ -92,14 +95,15 @@ shown_with notes limit whole = record {
   limit = limit;
   notes = notes;
   summary = false;
+  faults = [];
 }
 
 -- They don't tell which layers have shapes.
 abbrev pub shown_whole : Option ℕ → Whole → Shown
 shown_whole limit whole = shown_with (rule_notes whole.layout.deck.rules) limit whole
 
--- A deck and a library were checked, their markers are told in all that is wanted, and they are so many, up to 2^64 - 1. The markers are
--- those of the flat list of the structure, whatever the side of the tiles is.
+-- A deck and a library were checked, their markers are told in all that is wanted, and they and the elements that are left out for their
+-- faults are so many, up to 2^64 - 1. The markers are those of the flat list of the structure in the library without these elements, whatever the side of the tiles is.
 pub record IsChecked (options : Options) (choices : Choices) (old new : Option (List Kept))
     (found : ℕ) : Type 0 where
   pub deck : List ℕ
@@ -110,7 +114,7 @@ pub record IsChecked (options : Options) (choices : Choices) (old new : Option (
   pub looked : IsLookedAt options.strict drawn.layout
   pub markers : AreLayoutMarkers drawn.layout book
   pub flat : AreFlatOf deck drawn.top (kept_text read.source) book
-  pub count : found ≡ capped (length book)
+  pub count : found ≡ capped (length book + length drawn.left_out.items)
   pub kept : PutsAll options (shown_by options choices drawn book) old new
 
 -- Some columns of them were, and their part is printed.

@@ -1,5 +1,5 @@
 -- What is checked, by the texts of a deck and a library; and why it can't be.
-use Rattle.std.specs.Prelude.{◌≡◌, ◌⊎◌, ◌++◌, ℕ, Bool, true, false, List, codes, Option, None, Some, Ok, Err}
+use Rattle.std.specs.Prelude.{◌≡◌, ◌⊎◌, ◌++◌, ℕ, Bool, true, false, List, codes, map, Option, None, Some, Ok, Err}
 use Rattle.std.specs.String.{string_bytes}
 use Rattle.mpw_check.specs.Drawn.{drawn_shelf, IsDrawnFrom, IsOfText}
 use Rattle.mpw_check.specs.declared.fault.CheckFault.{CheckFault}
@@ -12,6 +12,7 @@ use Rattle.mpw_told.specs.declared.fault.FirmFault.TheVariants.{Memory}
 use Rattle.mpw_firm.specs.declared.checked.Drawn.{Drawn}
 use Rattle.mpw_asked.specs.declared.choices.Choices.{Choices}
 use Rattle.mpw_asked.specs.declared.options.Options.{Options}
+use Rattle.mpw_sources.specs.Seen.{told_left_out, told_seen}
 use Rattle.mpw_sources.specs.Sources.{Source, IsSourceOf, kept_text, moved, moved_fault}
 use Rattle.mpw_hier.specs.Values.{flat}
 use Rattle.mpw_job.specs.Layout.{AreFlatMarkers, AreLayoutMarkers}
@@ -35,11 +36,12 @@ abbrev pub IsTopOf : Option (List ℕ) → (text top : List ℕ) → Type 0
 IsTopOf (Some name) text top = top ≡ name
 IsTopOf None text top = only_top text ≡ Some top
 
--- It is drawn under the deck, of a library's text as it is read.
+-- It is drawn under the deck, of a library's text as it is read; beside it stand the elements that are left out for their faults.
 pub record IsDrawnBy (top : Option (List ℕ)) (deck : Deck) (source : Source) (drawn : Drawn) :
     Type 0 where
   pub named : IsTopOf top (kept_text source) drawn.top
   pub from : IsDrawnFrom deck drawn.top (kept_text source) drawn.layout
+  pub left : map told_seen drawn.left_out.items ≡ told_left_out source drawn.top
 
 -- The deck is that of the text, with that side where there is one.
 abbrev pub IsDeckOf : Option ℕ → List ℕ → Deck → Type 0
@@ -57,11 +59,12 @@ abbrev pub above : Bool → Option (List ℕ) → Option (List ℕ)
 above false top = None
 above true top = top
 
--- The same as it is chosen: without the elements on some layers, and the structures that aren't reached.
+-- The same as it is chosen: without the elements on some layers, the structures that aren't reached, and the elements with faults.
 pub record IsReadBy (top : Option (List ℕ)) (choices : Choices) (deck library : List ℕ)
     (drawn : Drawn) : Type 0 where
   pub source : Source
-  pub left : IsSourceOf choices.skip.items (above choices.unreached top) library source
+  pub left : IsSourceOf choices.skip.items (above choices.unreached top) choices.faultless library
+      source
   pub of : IsDrawnOf top choices.tile deck source drawn
 
 -- ---- the markers of it

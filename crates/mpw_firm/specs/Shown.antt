@@ -1,5 +1,6 @@
 -- What is told of a layout's markers: their listing and their report, of the first of each rule where there is a limit; or their numbers by rule.
 use Rattle.std.specs.Prelude.{ℕ, ◌-◌, ◌^◌, Bool, true, false, List, [], ◌∷◌, length, map, Option, None, Some, option_map}
+use Rattle.std.specs.List.{flat_map}
 use Rattle.mpw_outputs.specs.Counted.{counts_text, rule_counts, summary_text}
 use Rattle.mpw_outputs.specs.Listed.{listed_text}
 use Rattle.mpw_outputs.specs.Outputs.{Kept, in_file}
@@ -8,7 +9,8 @@ use Rattle.mpw_firm.specs.declared.found.Held.{Held}
 use Rattle.mpw_firm.specs.declared.found.Held.TheVariants as held
 use Rattle.mpw_limits.specs.Limits.{Limited, limited_text}
 use Rattle.mpw_markers.specs.declared.marker.Marker.{Marker}
-use Rattle.mpw_report.specs.Content.{Content, Noted, note_of}
+use Rattle.mpw_geom.specs.declared.plane.Box2.{Box2}
+use Rattle.mpw_report.specs.Content.{Content, Noted, Told, fault_of, note_of}
 use Rattle.mpw_report.specs.Report.{full_text}
 use Rattle.mpw_tiles.specs.Snapshots.{Snapshot}
 
@@ -18,7 +20,7 @@ most_of None = 2 ^ 64 - 1
 most_of (Some limit) = limit
 
 -- What is shown of markers: the name of the layout's file, the structure's, the layout, the markers, the limit, what is told of what was
--- looked at, and whether their numbers stand in the place of their listing.
+-- looked at, whether their numbers stand in the place of their listing, and the elements that are left out for their faults.
 pub record Shown : Type 0 where
   pub original : Option (List ℕ)
   pub top : List ℕ
@@ -27,6 +29,7 @@ pub record Shown : Type 0 where
   pub limit : Option ℕ
   pub notes : List Noted
   pub summary : Bool
+  pub faults : List Told
 
 -- What is shown of what was checked, where these are all its markers.
 abbrev pub shown_of : Checked → List Marker → Shown
@@ -38,7 +41,16 @@ shown_of c book = record {
   limit = c.limit;
   notes = map note_of c.notes.now;
   summary = c.summary;
+  faults = map fault_of c.faults.now;
 }
+
+-- The boxes of these elements, as far as they are known.
+abbrev pub area_listed : Option Box2 → List Box2
+area_listed None = []
+area_listed (Some area) = area ∷ []
+
+abbrev pub areas_of : List Told → List Box2
+areas_of faults = flat_map (λ (f : Told). area_listed f.area) faults
 
 abbrev pub limited_of : Shown → ℕ → Limited
 limited_of s limit =
@@ -57,7 +69,7 @@ printed_text s false = listing_by s s.limit
 abbrev pub listing_text : Shown → List ℕ
 listing_text s = printed_text s s.summary
 
--- What the report tells with these numbers: the first markers of each rule have an item.
+-- What the report tells with these numbers: the first markers of each rule have an item, and each element that is left out for its fault.
 abbrev pub content_with : Shown → List ℕ → Content
 content_with s counts = record {
   original = s.original;
@@ -67,7 +79,7 @@ content_with s counts = record {
   counts = Some counts;
   limit = most_of s.limit;
   notes = s.notes;
-  faults = [];
+  faults = s.faults;
 }
 
 -- What the report tells: all markers, with how many each rule has.

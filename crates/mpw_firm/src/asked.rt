@@ -6,8 +6,9 @@ ghost use Rattle.mpw_firm.specs.Shown.{shown_of};
 ghost use Rattle.mpw_firm.specs.Uses.{check_inputs, check_outputs};
 ghost use Rattle.mpw_markers.specs.declared.marker.Marker.{Marker};
 ghost use Rattle.mpw_outputs.specs.Outputs.{AreApart};
+ghost use Rattle.mpw_sources.specs.Looks.{IsLookedAt};
 
-use crate::checked::Checked;
+use crate::checked::{Checked, Drawn};
 use crate::drawing::drawn_by;
 use crate::found::{enough_for, found_in};
 use crate::laws::markers_are_flat;
@@ -17,7 +18,7 @@ use crate::progress::tell_summary;
 use crate::report::write_listed;
 use mpw_asked::{Choices, Options};
 use mpw_outputs::Outputs;
-use mpw_sources::{Target, look, notes_of, tell_notes};
+use mpw_sources::{Target, look, notes_of, report_faults, tell_notes};
 use mpw_told::FirmFault;
 use rayon::current_num_threads;
 use std::alloc::Global;
@@ -43,8 +44,20 @@ fn write_all<O: Outputs>(
     picture(outputs, alloc, file, view, checked)
 }
 
+/// Refuses a check of which a rule looks at nothing, with `--strict`.
+fn look_at(alloc: Global, options: &Options, drawn: &Drawn) -> Result<(), FirmFault>
+    ensures { IfOk result (λ _. IsLookedAt options.now.strict drawn.now.layout) }
+{
+    let file = options.file.clone()?;
+    let target = Target {
+        file: file.as_str(),
+        top: &drawn.top,
+    };
+    look(alloc, options.strict, &target, &drawn.layout)
+}
+
 /// Checks what the command line asks for, prints its markers or their numbers, writes its report and its picture and tells how many markers there
-/// are, up to 2^64 - 1. A key that no marker has is refused before anything is printed.
+/// are, with the elements that are left out for their faults, up to 2^64 - 1. A key that no marker has is refused before anything is printed.
 ///
 /// # Errors
 /// A file that can't be read or written, a key that no marker has, a library or a deck with a fault, a device that failed, or want
@@ -61,26 +74,29 @@ pub fn check<O: Outputs>(
 {
     let mut line = Line::new(rt, current_num_threads(threads));
     let drawn = drawn_by(rt, outputs, options, choices)?;
-    let (top, layout) = (&drawn.top, &drawn.layout);
+    let given = &drawn;
     let file = options.file.as_str();
-    let target = Target { file, top };
-    let notes = notes_of(rt.alloc(), layout)?;
+    let notes = notes_of(rt.alloc(), &given.layout)?;
     let told = notes.as_slice();
     let _ = tell_notes(rt, told);
-    look(rt.alloc(), options.strict, &target, layout)?;
+    look_at(rt.alloc(), options, given)?;
+    let left_out = report_faults(rt.alloc(), given.left_out.as_slice())?;
+    let faults = left_out.as_slice();
+    let layout = &given.layout;
     let found = &found_in(rt, threads, layout, enough_for(options, choices), &mut line)?;
     let checked = Checked {
-        top,
+        top: &given.top,
         layout,
         found,
         original: Some(file),
         limit: choices.limit,
         notes: told,
         summary: choices.summary,
+        faults,
     };
     let _ = tell_summary(rt, &checked, &line);
     markers_are_flat();
     write_all(outputs, rt.alloc(), options, &checked)?;
     line.tell_times();
-    Ok(found.all)
+    Ok(found.all.saturating_add(faults.len()))
 }

@@ -5,7 +5,8 @@ ghost use Rattle.mpw_firm.specs.Shown.{most_of};
 
 use crate::found::Findings;
 use mpw_geom::Name;
-use mpw_report::Note;
+use mpw_report::{Fault, Note};
+use mpw_sources::SeenFault;
 use mpw_tiles::Snapshot;
 
 /// A layout that was checked: the structure's name, the layout, and what was found.
@@ -25,6 +26,8 @@ pub struct Checked<'a> {
     pub notes: &'a [Note<'a>],
     /// Whether the numbers of markers by rule are printed in the place of the listing.
     pub summary: bool,
+    /// The elements that are left out for their faults.
+    pub faults: &'a [Fault<'a>],
 }
 
 impl Checked<'_> {
@@ -46,4 +49,6 @@ pub struct Drawn {
     pub top: Name,
     /// The structure under the deck.
     pub layout: Snapshot,
+    /// The elements that are left out of the library for their faults.
+    pub left_out: Vec<SeenFault>,
 }

@@ -1,15 +1,16 @@
 //! What is checked, of the texts of a deck and a library. `specs/Drawings.antt` has what contracts say of it.
-ghost use Rattle.std.specs.Prelude.{◌≡◌, ℕ, List, None, false, option_map, IfOk, IfErr};
+ghost use Rattle.std.specs.Prelude.{◌≡◌, ℕ, List, None, false, map, option_map, IfOk, IfErr};
 ghost use Rattle.std.specs.String.{string_bytes};
 ghost use Rattle.mpw_check.specs.Drawn.{IsDrawnFrom};
 ghost use Rattle.mpw_choices.specs.Tops.{only_top};
 ghost use Rattle.mpw_firm.specs.Drawings.{above, IsDeckOf, IsDrawnBy, IsDrawnOf, IsOfDrawing, IsOfNoTop, IsOfSource, IsOfTexts, IsReadBy, IsTopOf, no_top_text};
 ghost use Rattle.mpw_told.specs.ToldFaults.{IsOfDeck, check_told};
+ghost use Rattle.mpw_sources.specs.Seen.{told_left_out, told_seen};
 ghost use Rattle.mpw_sources.specs.Sources.{kept_text};
 ghost use Rattle.mpw_told.specs.Told.{Refuses, Tells};
 
 use crate::checked::Drawn;
-use crate::faulty::faulty;
+use crate::faulty::{faulty, tell_skipped};
 use mpw_asked::{Choices, Options};
 use mpw_check::{CheckFault, read_layout};
 use mpw_choices::{TileSide, only_top, with_side};
@@ -19,7 +20,8 @@ use mpw_geom::Name;
 use mpw_hier::HierFault;
 use mpw_outputs::Outputs;
 use mpw_sources::{
-    Content, Source, Target, deck_of, read_file, read_library, tell_left_out, tell_tops,
+    Content, Source, Target, deck_of, left_out_seen, read_file, read_library, tell_left_out,
+    tell_tops,
 };
 use mpw_tiles::Snapshot;
 use mpw_told::{FirmFault, check_fault, library_fault, refusal};
@@ -104,7 +106,7 @@ fn drawn_at(
     }
 }
 
-/// The same, with its name.
+/// The same, with its name, and with the elements that are left out for their faults.
 fn drawn_with(
     rt: &HostRuntime,
     file: &str,
@@ -114,11 +116,17 @@ fn drawn_with(
 ) -> Result<Drawn, FirmFault>
     ensures top { IfOk result (λ drawn. drawn.top ≡ top) }
     ensures drawn { IfOk result (λ drawn. IsDrawnFrom deck top (kept_text source.now) drawn.layout) }
+    ensures left { IfOk result (λ drawn. map told_seen drawn.left_out.items ≡ told_left_out source.now top) }
     ensures refused { IfErr result (IsOfSource file.now top source.now) }
 {
+    let left_out = left_out_seen(rt.alloc(), source, &top)?;
     let target = Target { file, top: &top };
     match drawn_at(rt, &target, deck, source) {
-        Ok(layout) => Ok(Drawn { top, layout }),
+        Ok(layout) => Ok(Drawn {
+            top,
+            layout,
+            left_out,
+        }),
         Err(fault) => Err(fault),
     }
 }
@@ -207,8 +215,10 @@ pub fn drawn_by<O: Outputs>(
     let text = read_file(rt, options.deck.as_str(), Content::Deck)?;
     let library = read_library(rt, options.file.as_str())?;
     let above = above(options, choices);
-    let source = Source::new(rt.alloc(), choices.skip.as_slice(), above, library)?;
+    let (skip, faultless) = (choices.skip.as_slice(), choices.faultless);
+    let source = Source::new(rt.alloc(), skip, above, faultless, library)?;
     let _ = tell_left_out(rt, options.file.as_str(), &source);
+    let _ = tell_skipped(rt, options, &source);
     let deck = deck_under(rt.alloc(), options, &choices.tile, &text)?;
     let rules = deck.rules().copy()?;
     match drawn_under(rt, options, deck, &source) {

@@ -15,7 +15,7 @@ use mpw_geom::Name;
 use mpw_markers::Marker;
 use mpw_outputs::{Outputs, Place, Text, put};
 use mpw_report::{Note, Report};
-use mpw_sources::{SeenFault, Source, faults_seen, report_faults, tell_faults};
+use mpw_sources::{SeenFault, Source, faults_seen, report_faults, tell_faults, tell_faulty};
 use mpw_told::FirmFault;
 use std::alloc::{AllocError, Global};
 use std::io;
@@ -143,6 +143,18 @@ fn put_for<O: Outputs>(
 {
     let top = top_for(alloc, options, source)?;
     put_wanted(outputs, alloc, options, rules, source, &top)
+}
+
+/// Prints each element that is left out of a library for its fault.
+///
+/// # Errors
+/// Out of memory, or that of the standard error.
+pub fn tell_skipped(rt: &HostRuntime, options: &Options, source: &Source<'_>) -> io::Result<()> {
+    if source.faulty().is_empty() {
+        return Ok(());
+    }
+    let top = top_for(rt.alloc(), options, source)?;
+    tell_faulty(rt, options.file.as_str(), source, &top)
 }
 
 /// Tells each fault of a library.

@@ -99,7 +99,7 @@ pub fn check_range<O: Outputs>(
     let mut line = Line::new(rt, current_num_threads(threads));
     let deck = read_file(rt, options.deck.as_str(), Content::Deck)?;
     let library = read_library(rt, options.file.as_str())?;
-    let source = Source::new(rt.alloc(), &[], None, library)?;
+    let source = Source::new(rt.alloc(), &[], None, false, library)?;
     let drawn = drawn_of(rt, options, &None, &deck, &source)?;
     let target = Target {
         file: options.file.as_str(),

@@ -1,22 +1,25 @@
 //! The picture of a check.
-ghost use Rattle.std.specs.Prelude.{◌∷◌, [], None, option_map, IfOk, IfErr};
+ghost use Rattle.std.specs.Prelude.{◌≡◌, ◌++◌, ◌∷◌, [], None, length, map, option_map, IfOk, IfErr};
 ghost use Rattle.std.specs.String.{string_bytes};
 ghost use Rattle.mpw_geom.specs.Plane.{IsBoxInPlane};
-ghost use Rattle.mpw_picture.specs.Drawn.{IsDrawn};
+ghost use Rattle.mpw_picture.specs.Drawn.{IsDrawnWith};
 ghost use Rattle.mpw_picture.specs.Text.{picture_text};
 ghost use Rattle.mpw_picture.specs.declared.picture.Picture.{Picture};
 ghost use Rattle.mpw_outputs.specs.Outputs.{in_file, Grows};
 ghost use Rattle.mpw_firm.specs.Keys.{IsOfKey, IsRound, IsUnknown, IsViewOf, unknown_text};
-ghost use Rattle.mpw_firm.specs.Shown.{markers_of, most_of};
+ghost use Rattle.mpw_firm.specs.Shown.{area_listed, areas_of, markers_of, most_of};
+ghost use Rattle.mpw_report.specs.Content.{fault_of};
 ghost use Rattle.mpw_told.specs.Told.{CannotBeWritten, Misuses};
 
 use crate::checked::Checked;
 use crate::key::find_marker;
 use mpw_asked::Wanted;
+use mpw_geom::Box2;
 use mpw_outputs::{Outputs, Place, Text, put};
-use mpw_picture::{View, draw_view, marker_window, whole_window};
+use mpw_picture::{LeftOut, View, draw_with, marker_window, whole_window};
+use mpw_report::Fault;
 use mpw_told::{FirmFault, misuse};
-use std::alloc::Global;
+use std::alloc::{AllocError, Global};
 
 /// What is told of a key that no marker has.
 #[tactic(auto, unfolding(crate::specs::Keys::unknown_text))]
@@ -73,6 +76,27 @@ pub fn view_of(alloc: Global, wanted: &Wanted, checked: &Checked<'_>) -> Result<
     }
 }
 
+/// Adds a box, if it is known.
+fn add_area(areas: &mut Vec<Box2>, area: Option<Box2>) -> Result<(), AllocError>
+    ensures { IfOk result (λ _. areas.new.items ≡ areas.old.items ++ area_listed area) }
+{
+    match area {
+        Some(area) => Ok(areas.push(area)?),
+        None => Ok(()),
+    }
+}
+
+/// The boxes of elements that are left out for their faults, as far as they are known.
+fn areas_of(alloc: Global, faults: &[Fault<'_>]) -> Result<Vec<Box2>, AllocError>
+    ensures { IfOk result (λ areas. areas.items ≡ areas_of (map fault_of faults.now)) }
+{
+    let mut areas = Vec::new(alloc);
+    for fault in faults {
+        add_area(&mut areas, fault.area)?;
+    }
+    Ok(areas)
+}
+
 /// Draws a view of what was checked into a file.
 ///
 /// # Errors
@@ -85,10 +109,15 @@ pub fn picture<O: Outputs>(
     checked: &Checked<'_>,
 ) -> Result<(), FirmFault>
     requires { IsBoxInPlane view.window }
-    ensures kept { IfOk result (λ _. (drawn : Picture) × IsDrawn checked.now.layout.now (markers_of checked.now.found.now.held) view drawn × Grows (O.kept outputs.old) (O.kept outputs.new) (in_file file.now (picture_text checked.now.layout.now.deck.rules checked.now.top.now drawn) ∷ [])) }
+    ensures kept { IfOk result (λ _. (drawn : Picture) × IsDrawnWith checked.now.layout.now (markers_of checked.now.found.now.held) (areas_of (map fault_of checked.now.faults.now)) (length (map fault_of checked.now.faults.now)) view drawn × Grows (O.kept outputs.old) (O.kept outputs.new) (in_file file.now (picture_text checked.now.layout.now.deck.rules checked.now.top.now drawn) ∷ [])) }
     ensures refused { IfErr result (CannotBeWritten file.now) }
 {
-    let drawn = draw_view(alloc, checked.layout, checked.found.markers(), view)?;
+    let areas = areas_of(alloc, checked.faults)?;
+    let left = LeftOut {
+        areas: areas.as_slice(),
+        all: checked.faults.len(),
+    };
+    let drawn = draw_with(alloc, checked.layout, checked.found.markers(), left, view)?;
     let text = Text::Picture(checked.layout, checked.top, &drawn);
     put(outputs, alloc, Place::File(file), &text)
 }

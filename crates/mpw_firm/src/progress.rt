@@ -58,6 +58,15 @@ fn tell_way(rt: &HostRuntime, snapshot: &Snapshot) -> io::Result<()> {
     }
 }
 
+/// Prints how many elements are left out for their faults.
+fn tell_left(rt: &HostRuntime, checked: &Checked<'_>) -> io::Result<()> {
+    let left = checked.faults.len();
+    if left == 0 {
+        return Ok(());
+    }
+    eprintln!(rt; "note: elements left out for their faults: {left}: the desk refuses this file")
+}
+
 /// Tells what was checked and found, the time and the memory that it took; and of a layout that shows more shapes than a desk takes, that.
 pub fn tell_summary(rt: &HostRuntime, checked: &Checked<'_>, line: &Line<'_>) -> io::Result<()> {
     let layout = checked.layout;
@@ -67,6 +76,7 @@ pub fn tell_summary(rt: &HostRuntime, checked: &Checked<'_>, line: &Line<'_>) ->
     tell_markers(rt, checked)?;
     tell_taken(rt, line.taken())?;
     tell_reckoned(rt, checked, line)?;
+    tell_left(rt, checked)?;
     if shapes > MAX_ON_DESK {
         eprintln!(rt; "note: more than 1048576 shapes: the desk takes no more")?;
     }

@@ -14,7 +14,7 @@ use crate::checked::Checked;
 use crate::found::Held;
 use mpw_limits::{Limited, first_markers_are_listed};
 use mpw_outputs::{Counts, Outputs, Place, Text, put};
-use mpw_report::{Fault, Report, first_markers_have_the_items};
+use mpw_report::{Report, first_markers_have_the_items};
 use mpw_told::FirmFault;
 use std::alloc::Global;
 
@@ -35,7 +35,6 @@ fn limited<'a>(checked: &Checked<'a>) -> Limited<'a>
 fn report_of<'a>(checked: &Checked<'a>) -> Report<'a>
     ensures { told.content_of result ≡ held_content checked.now }
 {
-    let faults: &'a [Fault<'a>] = &[];
     Report {
         original: checked.original,
         top: checked.top,
@@ -44,7 +43,7 @@ fn report_of<'a>(checked: &Checked<'a>) -> Report<'a>
         counts: Some(checked.found.counts.as_slice()),
         limit: checked.most(),
         notes: checked.notes,
-        faults,
+        faults: checked.faults,
     }
 }
 

@@ -108,6 +108,7 @@ pub fn stitch<O: Outputs>(
         limit: options.limit,
         notes: notes.as_slice(),
         summary: false,
+        faults: &[],
     };
     let _ = tell_stitched(rt, options.files.len(), columns, &checked);
     write_listed(outputs, alloc, &options.report, &checked)?;

@@ -40,12 +40,14 @@ static COMMANDS: [Entry; 7] = [
             --summary prints their numbers alone, --tile SIDE takes tiles of that side instead of \
             the deck's, --tiles TILES prints the part of a share for mpw stitch, --skip-layers \
             L/D,.. leaves out the elements on these layers, --skip-unreached the structures that \
-            the top doesn't reach, --faults prints the fault of each element, and --strict refuses \
-            a check of which a rule looks at nothing",
+            the top doesn't reach, --skip-faulty the elements with a fault of their own, --faults \
+            prints the fault of each element, and --strict refuses a check of which a rule looks \
+            at nothing",
         detail: Detail::Command {
-            statuses: "0 no markers; 1 markers; 2 the command line is wrong, an output is an input \
-                or another output, no marker has the key of --marker, or there aren't all the \
-                columns of --tiles; 3 a file can't be read or written, or the output failed; 4 the \
+            statuses: "0 no markers, and --skip-faulty left nothing out; 1 markers, or elements \
+                that --skip-faulty left out; 2 the command line is wrong, an output is an input or \
+                another output, no marker has the key of --marker, or there aren't all the columns \
+                of --tiles; 3 a file can't be read or written, or the output failed; 4 the \
                 library, the structure or the deck has a fault, or with --strict a rule looks at \
                 nothing; 5 out of memory",
         },
@@ -78,9 +80,9 @@ static COMMANDS: [Entry; 7] = [
     Entry {
         word: "store",
         form: "mpw store check FILE",
-        meaning: "tests each row of a store, and prints how many there are",
+        meaning: "tests whether a desk accepts the rows of a store, and how its log ends",
         detail: Detail::Command {
-            statuses: "0 each row is sound, or the help was printed; 2 the command line is wrong; 3 \
+            statuses: "0 the store is sound, or the help was printed; 2 the command line is wrong; 3 \
                 the file can't be opened or read, or the output failed; 4 the store isn't sound; 5 \
                 out of memory",
         },

@@ -51,6 +51,17 @@ pub record IsDrawn (s : Snapshot) (markers : List Marker) (view : View) (p : Pic
   pub wanted_is : p.wanted ≡ view.wanted
   pub limit_is : p.limit ≡ view.limit
 
+-- The boxes that share a point with the window, in order.
+abbrev pub boxes_in : Box2 → List Box2 → List Box2
+boxes_in window boxes = filter (λ (b : Box2). do_meet b window) boxes
+
+-- The same with elements that are left out for their faults: so many, of which these boxes are known.
+pub record IsDrawnWith (s : Snapshot) (markers : List Marker) (areas : List Box2) (all : ℕ)
+    (view : View) (p : Picture) : Type 0 where
+  pub drawn : IsDrawn s markers view p
+  pub boxes : p.left_out.items ≡ boxes_in view.window areas
+  pub whole : p.left_all ≡ all
+
 -- the view of a window in which no marker is selected, and all are drawn
 abbrev pub plain_view : Box2 → View
 plain_view window = record { window = window; wanted = None; limit = 2 ^ 64 - 1 }

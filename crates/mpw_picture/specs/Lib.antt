@@ -1,6 +1,7 @@
 pub mod Density
 pub mod Drawn
 pub mod Internal
+pub mod Left
 pub mod Looks
 pub mod Marked
 pub mod Parts

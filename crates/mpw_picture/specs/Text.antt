@@ -2,7 +2,7 @@
 --
 -- The titles are at the top. Below them is the drawing, 1000 pixels along its longer side, in nm of the window, with the window's coordinates at
 -- its edges. Below it are the scale bar and a row for each rule: the colours of its markers and of its layers, its line of the deck, and how
--- many of its markers are drawn and left out.
+-- many of its markers are drawn and left out. If elements are left out for their faults, they have a row after these.
 use Rattle.std.specs.Prelude.{ℕ, ◌+◌, ◌*◌, List, [], ◌∷◌, ◌++◌, length, codes, if◌then◌else◌}
 use Rattle.std.specs.List.{concat, flat_map, range_with_len, enumerate_from}
 use Rattle.std.specs.Fmt.{decimal, signed_decimal}
@@ -19,6 +19,7 @@ use Rattle.mpw_picture.specs.Looks.{is_layer}
 use Rattle.mpw_picture.specs.Parts.{part_text}
 use Rattle.mpw_picture.specs.Sizes.{drawing_breadth, drawing_height, turned}
 use Rattle.mpw_picture.specs.Windows.{side}
+use Rattle.mpw_picture.specs.Left.{left_row, left_text, row_count}
 use Rattle.mpw_picture.specs.Marked.{marks_text}
 use Rattle.mpw_picture.specs.Patterns.{look_text, patterns_of}
 use Rattle.mpw_picture.specs.Rows.{legend_text}
@@ -73,21 +74,22 @@ frame_text w =
     "\" preserveAspectRatio=\"xMinYMin\">\n<rect width=\"100%\" height=\"100%\" fill=\"#f4f4f4\"/>\n"
     ∷ [])
 
--- the layers, and then the markers
+-- the layers, the elements that are left out for their faults, and then the markers
 unfoldable pub drawing_text : List Rule → Picture → List ℕ
 drawing_text rules p =
     frame_text p.window ++ flat_map (layer_text p) (enumerate_from 0 p.layers.items)
+    ++ left_text p
     ++ marks_text rules p
 
 -- ---- the whole
 
 -- the height of the whole: the titles, the drawing, the coordinates below it, the scale bar and the rows
-unfoldable pub paper_text : (rules : ℕ) → Box2 → List ℕ
-paper_text rules w = concat (decimal (drawing_height w + 188 + 24 * rules) ∷ [])
+unfoldable pub paper_text : (rows : ℕ) → Box2 → List ℕ
+paper_text rows w = concat (decimal (drawing_height w + 188 + 24 * rows) ∷ [])
 
 unfoldable pub head_text : List Rule → List ℕ → Picture → List ℕ
 head_text rules top p =
-    part_text Head ++ paper_text (length rules) p.window ++ part_text Title ++ escaped top
+    part_text Head ++ paper_text (row_count (length rules) p) p.window ++ part_text Title ++ escaped top
     ++ part_text LayerColours
     ++ part_text RuleColours
     ++ part_text Patterns
@@ -100,4 +102,5 @@ picture_text rules top p =
     head_text rules top p ++ titles_text rules top p ++ drawing_text rules p
     ++ edges_text p.window
     ++ legend_text rules p
+    ++ left_row (length rules) p
     ++ part_text End

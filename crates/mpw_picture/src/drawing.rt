@@ -6,6 +6,7 @@ ghost use Rattle.mpw_picture.specs.Text.{rectangle_text, rectangle_of, layer_tex
 ghost use Rattle.mpw_text.specs.Writing.{Adds};
 
 use crate::layers::is_layer;
+use crate::left::put_left;
 use crate::look::{Canvas, put_look};
 use crate::mark::put_marks;
 use crate::picture::Picture;
@@ -141,5 +142,6 @@ pub(crate) fn put_drawing<W: Write>(
 {
     put_frame(writer, picture.window)?;
     put_layers(writer, picture, picture.layers.as_slice())?;
+    put_left(writer, picture)?;
     put_marks(writer, rules, picture)
 }

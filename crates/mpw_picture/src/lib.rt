@@ -1,7 +1,8 @@
 //! Draws what was checked, as SVG: its layers and its markers in a window.
 //!
 //! - A [`Picture`] is a window in nm, the rectangles of shapes in it, and the markers that touch it.
-//! - [`draw`] and [`draw_view`] make one from a snapshot and its markers. The window is [`whole_window`] or [`marker_window`]. A walk visits only what
+//! - [`draw`], [`draw_view`] and [`draw_with`] make one from a snapshot and its markers, the last with the elements that are left out for
+//!   their faults. The window is [`whole_window`] or [`marker_window`]. A walk visits only what
 //!   touches the window.
 //! - [`write_picture`] writes a picture part by part. It takes no memory.
 //!
@@ -16,6 +17,7 @@ mod density;
 mod drawing;
 mod laws;
 mod layers;
+mod left;
 mod legend;
 mod look;
 mod mark;
@@ -30,6 +32,6 @@ mod window;
 mod write;
 
 pub use laws::layers_look_unlike;
-pub use picture::{Mark, Picture, View, draw, draw_view};
+pub use picture::{LeftOut, Mark, Picture, View, draw, draw_view, draw_with};
 pub use window::{marker_window, whole_window};
 pub use write::write_picture;

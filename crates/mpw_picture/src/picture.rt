@@ -1,8 +1,8 @@
 //! The picture, and how it is made.
-ghost use Rattle.std.specs.Prelude.{◌≡◌, IfOk, IsTrue};
+ghost use Rattle.std.specs.Prelude.{◌≡◌, [], IfOk, IsTrue};
 ghost use Rattle.mpw_geom.specs.Plane.{IsBoxInPlane};
 ghost use Rattle.mpw_walk.specs.Window.{do_meet};
-ghost use Rattle.mpw_picture.specs.Drawn.{mark_at, marks_in, IsDrawn, IsPicture};
+ghost use Rattle.mpw_picture.specs.Drawn.{boxes_in, mark_at, marks_in, IsDrawn, IsDrawnWith, IsPicture};
 
 use crate::density::counts_of;
 use crate::layers::layers_of;
@@ -49,6 +49,19 @@ pub struct Picture {
     pub wanted: Option<Key>,
     /// The most markers of a rule that are drawn.
     pub limit: usize,
+    /// The boxes of elements that are left out for their faults, as far as they share a point with the window.
+    pub left_out: Vec<Box2>,
+    /// How many such elements there are, drawn or not.
+    pub left_all: usize,
+}
+
+/// The elements that are left out of what is drawn, for their faults.
+#[derive(Clone, Copy, Drop)]
+pub struct LeftOut<'a> {
+    /// Their boxes, as far as these are known, in nm.
+    pub areas: &'a [Box2],
+    /// How many they are.
+    pub all: usize,
 }
 
 /// A marker in a picture.
@@ -98,7 +111,9 @@ pub fn draw_view(
     view: View,
 ) -> Result<Picture, AllocError>
     requires { IsBoxInPlane view.window }
-    ensures { IfOk result (IsDrawn snapshot.now markers.now view) }
+    ensures drawn { IfOk result (IsDrawn snapshot.now markers.now view) }
+    ensures boxes { IfOk result (λ picture. picture.left_out.items ≡ []) }
+    ensures whole { IfOk result (λ picture. picture.left_all ≡ 0) }
 {
     let window = view.window;
     let rules = snapshot.deck().rules().as_slice();
@@ -114,7 +129,43 @@ pub fn draw_view(
         counts,
         wanted: view.wanted,
         limit: view.limit,
+        left_out: Vec::new(alloc),
+        left_all: 0,
     })
+}
+
+/// The boxes that touch a window, in their order. The only error is out of memory.
+fn boxes_in(alloc: Global, window: Box2, boxes: &[Box2]) -> Result<Vec<Box2>, AllocError>
+    ensures { IfOk result (λ found. found.items ≡ boxes_in window boxes.now) }
+{
+    let mut found = Vec::new(alloc);
+    for area in boxes {
+        if do_meet(*area, window) {
+            found.push(*area)?;
+        }
+    }
+    Ok(found)
+}
+
+/// The same as [`draw_view`], with the boxes of elements that are left out for their faults: those that share a point with the window.
+///
+/// # Errors
+/// Out of memory.
+pub fn draw_with(
+    alloc: Global,
+    snapshot: &Snapshot,
+    markers: &[Marker],
+    left: LeftOut<'_>,
+    view: View,
+) -> Result<Picture, AllocError>
+    requires { IsBoxInPlane view.window }
+    ensures { IfOk result (IsDrawnWith snapshot.now markers.now left.entry.areas.now left.entry.all view) }
+{
+    let boxes = boxes_in(alloc, view.window, left.areas)?;
+    let mut picture = draw_view(alloc, snapshot, markers, view)?;
+    picture.left_out = boxes;
+    picture.left_all = left.all;
+    Ok(picture)
 }
 
 /// The picture of all markers, none of which is selected.

@@ -1,8 +1,10 @@
 //! Writes the whole text of a picture.
+ghost use Rattle.std.specs.Prelude.{◌≤◌, ◌^◌};
 ghost use Rattle.mpw_picture.specs.Text.{paper_text, head_text, picture_text};
 ghost use Rattle.mpw_text.specs.Writing.{Adds};
 
 use crate::drawing::put_drawing;
+use crate::left::{put_left_row, row_count};
 use crate::legend::put_legend;
 use crate::look::put_patterns;
 use crate::part::{Part, put_part};
@@ -16,13 +18,14 @@ use mpw_report::put_name;
 use mpw_text::put;
 use std::io::{self, Write};
 
-/// Writes the height of a picture with `rules` rules.
+/// Writes the height of a picture with `rows` rows in its legend.
 #[tactic(auto, unfolding(crate::specs::Text::paper_text))]
-fn put_paper<W: Write>(writer: &mut W, rules: usize, window: Box2) -> io::Result<()>
-    ensures { Adds W.contents writer.old writer.new result (paper_text rules window) }
+fn put_paper<W: Write>(writer: &mut W, rows: u128, window: Box2) -> io::Result<()>
+    requires { rows ≤ 2 ^ 64 }
+    ensures { Adds W.contents writer.old writer.new result (paper_text rows window) }
 {
     let mut down = Buffer::new();
-    let paper = drawing_height(window) + 188 + 24 * (rules as u128);
+    let paper = drawing_height(window) + 188 + 24 * rows;
     put(writer, &[down.format(paper)])
 }
 
@@ -37,7 +40,7 @@ fn put_head<W: Write>(
     ensures { Adds W.contents writer.old writer.new result (head_text rules.now top.now picture.now) }
 {
     put_part(writer, Part::Head)?;
-    put_paper(writer, rules.len(), picture.window)?;
+    put_paper(writer, row_count(rules.len(), picture), picture.window)?;
     put_part(writer, Part::Title)?;
     put_name(writer, top)?;
     put_part(writer, Part::LayerColours)?;
@@ -62,6 +65,7 @@ fn put_all<W: Write>(
     put_drawing(writer, rules, picture)?;
     put_edges(writer, &picture.window)?;
     put_legend(writer, rules, picture)?;
+    put_left_row(writer, rules.len(), picture)?;
     put_part(writer, Part::End)
 }
 

@@ -1,12 +1,11 @@
 -- The lines of faults, as they are printed.
-use Rattle.std.specs.Prelude.{ℕ, ◌&&◌, nat_le, nat_lt, Bool, false, List, [], ◌++◌, codes, filter, Option, None, Some, unwrap_or, if◌then◌else◌}
+use Rattle.std.specs.Prelude.{ℕ, ◌&&◌, nat_le, nat_lt, Bool, false, List, [], ◌++◌, codes, filter, Option, None, Some, if◌then◌else◌}
 use Rattle.std.specs.List.{flat_map, list_any}
 use Rattle.std.specs.Fmt.{decimal, signed_decimal}
 use Rattle.mpw_faults.specs.Details.{first_point, structure_of}
 use Rattle.mpw_faults.specs.Faults.{faults_of, unit_of}
-use Rattle.mpw_faults.specs.Lifting.{point_of}
+use Rattle.mpw_faults.specs.Lifting.{Read, point_of}
 use Rattle.mpw_faults.specs.declared.found.FaultFound.{FaultFound}
-use Rattle.mpw_faults.specs.declared.lifting.Seen.{Seen}
 use Rattle.mpw_geom.specs.Names.{name_eq}
 use Rattle.mpw_geom.specs.declared.plane.Layer.{Layer}
 use Rattle.mpw_geom.specs.declared.plane.Point.{Point}
@@ -15,8 +14,8 @@ use Rattle.mpw_records.specs.declared.fault.ReadFault.{ReadFault}
 use Rattle.mpw_skipping.specs.Elements.{elements_of}
 use Rattle.mpw_skipping.specs.declared.cut.Cut.{Cut}
 use Rattle.mpw_skipping.specs.declared.span.ElementSpan.{ElementSpan}
-use Rattle.mpw_sources.specs.Seen.{structure_in}
-use Rattle.mpw_sources.specs.Sources.{Source, kept_text, left_fault, left_text, moved_fault, padded}
+use Rattle.mpw_sources.specs.Seen.{read_in, structure_in}
+use Rattle.mpw_sources.specs.Sources.{Source, kept_text, left_fault, left_text, moved_fault, padded, reached_fault, reached_text}
 use Rattle.mpw_sources.specs.declared.fault_line.FaultLine.{FaultLine}
 
 -- ---- what a line shows of a fault
@@ -74,16 +73,6 @@ line_text file f lifted = joined_text file f.fault (placed_text f) lifted
 
 -- ---- the place of an element in a top
 
--- A text that is read, with its unit, its elements, and the name of the top as its record has it.
-pub record Read : Type 0 where
-  pub unit : ℕ
-  pub text : List ℕ
-  pub spans : List ElementSpan
-  pub top : List ℕ
-
-abbrev pub read_of : Seen → Read
-read_of s = record { unit = s.unit; text = s.text.now; spans = s.spans.now; top = s.top.now }
-
 unfoldable pub top_text : (top : List ℕ) → Point → List ℕ
 top_text top p =
     codes ", in "
@@ -115,14 +104,13 @@ padded_for None = []
 padded_for (Some name) = padded name
 
 abbrev pub read_by : Source → (top : Option (List ℕ)) → Read
-read_by s top = record {
-  unit = unwrap_or (unit_of (kept_text s)) 1;
-  text = kept_text s;
-  spans = elements_of (kept_text s);
-  top = padded_for top;
-}
+read_by s top = read_in (kept_text s) (elements_of (kept_text s)) (padded_for top)
 
--- Each fault has its place in the file.
+-- A fault that has its place in the file, of an element of that text.
+abbrev pub below_line : (file : List ℕ) → Read → (top : Option (List ℕ)) → FaultFound → List ℕ
+below_line file r top f =
+    line_text file (line_of r.text f.fault f.element) (lifted_text r top f.element)
+
 abbrev pub kept_line : (file : List ℕ) → Source → Read → (top : Option (List ℕ)) → FaultFound
     → List ℕ
 kept_line file s r top f =
@@ -135,6 +123,25 @@ kept_lines file s r top faults = flat_map (kept_line file s r top) faults
 -- All faults of its elements, under a top if there is one.
 abbrev pub fault_lines : (file : List ℕ) → Source → (top : Option (List ℕ)) → List ℕ
 fault_lines file s top = kept_lines file s (read_by s top) top (faults_of (kept_text s))
+
+-- ---- those of the elements that are left out for their faults
+
+abbrev pub reached_by : Source → (top : Option (List ℕ)) → Read
+reached_by s top = read_in (reached_text s) (elements_of (reached_text s)) (padded_for top)
+
+abbrev pub left_line : (file : List ℕ) → Source → Read → (top : Option (List ℕ)) → FaultFound
+    → List ℕ
+left_line file s r top f =
+    line_text file (line_of r.text (reached_fault s f.fault) f.element)
+    (lifted_text r top f.element)
+
+abbrev pub left_lines : (file : List ℕ) → Source → Read → (top : Option (List ℕ)) → List FaultFound
+    → List ℕ
+left_lines file s r top faults = flat_map (left_line file s r top) faults
+
+-- All of them, in the form in which the faults of a library as it is read are printed.
+abbrev pub left_out_lines : (file : List ℕ) → Source → (top : Option (List ℕ)) → List ℕ
+left_out_lines file s top = left_lines file s (reached_by s top) top s.faulty
 
 -- ---- those of the structures that are left out
 

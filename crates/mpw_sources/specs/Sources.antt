@@ -1,7 +1,9 @@
--- A library's text as it is read, where layers or structures are set aside.
-use Rattle.std.specs.Prelude.{◌≡◌, ◌==◌, ◌%◌, ℕ, List, [], ◌∷◌, ◌++◌, length, Option, None, Some, if◌then◌else◌}
+-- A library's text as it is read, where layers, structures or elements with faults are set aside.
+use Rattle.std.specs.Prelude.{◌≡◌, ◌==◌, ◌%◌, ℕ, Bool, true, false, List, [], ◌∷◌, ◌++◌, length, Option, None, Some, if◌then◌else◌}
 use Rattle.mpw_check.specs.declared.fault.CheckFault.{CheckFault}
 use Rattle.mpw_check.specs.declared.fault.CheckFault.TheVariants as faults
+use Rattle.mpw_faults.specs.LeavingOut.{cuts_of_faults, element_faults}
+use Rattle.mpw_faults.specs.declared.found.FaultFound.{FaultFound}
 use Rattle.mpw_geom.specs.declared.plane.Layer.{Layer}
 use Rattle.mpw_records.specs.declared.fault.ReadFault.{ReadFault}
 use Rattle.mpw_skipping.specs.Cuts.{cuts_of_layers, original, without, without_layers}
@@ -35,7 +37,7 @@ left_place (layer ∷ layers) text at = original (cuts_of_layers (layer ∷ laye
 -- ---- and without some structures
 
 -- A text, the layers that are set aside, and what is cut out of what is left.
-pub record Source : Type 0 where
+pub record Reached : Type 0 where
   pub skip : List Layer
   pub structures : List Cut
   pub text : List ℕ
@@ -52,17 +54,49 @@ abbrev pub cut_place : List Cut → ℕ → ℕ
 cut_place [] at = at
 cut_place (cut ∷ cuts) at = original (cut ∷ cuts) at
 
+-- The text without these structures, and where a byte of it stands in the text.
+abbrev pub reached_of : List Layer → List Cut → List ℕ → List ℕ
+reached_of skip structures text = cut_text structures (left_text skip text)
+
+abbrev pub reached_place_of : List Layer → List Cut → List ℕ → ℕ → ℕ
+reached_place_of skip structures text at = left_place skip text (cut_place structures at)
+
+-- ---- and without the elements that have a fault of their own
+
+-- The same with the elements that are left out for their faults, which stand in the text without these structures.
+pub record Source : Type 0 where
+  pub skip : List Layer
+  pub structures : List Cut
+  pub faulty : List FaultFound
+  pub text : List ℕ
+
+abbrev pub reached_text : Source → List ℕ
+reached_text s = reached_of s.skip s.structures s.text
+
+abbrev pub reached_place : Source → ℕ → ℕ
+reached_place s at = reached_place_of s.skip s.structures s.text at
+
+-- What is kept of a text that is reached, and the cuts.
+pub record IsKept (r : Reached) (faulty : List FaultFound) (cuts : List Cut) (kept : List ℕ) :
+    Type 0 where
+  pub cuts_are : cuts ≡ cuts_of_faults faulty
+  pub is_cut : IsCut cuts (reached_of r.skip r.structures r.text) kept
+
 -- The text as it is read.
 abbrev pub kept_text : Source → List ℕ
-kept_text s = cut_text s.structures (left_text s.skip s.text)
+kept_text s = cut_text (cuts_of_faults s.faulty) (reached_text s)
 
 -- Where a byte of it stands in the text.
 abbrev pub place_in : Source → ℕ → ℕ
-place_in s at = left_place s.skip s.text (cut_place s.structures at)
+place_in s at = reached_place s (cut_place (cuts_of_faults s.faulty) at)
 
 -- A fault of it, with its place in the text.
 abbrev pub moved_fault : Source → ReadFault → ReadFault
 moved_fault s fault = record { code = fault.code; offset = place_in s fault.offset }
+
+-- The same of a fault of the text before the elements with faults are left out.
+abbrev pub reached_fault : Source → ReadFault → ReadFault
+reached_fault s fault = record { code = fault.code; offset = reached_place s fault.offset }
 
 -- The same of a fault of the text without its elements on the layers alone.
 abbrev pub left_fault : Source → ReadFault → ReadFault
@@ -86,9 +120,23 @@ abbrev pub AreCut : Option (List ℕ) → List ℕ → List Cut → Type 0
 AreCut None left cuts = cuts ≡ []
 AreCut (Some top) left cuts = AreUnreached left (padded top) cuts
 
--- The source of a text without the elements on these layers, and the structures that one doesn't reach.
-pub record IsSourceOf (skip : List Layer) (above : Option (List ℕ)) (text : List ℕ)
-    (source : Source) : Type 0 where
+-- The text without the elements on these layers, and the structures that one doesn't reach.
+pub record IsReachedOf (skip : List Layer) (above : Option (List ℕ)) (text : List ℕ)
+    (reached : Reached) : Type 0 where
+  pub layers : reached.skip ≡ skip
+  pub text_is : reached.text ≡ text
+  pub structures : AreCut above (left_text skip text) reached.structures
+
+-- The elements that are left out of a text for their faults, where that is asked for: each that has one when it is read by itself.
+abbrev pub faulty_in : Bool → List ℕ → List FaultFound
+faulty_in false text = []
+faulty_in true text = element_faults text
+
+-- The source of a text without the elements on these layers, the structures that one doesn't reach, and, where it is to be faultless, the
+-- elements that have a fault of their own.
+pub record IsSourceOf (skip : List Layer) (above : Option (List ℕ)) (faultless : Bool)
+    (text : List ℕ) (source : Source) : Type 0 where
   pub layers : source.skip ≡ skip
   pub text_is : source.text ≡ text
   pub structures : AreCut above (left_text skip text) source.structures
+  pub faulty : source.faulty ≡ faulty_in faultless (reached_text source)

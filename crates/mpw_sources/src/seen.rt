@@ -4,10 +4,11 @@ ghost use Rattle.std.specs.String.{string_bytes};
 ghost use Rattle.mpw_faults.specs.Faults.{unit_of};
 ghost use Rattle.mpw_records.specs.Words.{code_word};
 ghost use Rattle.mpw_report.specs.Content.{fault_of};
-ghost use Rattle.mpw_sources.specs.Seen.{area_in, structure_in, told_by, told_faults, told_seen};
+ghost use Rattle.mpw_sources.specs.Seen.{area_in, read_in, structure_in, told_at, told_by, told_faults, told_left, told_left_of, told_left_out, told_seen};
 
-use crate::source::{Source, padded};
-use mpw_faults::{FaultFound, Seen, all_faults, area_in_top, structure_of, unit_of};
+use crate::reached::padded;
+use crate::source::Source;
+use mpw_faults::{FaultFound, Lifts, Seen, all_faults, structure_of, unit_of};
 use mpw_geom::{Box2, Name};
 use mpw_records::Code;
 use mpw_report::Fault;
@@ -44,14 +45,14 @@ pub(crate) fn structure_in(
 /// Where an element lies.
 fn area_in(
     alloc: Global,
-    seen: &Seen<'_>,
+    lifts: &mut Lifts<'_>,
     element: &Option<ElementSpan>,
 ) -> Result<Option<Box2>, AllocError>
-    requires { seen.now.unit ≤ 1000 }
-    ensures { IfOk result (λ area. area ≡ area_in seen.now.unit seen.now.text.now seen.now.spans.now seen.now.top.now element.now) }
+    ensures same { lifts.new ≡ lifts.old }
+    ensures area { IfOk result (λ area. area ≡ area_in lifts.old element.now) }
 {
     match element {
-        Some(element) => area_in_top(alloc, seen, element),
+        Some(element) => lifts.area_in_top(alloc, element),
         None => Ok(None),
     }
 }
@@ -63,49 +64,67 @@ fn word(alloc: Global, code: Code) -> Result<String, AllocError>
     Ok(format!(in alloc; "{code}")?)
 }
 
-/// A fault as it is told.
-fn seen_by(
+/// A fault as it is printed, at that byte of the file.
+fn seen_at(
     alloc: Global,
-    source: &Source<'_>,
-    seen: &Seen<'_>,
+    byte: usize,
+    lifts: &mut Lifts<'_>,
     found: &FaultFound,
 ) -> Result<SeenFault, AllocError>
-    requires { seen.now.unit ≤ 1000 }
-    ensures { IfOk result (λ fault. told_seen fault ≡ told_by source.now seen.now.unit seen.now.text.now seen.now.spans.now seen.now.top.now found.now) }
+    ensures same { lifts.new ≡ lifts.old }
+    ensures told { IfOk result (λ fault. told_seen fault ≡ told_at byte lifts.old found.now) }
 {
     let code = word(alloc, found.fault.code)?;
-    let structure = structure_in(alloc, seen.text, &found.element)?;
-    let area = area_in(alloc, seen, &found.element)?;
-    let moved = source.moved_fault(found.fault);
+    let structure = structure_in(alloc, lifts.text(), &found.element)?;
+    let area = area_in(alloc, lifts, &found.element)?;
     Ok(SeenFault {
         code,
-        byte: moved.offset,
+        byte,
         structure,
         area,
     })
 }
 
-/// These faults as they are told.
+/// These faults of a text as it is read, as they are printed.
 fn all_seen(
     alloc: Global,
     source: &Source<'_>,
-    seen: &Seen<'_>,
+    lifts: &mut Lifts<'_>,
     found: &[FaultFound],
 ) -> Result<Vec<SeenFault>, AllocError>
-    requires { seen.now.unit ≤ 1000 }
-    ensures { IfOk result (λ faults. map told_seen faults.items ≡ map (told_by source.now seen.now.unit seen.now.text.now seen.now.spans.now seen.now.top.now) found.now) }
+    ensures { IfOk result (λ faults. map told_seen faults.items ≡ map (told_by source.now lifts.old) found.now) }
 {
     let mut faults = Vec::new(alloc);
     for fault in found {
+        let byte = source.moved_fault(fault.fault).offset;
         faults
-            .push(seen_by(alloc, source, seen, fault)?)
+            .push(seen_at(alloc, byte, lifts, fault)?)
+            .map_err(AllocError::from)?;
+    }
+    Ok(faults)
+}
+
+/// These faults of elements that are left out for them, as they are printed.
+fn all_left(
+    alloc: Global,
+    source: &Source<'_>,
+    lifts: &mut Lifts<'_>,
+    found: &[FaultFound],
+) -> Result<Vec<SeenFault>, AllocError>
+    ensures { IfOk result (λ faults. map told_seen faults.items ≡ map (told_left source.now lifts.old) found.now) }
+{
+    let mut faults = Vec::new(alloc);
+    for fault in found {
+        let byte = source.reached_fault(fault.fault).offset;
+        faults
+            .push(seen_at(alloc, byte, lifts, fault)?)
             .map_err(AllocError::from)?;
     }
     Ok(faults)
 }
 
 /// The unit of a text, and 1 nm where it isn't read.
-pub(crate) fn unit_or_one(text: &[u8]) -> u16
+fn unit_or_one(text: &[u8]) -> u16
     ensures unit { result ≡ unwrap_or (unit_of text.now) 1 }
     ensures most { result ≤ 1000 }
 {
@@ -113,6 +132,24 @@ pub(crate) fn unit_or_one(text: &[u8]) -> u16
         Some(unit) => unit,
         None => 1,
     }
+}
+
+/// A text with its elements, in which positions are lifted to the top with that name, as its record has it.
+pub(crate) fn lifts_in<'a>(
+    alloc: Global,
+    text: &'a [u8],
+    spans: &'a [ElementSpan],
+    top: &'a [u8],
+) -> Lifts<'a>
+    ensures { result ≡ read_in text.entry.now spans.entry.now top.entry.now }
+{
+    let seen = Seen {
+        unit: unit_or_one(text),
+        text,
+        spans,
+        top,
+    };
+    Lifts::new(alloc, seen)
 }
 
 /// All faults of a library as it is read, as they are told of a check of that structure: the code, the byte in the file, the structure, and
@@ -131,13 +168,42 @@ pub fn faults_seen(
     let found = all_faults(alloc, text)?;
     let spans = elements_of(alloc, text)?;
     let name = padded(alloc, top)?;
-    let seen = Seen {
-        unit: unit_or_one(text),
-        text,
-        spans: spans.as_slice(),
-        top: name.as_slice(),
-    };
-    all_seen(alloc, source, &seen, found.as_slice())
+    let mut lifts = lifts_in(alloc, text, spans.as_slice(), name.as_slice());
+    all_seen(alloc, source, &mut lifts, found.as_slice())
+}
+
+/// The same of these elements that are left out for their faults.
+fn some_left(
+    alloc: Global,
+    source: &Source<'_>,
+    top: &Name,
+    found: &[FaultFound],
+) -> Result<Vec<SeenFault>, AllocError>
+    ensures { IfOk result (λ faults. map told_seen faults.items ≡ told_left_of source.now top.now found.now) }
+{
+    let text = source.reached();
+    let spans = elements_of(alloc, text)?;
+    let name = padded(alloc, top)?;
+    let mut lifts = lifts_in(alloc, text, spans.as_slice(), name.as_slice());
+    all_left(alloc, source, &mut lifts, found)
+}
+
+/// The faults of the elements that are left out for them, as [`faults_seen`] gives those of a library with these elements. If there are none, the
+/// text isn't looked at.
+///
+/// # Errors
+/// Out of memory.
+pub fn left_out_seen(
+    alloc: Global,
+    source: &Source<'_>,
+    top: &Name,
+) -> Result<Vec<SeenFault>, AllocError>
+    ensures { IfOk result (λ faults. map told_seen faults.items ≡ told_left_out source.now top.now) }
+{
+    match source.faulty() {
+        [] => Ok(Vec::new(alloc)),
+        found => some_left(alloc, source, top, found),
+    }
 }
 
 /// A structure's name, where it is known.

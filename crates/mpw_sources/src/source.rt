@@ -1,99 +1,91 @@
-//! A library's text as it is read: without the elements on the layers that are set aside, and without the structures that the checked one
-//! doesn't reach, where that is asked for. `specs/Sources.antt` has what contracts say of it.
+//! A library's text as it is read: without the elements on the layers that are set aside, without the structures that the checked one
+//! doesn't reach, and without the elements that have a fault of their own, as far as that is asked for. `specs/Sources.antt` has what
+//! contracts say of it.
 ghost use Rattle.std.specs.Prelude.{◌≡◌, option_map, IfOk};
-ghost use Rattle.mpw_sources.specs.Sources.{padded, AreCut, IsSourceOf, cut_place, kept_text, left_fault, left_text, moved, moved_fault};
+ghost use Rattle.mpw_sources.specs.Sources.{IsSourceOf, faulty_in, kept_text, left_fault, left_text, moved, moved_fault, reached_fault, reached_text};
 
 use crate::layered::Layered;
+use crate::reached::{Reached, cut_from, cut_place};
 use mpw_check::CheckFault;
+use mpw_faults::{FaultFound, cuts_of_faults, element_faults};
 use mpw_geom::{Layer, Name};
 use mpw_records::ReadFault;
-use mpw_skipping::{Cut, cuts_of_unreached, original, without};
+use mpw_skipping::Cut;
 use std::alloc::{AllocError, Global};
 use std::marker::Model;
 use std::sync::Arc;
 
-/// A library's text, the layers that are set aside, and what is cut out of what is left. Contracts see these.
+/// A library's text, the layers that are set aside, what is cut out of what is left, and the elements that are left out for their faults,
+/// with these. Contracts see all of them.
 pub struct Source<'a> {
-    layered: Layered<'a>,
-    structures: Vec<Cut>,
-    /// What is read: what is left itself where no structures are cut out.
+    reached: Reached<'a>,
+    faulty: Vec<FaultFound>,
+    /// What is cut out for these faults.
+    cuts: Vec<Cut>,
+    /// What is read: what is reached itself where nothing is cut out.
     kept: Arc<Vec<u8>>,
 }
 
 impl Drop for Source<'_> {
     fn drop(self) {
         let Source {
-            layered,
-            structures,
+            reached,
+            faulty,
+            cuts,
             kept,
         } = self;
-        drop(layered);
-        drop(structures);
+        drop(reached);
+        drop(faulty);
+        drop(cuts);
         drop(kept);
     }
 }
 
 impl<'a> Model for Source<'a> {
-    ghost use Rattle.mpw_sources.specs.Sources.{Source, IsCut, left_text};
+    ghost use Rattle.mpw_sources.specs.Sources.{Source, IsKept};
 
     ghost Value = { Source };
 
-    ghost view = { λ s. record { skip = s.layered.skip; structures = s.structures.items; text = s.layered.text } };
+    ghost view = { λ s. record { skip = s.reached.skip; structures = s.reached.structures; faulty = s.faulty.items; text = s.reached.text } };
 
-    ghost invariant = { λ s. IsCut s.structures.items (left_text s.layered.skip s.layered.text) s.kept.value.items };
+    ghost invariant = { λ s. IsKept s.reached s.faulty.items s.cuts.items s.kept.value.items };
 }
 
-/// A name as it stands in a record: with a NUL where its number of bytes is odd.
-pub(crate) fn padded(alloc: Global, name: &Name) -> Result<Vec<u8>, AllocError>
-    ensures { IfOk result (λ bytes. bytes.items ≡ padded name.now) }
+/// The faults of a text's elements, where these are to be left out; else none.
+fn faulty_in(alloc: Global, faultless: bool, text: &[u8]) -> Result<Vec<FaultFound>, AllocError>
+    ensures { IfOk result (λ found. found.items ≡ faulty_in faultless text.now) }
 {
-    let bytes = name.as_bytes();
-    let mut copy = Vec::new(alloc);
-    copy.extend_from_slice(bytes)?;
-    if bytes.len() % 2 == 1 {
-        copy.push(0)?;
-    }
-    Ok(copy)
-}
-
-/// The cuts of the structures that the one of that name doesn't reach; none where no name is given.
-fn cuts_for(alloc: Global, above: Option<&Name>, text: &[u8]) -> Result<Vec<Cut>, AllocError>
-    ensures { IfOk result (λ cuts. AreCut (option_map (λ name. name.now) above.entry) text.now cuts.items) }
-{
-    match above {
-        Some(top) => {
-            let name = padded(alloc, top)?;
-            cuts_of_unreached(alloc, text, name.as_slice())
-        }
-        None => Ok(Vec::new(alloc)),
+    if faultless {
+        element_faults(alloc, text)
+    } else {
+        Ok(Vec::new(alloc))
     }
 }
 
 impl<'a> Source<'a> {
-    /// The source of a text, without the elements on these layers, and without the structures that the one of that name doesn't reach.
-    /// Where something is left out, it takes what is left besides.
+    /// The source of a text, without the elements on these layers, without the structures that the one of that name doesn't reach, and,
+    /// where it is to be faultless, without the elements that have a fault of their own. Where something is left out, it takes what is
+    /// left besides.
     ///
     /// # Errors
-    /// Want of memory.
+    /// Out of memory.
     pub fn new(
         alloc: Global,
         skip: &'a [Layer],
         above: Option<&Name>,
+        faultless: bool,
         text: Vec<u8>,
     ) -> Result<Source<'a>, AllocError>
-        ensures { IfOk result (IsSourceOf skip.entry.now (option_map (λ name. name.now) above.entry) text.items) }
+        ensures { IfOk result (IsSourceOf skip.entry.now (option_map (λ name. name.now) above.entry) faultless text.items) }
     {
-        let layered = Layered::new(alloc, skip, text)?;
-        let structures = cuts_for(alloc, above, layered.left().as_slice())?;
-        let kept = if structures.is_empty() {
-            layered.left().clone()?
-        } else {
-            let kept = without(alloc, layered.left().as_slice(), structures.as_slice())?;
-            Arc::new(alloc, kept)?
-        };
+        let reached = Reached::new(alloc, skip, above, text)?;
+        let faulty = faulty_in(alloc, faultless, reached.shared().as_slice())?;
+        let cuts = cuts_of_faults(alloc, faulty.as_slice())?;
+        let kept = cut_from(alloc, reached.shared(), cuts.as_slice())?;
         Ok(Source {
-            layered,
-            structures,
+            reached,
+            faulty,
+            cuts,
             kept,
         })
     }
@@ -102,14 +94,21 @@ impl<'a> Source<'a> {
     pub fn text(&self) -> &[u8]
         ensures { result.now ≡ self.now.text }
     {
-        self.layered.text()
+        self.reached.text()
     }
 
     /// The text without the elements on the layers that are set aside.
     pub fn left(&self) -> &[u8]
         ensures { result.now ≡ left_text self.now.skip self.now.text }
     {
-        self.layered.left().as_slice()
+        self.reached.left()
+    }
+
+    /// The same without the structures that are cut out.
+    pub fn reached(&self) -> &[u8]
+        ensures { result.now ≡ reached_text self.now }
+    {
+        self.reached.shared().as_slice()
     }
 
     /// The text as it is read.
@@ -130,26 +129,34 @@ impl<'a> Source<'a> {
     pub fn structures(&self) -> &[Cut]
         ensures { result.now ≡ self.now.structures }
     {
-        self.structures.as_slice()
+        self.reached.structures()
     }
 
-    /// Where a byte of the text as it is read stands in the one that is left.
-    fn cut_place(&self, at: usize) -> usize
-        ensures { result ≡ cut_place self.now.structures at }
+    /// The elements that are left out for their faults, with these: their bytes are in the text that is reached.
+    pub fn faulty(&self) -> &[FaultFound]
+        ensures { result.now ≡ self.now.faulty }
     {
-        match self.structures.as_slice() {
-            [] => at,
-            cuts => original(cuts, at),
-        }
+        self.faulty.as_slice()
     }
 
     /// A fault of the text as it is read, with its place in the file.
     pub fn moved_fault(&self, fault: ReadFault) -> ReadFault
         ensures { result ≡ moved_fault self.now fault }
     {
+        let at = cut_place(self.cuts.as_slice(), fault.offset);
         ReadFault {
             code: fault.code,
-            offset: self.layered.place(self.cut_place(fault.offset)),
+            offset: self.reached.place(at),
+        }
+    }
+
+    /// A fault of the text that is reached, with its place in the file.
+    pub fn reached_fault(&self, fault: ReadFault) -> ReadFault
+        ensures { result ≡ reached_fault self.now fault }
+    {
+        ReadFault {
+            code: fault.code,
+            offset: self.reached.place(fault.offset),
         }
     }
 
@@ -159,7 +166,7 @@ impl<'a> Source<'a> {
     {
         ReadFault {
             code: fault.code,
-            offset: self.layered.place(fault.offset),
+            offset: self.reached.left_place(fault.offset),
         }
     }
 
@@ -173,8 +180,8 @@ impl<'a> Source<'a> {
         }
     }
 
-    /// The elements that are left out, for those who tell of them.
+    /// The elements that are left out on skipped layers, for those who tell of them.
     pub fn layered(&self) -> &Layered<'a> {
-        &self.layered
+        self.reached.layered()
     }
 }

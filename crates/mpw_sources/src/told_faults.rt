@@ -1,23 +1,24 @@
 //! The faults of a library's elements, and what is left out of it, printed on the standard error. `specs/FaultLines.antt` has what contracts
 //! say of the lines.
-ghost use Rattle.std.specs.Prelude.{◌≡◌, ◌≤◌, IfOk};
+ghost use Rattle.std.specs.Prelude.{◌≡◌, ◌++◌, IfOk};
 ghost use Rattle.std.specs.String.{string_bytes};
-ghost use Rattle.mpw_sources.specs.FaultLines.{cut_faults, cut_lines, element_lifted, fault_lines, is_cut, is_in, is_name, kept_lines, lifted_text, padded_for, point_text_in, read_of, top_text};
+ghost use Rattle.mpw_sources.specs.FaultLines.{below_line, cut_faults, cut_lines, element_lifted, fault_lines, is_cut, is_in, is_name, kept_lines, left_lines, left_out_lines, lifted_text, padded_for, point_text_in, top_text};
 
 use crate::fault_line::{add_line, line_of};
-use crate::seen::unit_or_one;
-use crate::source::{Source, padded};
-use mpw_faults::{FaultFound, Seen, all_faults, point_in_top, structure_of};
+use crate::reached::padded;
+use crate::seen::lifts_in;
+use crate::source::Source;
+use mpw_faults::{FaultFound, Lifts, all_faults, structure_of};
 use mpw_geom::{Name, Point};
 use mpw_skipping::{Cut, ElementSpan, elements_of};
 use std::alloc::{AllocError, Global};
 use std::io;
 
 /// A text that is read, and the structure in whose coordinates points are printed, if there is one.
-#[derive(Clone, Copy, Drop)]
-struct Below<'a> {
-    seen: &'a Seen<'a>,
-    top: &'a Option<Name>,
+#[derive(Drop)]
+struct Below<'a, 'b> {
+    lifts: Lifts<'a>,
+    top: &'b Option<Name>,
 }
 
 /// Whether a name is that of the top.
@@ -52,34 +53,51 @@ fn point_text_in(alloc: Global, top: &Name, point: Option<Point>) -> Result<Stri
 /// Where the first point of an element lies in a top, if it isn't the top's own.
 fn element_lifted(
     alloc: Global,
-    seen: &Seen<'_>,
+    lifts: &mut Lifts<'_>,
     top: &Name,
     element: &ElementSpan,
 ) -> Result<String, AllocError>
-    requires { seen.now.unit ≤ 1000 }
-    ensures { IfOk result (λ text. string_bytes text ≡ element_lifted (read_of seen.now) top.now element.now) }
+    ensures same { lifts.new ≡ lifts.old }
+    ensures text { IfOk result (λ text. string_bytes text ≡ element_lifted lifts.old top.now element.now) }
 {
-    let structure = structure_of(alloc, seen.text, element.structure)?;
+    let structure = structure_of(alloc, lifts.text(), element.structure)?;
     if is_name(&structure, top) {
         return Ok(String::new(alloc));
     }
-    let point = point_in_top(alloc, seen, element)?;
+    let point = lifts.point_in_top(alloc, element)?;
     point_text_in(alloc, top, point)
 }
 
 /// The same, if there are a top and an element.
 fn lifted_text(
     alloc: Global,
-    below: &Below<'_>,
+    lifts: &mut Lifts<'_>,
+    top: &Option<Name>,
     element: &Option<ElementSpan>,
 ) -> Result<String, AllocError>
-    requires { below.now.seen.now.unit ≤ 1000 }
-    ensures { IfOk result (λ text. string_bytes text ≡ lifted_text (read_of below.now.seen.now) below.now.top.now element.now) }
+    ensures same { lifts.new ≡ lifts.old }
+    ensures text { IfOk result (λ text. string_bytes text ≡ lifted_text lifts.old top.now element.now) }
 {
-    match (below.top, element) {
-        (Some(top), Some(element)) => element_lifted(alloc, below.seen, top, element),
+    match (top, element) {
+        (Some(top), Some(element)) => element_lifted(alloc, lifts, top, element),
         _ => Ok(String::new(alloc)),
     }
+}
+
+/// Adds the line of a fault of a text, which has its place in the file.
+fn add_fault(
+    alloc: Global,
+    text: &mut String,
+    file: &str,
+    below: &mut Below<'_, '_>,
+    found: &FaultFound,
+) -> Result<(), AllocError>
+    ensures same { below.new ≡ below.old }
+    ensures text { IfOk result (λ _. string_bytes text.new ≡ string_bytes text.old ++ below_line file.now below.old.lifts below.old.top.now found.now) }
+{
+    let line = line_of(alloc, below.lifts.text(), found.fault, &found.element)?;
+    let lifted = lifted_text(alloc, &mut below.lifts, below.top, &found.element)?;
+    add_line(alloc, text, file, &line, lifted.as_str())
 }
 
 /// The lines of faults of a library as it is read.
@@ -87,18 +105,18 @@ fn kept_lines(
     alloc: Global,
     file: &str,
     source: &Source<'_>,
-    below: &Below<'_>,
+    below: &mut Below<'_, '_>,
     faults: &[FaultFound],
 ) -> Result<String, AllocError>
-    requires { below.now.seen.now.unit ≤ 1000 }
-    ensures { IfOk result (λ text. string_bytes text ≡ kept_lines file.now source.now (read_of below.now.seen.now) below.now.top.now faults.now) }
+    ensures { IfOk result (λ text. string_bytes text ≡ kept_lines file.now source.now below.old.lifts below.old.top.now faults.now) }
 {
     let mut text = String::new(alloc);
     for found in faults {
-        let fault = source.moved_fault(found.fault);
-        let line = line_of(alloc, below.seen.text, fault, &found.element)?;
-        let lifted = lifted_text(alloc, below, &found.element)?;
-        add_line(alloc, &mut text, file, &line, lifted.as_str())?;
+        let found = FaultFound {
+            fault: source.moved_fault(found.fault),
+            element: found.element,
+        };
+        add_fault(alloc, &mut text, file, below, &found)?;
     }
     Ok(text)
 }
@@ -131,17 +149,70 @@ pub fn fault_lines(
     let faults = all_faults(alloc, text)?;
     let spans = elements_of(alloc, text)?;
     let name = padded_for(alloc, top)?;
-    let seen = Seen {
-        unit: unit_or_one(text),
-        text,
-        spans: spans.as_slice(),
-        top: name.as_slice(),
-    };
-    let below = Below { seen: &seen, top };
-    kept_lines(alloc, file, source, &below, faults.as_slice())
+    let lifts = lifts_in(alloc, text, spans.as_slice(), name.as_slice());
+    let mut below = Below { lifts, top };
+    kept_lines(alloc, file, source, &mut below, faults.as_slice())
 }
 
-/// Prints these lines on the standard error.
+/// The lines of these elements that are left out for their faults.
+fn left_lines(
+    alloc: Global,
+    file: &str,
+    source: &Source<'_>,
+    below: &mut Below<'_, '_>,
+    faults: &[FaultFound],
+) -> Result<String, AllocError>
+    ensures { IfOk result (λ text. string_bytes text ≡ left_lines file.now source.now below.old.lifts below.old.top.now faults.now) }
+{
+    let mut text = String::new(alloc);
+    for found in faults {
+        let found = FaultFound {
+            fault: source.reached_fault(found.fault),
+            element: found.element,
+        };
+        add_fault(alloc, &mut text, file, below, &found)?;
+    }
+    Ok(text)
+}
+
+/// A line for each element that is left out for its fault, in order, of the form of [`fault_lines`].
+///
+/// # Errors
+/// Out of memory.
+pub fn left_out_lines(
+    alloc: Global,
+    file: &str,
+    source: &Source<'_>,
+    top: &Option<Name>,
+) -> Result<String, AllocError>
+    ensures { IfOk result (λ text. string_bytes text ≡ left_out_lines file.now source.now top.now) }
+{
+    let text = source.reached();
+    let spans = elements_of(alloc, text)?;
+    let name = padded_for(alloc, top)?;
+    let lifts = lifts_in(alloc, text, spans.as_slice(), name.as_slice());
+    let mut below = Below { lifts, top };
+    left_lines(alloc, file, source, &mut below, source.faulty())
+}
+
+/// Prints these lines on the standard error; nothing where no element is left out for a fault.
+///
+/// # Errors
+/// Out of memory, or that of the standard error.
+pub fn tell_faulty(
+    rt: &HostRuntime,
+    file: &str,
+    source: &Source<'_>,
+    top: &Option<Name>,
+) -> io::Result<()> {
+    if source.faulty().is_empty() {
+        return Ok(());
+    }
+    let lines = left_out_lines(rt.alloc(), file, source, top)?;
+    eprint!(rt; "{}", lines.as_str())
+}
+
+/// Prints the lines of [`fault_lines`] on the standard error.
 ///
 /// # Errors
 /// Out of memory, or that of the standard error.

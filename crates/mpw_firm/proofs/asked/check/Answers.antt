@@ -1,11 +1,15 @@
-use Rattle.std.proofs.Common.{◌∙◌, List, ℕ, Option, Some, ap, length, map, subst}
+use Rattle.std.proofs.Common.{◌∙◌, ◌+◌, ◌-◌, ◌^◌, min, List, ℕ, Option, Some, ap, length, map, subst, sym}
+use Rattle.std.proofs.lemmas.List.{length-map}
 use Rattle.std.specs.String.{string_bytes}
 use Rattle.mpw_outputs.specs.Outputs.{Kept}
-use Rattle.mpw_report.specs.Content.{Noted, note_of}
+use Rattle.mpw_report.specs.Content.{Noted, Told, fault_of, note_of}
+use Rattle.mpw_sources.specs.Notes.{notes_of}
+use Rattle.mpw_sources.specs.Seen.{told_seen}
 use Rattle.mpw_tiles.specs.Snapshots.{Snapshot}
 use Rattle.mpw_firm.specs.Came.{PutsAll, shown_by}
 use Rattle.mpw_firm.specs.Held.{IsFoundOf}
 use Rattle.mpw_firm.proofs.Flat.{flat_of}
+use Rattle.mpw_firm.proofs.Capped.{capped_more}
 use Rattle.mpw_firm.proofs.asked.check.Goals as goal
 
 pub found_in-requires-clause-alone : goal.found_in-requires-clause-alone
@@ -23,6 +27,13 @@ returns g c =
     let begun = g.O.Outputs.kept c.drawn_by.new.outputs in
     let new = g.O.Outputs.kept c.write_all.new.outputs in
     let told = map note_of c.as_slice-told.result.now in
+    let faults = map fault_of c.as_slice-faults.result.now in
+    let left_out = map told_seen drawn.left_out.items in
+    let same = ap (map fault_of) c.as_slice-faults.ensures.value ∙ c.in_ok-left_out.ensures
+    ∙ ap (map told_seen) c.as_slice.ensures.value in
+    let many = sym (length-map c.as_slice-faults.result.now fault_of)
+    ∙ ap (λ (ts : List Told). length ts) same
+    ∙ length-map drawn.left_out.items told_seen in
     let enough = subst (λ (e : Option ℕ). IsFoundOf e (length drawn.layout.deck.rules)
     c.in_ok-found.field-0 book) c.enough_for.ensures is.2 in
     let written = subst (λ (file : List ℕ). PutsAll options
@@ -34,6 +45,7 @@ returns g c =
       limit = choices.limit;
       notes = told;
       summary = choices.summary;
+      faults = faults;
     }) begun new) c.as_str-file.ensures.value (c.in_ok-write_all.ensures book enough) in
     let noted = subst (λ (notes : List Noted). PutsAll options
     (record {
@@ -44,19 +56,33 @@ returns g c =
       limit = choices.limit;
       notes = notes;
       summary = choices.summary;
+      faults = faults;
     }) begun new)
     (ap (map note_of) c.as_slice-told.ensures.value ∙ c.in_ok-notes.ensures) written in
+    let left = subst (λ (ts : List Told). PutsAll options
+    (record {
+      original = Some (string_bytes options.file);
+      top = drawn.top;
+      layout = drawn.layout;
+      book = book;
+      limit = choices.limit;
+      notes = notes_of drawn.layout;
+      summary = choices.summary;
+      faults = ts;
+    }) begun new) same noted in
     record {
       deck = c.in_ok-drawn.ensures.read.0;
       library = c.in_ok-drawn.ensures.read.1;
       drawn = drawn;
       book = book;
       read = read;
-      looked = c.in_ok-look.ensures.looked;
+      looked = c.in_ok-look_at.ensures;
       markers = is.1;
       flat = flat_of c.markers_are_flat.ensures options.top choices c.in_ok-drawn.ensures.read.0
           c.in_ok-drawn.ensures.read.1 drawn book read is.1;
-      count = is.2.all;
+      count = capped_more (length book) (length drawn.left_out.items) c.in_ok-found.field-0.all _
+          is.2.all (c.saturating_add.ensures
+          ∙ ap (λ (n : ℕ). min (c.in_ok-found.field-0.all + n) (2 ^ 64 - 1)) many);
       kept = subst (λ (old : Option (List Kept)). PutsAll options
-          (shown_by options choices drawn book) old new) c.in_ok-drawn.ensures.kept noted;
+          (shown_by options choices drawn book) old new) c.in_ok-drawn.ensures.kept left;
     }

@@ -1,12 +1,13 @@
-use Rattle.std.proofs.Common.{List, length, option_map, subst}
+use Rattle.std.proofs.Common.{List, length, map, option_map, subst}
 use Rattle.std.proofs.lemmas.Result.{IfOk-weaker}
 use Rattle.std.specs.String.{string_bytes}
 use Rattle.mpw_markers.specs.declared.marker.Marker.{Marker}
 use Rattle.mpw_outputs.proofs.Growth.{grows_named}
-use Rattle.mpw_picture.specs.Drawn.{IsDrawn}
+use Rattle.mpw_picture.specs.Drawn.{IsDrawnWith}
 use Rattle.mpw_firm.specs.Held.{enough_listed}
 use Rattle.mpw_firm.specs.Keys.{IsViewOf}
-use Rattle.mpw_firm.specs.Shown.{most_of}
+use Rattle.mpw_firm.specs.Shown.{areas_of, most_of}
+use Rattle.mpw_report.specs.Content.{fault_of}
 use Rattle.mpw_firm.proofs.HeldTexts.{all_for, all_of, all_wanted}
 use Rattle.mpw_firm.proofs.asked.write_all.Goals as goal
 
@@ -16,6 +17,7 @@ returns g c = λ book is.
     let report = option_map string_bytes c.args.options.now.report in
     let rules = length checked.layout.now.deck.rules in
     let found = checked.found.now in
+    let faults = map fault_of checked.faults.now in
     let all =
     all_wanted _ _ report checked.summary checked.limit rules found book c.in-Some.is is in
     let same = all_of rules found book all in
@@ -31,7 +33,8 @@ returns g c = λ book is.
       view,
       p.0,
       seen,
-      subst (λ (ms : List Marker). IsDrawn checked.layout.now ms view p.0) same p.1,
+      subst (λ (ms : List Marker). IsDrawnWith checked.layout.now ms (areas_of faults) (length faults)
+          view p.0) same p.1,
       grows_named _ _ _ _ _ _ _ c.as_str-file.ensures.value listed p.2,
     ))
     c.picture.ensures.kept

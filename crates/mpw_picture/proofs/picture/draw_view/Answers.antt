@@ -6,8 +6,8 @@ use Rattle.mpw_picture.specs.Density.{counts_of}
 use Rattle.mpw_picture.specs.Looks.{layers_of}
 use Rattle.mpw_picture.proofs.picture.draw_view.Goals as goal
 
-pub returns : goal.returns
-returns c =
+pub returns-clause-drawn : goal.returns-clause-drawn
+returns-clause-drawn c =
     let s = c.args.snapshot.now in
     let w = c.args.view.window in
     let limit = c.args.view.limit in

@@ -6,7 +6,7 @@ use Rattle.mpw_picture.proofs.write.put_head.Goals as goal
 pub returns : goal.returns
 unfolding head_text
 returns g c =
-    adds_same _ _ _ _ _ (rw c.as_slice.ensures.value refl)
+    adds_same _ _ _ _ _ (rw (c.as_slice.ensures.value, c.row_count.ensures.count) refl)
     (adds_more _ _ _ _ _ _ _ _ c.in_ok-put_patterns.was
     (adds_more _ _ _ _ _ _ _ _ c.in_ok-put_part-5.was
     (adds_more _ _ _ _ _ _ _ _ c.in_ok-put_part-4.was

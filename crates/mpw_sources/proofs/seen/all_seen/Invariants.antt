@@ -4,6 +4,5 @@ use Rattle.mpw_sources.proofs.seen.all_seen.Given as goal
 
 abbrev pub invariant-loop-fault : goal.invariant-loop-fault
 invariant-loop-fault l =
-    map told_seen l.faults.items
-    ≡ map (told_by l.source l.seen.unit l.seen.text.now l.seen.spans.now l.seen.top.now)
-    (take l.fault-index l.found)
+    (l.lifts ≡ l.initial.lifts)
+    × (map told_seen l.faults.items ≡ map (told_by l.source l.lifts) (take l.fault-index l.found))

@@ -1,7 +1,7 @@
 use Rattle.std.proofs.Common.{◌≡◌, drop, length}
 use Rattle.mpw_records.specs.Records.{outcomes_of}
 use Rattle.mpw_faults.specs.Lifting.{named_in}
-use Rattle.mpw_faults.proofs.lifting.named_in.Given as goal
+use Rattle.mpw_faults.proofs.way.named_in.Given as goal
 
 -- no record so far is SNAME or ENDEL
 abbrev pub invariant-loop-outcome : goal.invariant-loop-outcome
