@@ -9,7 +9,7 @@ use crate::desk::new_desk;
 use anyhow::Result;
 use std::sync::Wait;
 use std::thread::Threads;
-use std::time::Clock;
+use std::time::Instant;
 
 /// The plan of the small form.
 const SMALL: Plan = Plan {
@@ -25,27 +25,34 @@ fn number(words: &[String], place: usize, default: u32) -> u32 {
     }
 }
 
+/// Calls a second.
+fn rate(calls: usize, nanoseconds: u128) -> u128 {
+    match nanoseconds {
+        0 => 0,
+        nanoseconds => (calls as u128).saturating_mul(1_000_000_000) / nanoseconds,
+    }
+}
+
 /// Asks as planned, and prints how many calls the desk answered.
-fn ask<R: Threads + Wait + Clock + Sync>(
+fn ask<R: Threads + Wait + Sync>(
     rt: &HostRuntime,
     threads: &R,
     plan: Plan,
     still: bool,
 ) -> Result<()> {
     let core = new_desk(rt.alloc())?;
-    let Some(asked) = ask_in_threads(threads, rt.alloc(), core, plan)? else {
-        return Ok(println!(rt; "not all were asked")?);
-    };
-    let calls = asked.calls;
-    if still {
-        Ok(println!(rt; "{calls} calls")?)
-    } else {
-        Ok(println!(rt; "{calls} calls, {} a second", asked.rate())?)
+    let start = Instant::now(rt)?;
+    let calls = ask_in_threads(threads, rt.alloc(), core, plan)?;
+    let taken = start.elapsed(rt)?.as_nanos();
+    match calls {
+        None => Ok(println!(rt; "not all were asked")?),
+        Some(calls) if still => Ok(println!(rt; "{calls} calls")?),
+        Some(calls) => Ok(println!(rt; "{calls} calls, {} a second", rate(calls, taken))?),
     }
 }
 
 /// Asks as the words say; without words four threads ask 25,000 times each.
-pub fn run<R: Threads + Wait + Clock + Sync>(
+pub fn run<R: Threads + Wait + Sync>(
     rt: &HostRuntime,
     threads: &R,
     words: &[String],
@@ -58,6 +65,6 @@ pub fn run<R: Threads + Wait + Clock + Sync>(
 }
 
 /// Asks as the plan of the small form says, and prints no times.
-pub fn run_still<R: Threads + Wait + Clock + Sync>(rt: &HostRuntime, threads: &R) -> Result<()> {
+pub fn run_still<R: Threads + Wait + Sync>(rt: &HostRuntime, threads: &R) -> Result<()> {
     ask(rt, threads, SMALL, true)
 }

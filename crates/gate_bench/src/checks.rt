@@ -15,12 +15,11 @@ fn answer(rt: &HostRuntime, shapes: &mut Shapes, line: &str, still: bool) -> Res
     let Some(pieces) = shapes.answer(rt.alloc(), line)? else {
         return Ok(());
     };
-    let taken = start.elapsed(rt)?.as_millis();
     if still {
-        Ok(println!(rt; "{line}: {pieces} pieces")?)
-    } else {
-        Ok(println!(rt; "{line}: {pieces} pieces, {taken} ms")?)
+        return Ok(println!(rt; "{line}: {pieces} pieces")?);
     }
+    let taken = start.elapsed(rt)?.as_millis();
+    Ok(println!(rt; "{line}: {pieces} pieces, {taken} ms")?)
 }
 
 /// Takes the lines of the text in turn.

@@ -14,7 +14,7 @@ use mpw_tiles::Snapshot;
 use std::alloc::Global;
 use std::fs;
 use std::thread::Threads;
-use std::time::{Clock, Instant};
+use std::time::Instant;
 
 /// The greatest side of a tile, in nm.
 const WHOLE: &str = "1073741824";
@@ -23,8 +23,8 @@ const WHOLE: &str = "1073741824";
 const SAMPLE_MOST: &str = "4";
 
 /// The book of the snapshot by columns.
-fn by_columns(
-    rt: &(impl Threads + Sync),
+fn by_columns<T: Threads + Sync>(
+    threads: &T,
     alloc: Global,
     snapshot: &Snapshot,
     most: u32,
@@ -32,30 +32,28 @@ fn by_columns(
     if snapshot.shelf().submissions().len() != 1 {
         bail!("one submission");
     }
-    Ok(check_columns(rt, alloc, snapshot, most, &mut Silent)?)
+    Ok(check_columns(threads, alloc, snapshot, most, &mut Silent)?)
 }
 
 /// The book of the snapshot by tiles.
-fn by_tiles(rt: &(impl Threads + Sync), alloc: Global, snapshot: &Snapshot) -> Result<Book> {
+fn by_tiles<T: Threads + Sync>(threads: &T, alloc: Global, snapshot: &Snapshot) -> Result<Book> {
     let tiles = tile_count(snapshot).context("at most 4096 tiles")?;
-    let lists = check_tiles(rt, alloc, snapshot, 0, tiles, &mut Silent)?;
+    let lists = check_tiles(threads, alloc, snapshot, 0, tiles, &mut Silent)?;
     Ok(stitch(alloc, &lists)?)
 }
 
-/// Checks the library, and prints what was found.
-fn check(
-    rt: &(impl Print + AllocGlobal + Clock + Threads + Sync),
-    text: &[u8],
+/// Checks a snapshot, and prints what was found.
+fn check<T: Threads + Sync>(
+    rt: &HostRuntime,
+    threads: &T,
+    snapshot: &Snapshot,
     way: &str,
-    side: &str,
     still: bool,
 ) -> Result<()> {
-    let snapshot = snapshot(rt.alloc(), text, side)?;
     let start = Instant::now(rt)?;
-    let book = if way == "tiles" {
-        by_tiles(rt, rt.alloc(), &snapshot)?
-    } else {
-        by_columns(rt, rt.alloc(), &snapshot, way.parse()?)?
+    let book = match way.parse::<u32>() {
+        Ok(most) => by_columns(threads, rt.alloc(), snapshot, most)?,
+        Err(_) => by_tiles(threads, rt.alloc(), snapshot)?,
     };
     let taken = start.elapsed(rt)?.as_millis();
     if still {
@@ -63,26 +61,23 @@ fn check(
     } else {
         println!(rt; "{} markers: {taken} ms", book.len())?;
     }
-    print_rules(rt, snapshot.deck().rules(), book.as_slice())
+    Ok(print_rules(rt, snapshot.deck().rules(), book.as_slice())?)
 }
 
 /// Checks the library of a file as the words say.
-pub fn run(
-    rt: &HostRuntime,
-    threads: &(impl Print + AllocGlobal + Clock + Threads + Sync),
-    words: &[String],
-) -> Result<()> {
+pub fn run<T: Threads + Sync>(rt: &HostRuntime, threads: &T, words: &[String]) -> Result<()> {
     let (path, way, side) = match words {
         [path, way] => (path, way, WHOLE),
         [path, way, side] => (path, way, side.as_str()),
         _ => bail!("FILE MOST, or FILE tiles SIDE"),
     };
-    let text = fs::read(rt, path.as_str())?;
-    check(threads, &text, way.as_str(), side, false)
+    let snapshot = snapshot(rt.alloc(), &fs::read(rt, path.as_str())?, side)?;
+    check(rt, threads, &snapshot, way.as_str(), false)
 }
 
 /// Checks the sample, and prints no times.
-pub fn run_still(rt: &(impl Print + AllocGlobal + Clock + Threads + Sync)) -> Result<()> {
+pub fn run_still<T: Threads + Sync>(rt: &HostRuntime, threads: &T) -> Result<()> {
     let text = text_of_library(rt.alloc(), SAMPLE)?;
-    check(rt, &text, SAMPLE_MOST, SAMPLE_SIDE, true)
+    let snapshot = snapshot(rt.alloc(), &text, SAMPLE_SIDE)?;
+    check(rt, threads, &snapshot, SAMPLE_MOST, true)
 }

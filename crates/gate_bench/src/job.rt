@@ -15,53 +15,49 @@ use gate_samples::text_of_library;
 use mpw_tiles::Snapshot;
 use std::fs;
 use std::thread::Threads;
-use std::time::{Clock, Instant};
+use std::time::Instant;
 
 /// Runs the snapshot, and prints each part.
-fn run_snapshot(
-    rt: &(impl Print + AllocGlobal + Clock + Threads + Sync),
+fn run_snapshot<T: Threads + Sync>(
+    rt: &HostRuntime,
+    threads: &T,
     snapshot: &Snapshot,
-    threads: &str,
+    on: &str,
     still: bool,
 ) -> Result<()> {
-    let cut = timed::cut(rt, snapshot, still)?;
-    let jobs = parts::jobs(rt.alloc(), snapshot, cut.windows())?;
-    let answers = timed::done(rt, &jobs, threads, still)?;
+    let jobs = timed::jobs(rt, snapshot, still)?;
+    let answers = timed::done(rt, threads, &jobs, on, still)?;
     let book = timed::stitched(rt, &answers, still)?;
-    print_rules(rt, snapshot.deck().rules(), book.as_slice())
+    Ok(print_rules(rt, snapshot.deck().rules(), book.as_slice())?)
 }
 
-/// Reads a library and runs it, and prints each part.
-fn run_text(
-    rt: &(impl Print + AllocGlobal + Clock + Threads + Sync),
-    text: &[u8],
-    side: &str,
-    threads: &str,
-    still: bool,
-) -> Result<()> {
+/// Reads the library of a text with tiles of that side, and prints that it was read.
+fn read(rt: &HostRuntime, text: &[u8], side: &str, still: bool) -> Result<Snapshot> {
     let start = Instant::now(rt)?;
     let snapshot = snapshot(rt.alloc(), text, side)?;
     timed::part(rt, "read", &start, still)?;
-    run_snapshot(rt, &snapshot, threads, still)
+    Ok(snapshot)
 }
 
 /// Runs the library of a file as the words say.
-pub fn run(
-    rt: &HostRuntime,
-    threads: &(impl Print + AllocGlobal + Clock + Threads + Sync),
-    words: &[String],
-) -> Result<()> {
+pub fn run<T: Threads + Sync>(rt: &HostRuntime, threads: &T, words: &[String]) -> Result<()> {
     let (path, side, on) = match words {
         [path, side] => (path, side, ""),
         [path, side, on] => (path, side, on.as_str()),
         _ => bail!("FILE SIDE [THREADS]"),
     };
     let text = fs::read(rt, path.as_str())?;
-    run_text(threads, &text, side.as_str(), on, false)
+    run_snapshot(
+        rt,
+        threads,
+        &read(rt, &text, side.as_str(), false)?,
+        on,
+        false,
+    )
 }
 
 /// Runs the sample, and prints no times.
-pub fn run_still(rt: &(impl Print + AllocGlobal + Clock + Threads + Sync)) -> Result<()> {
+pub fn run_still<T: Threads + Sync>(rt: &HostRuntime, threads: &T) -> Result<()> {
     let text = text_of_library(rt.alloc(), SAMPLE)?;
-    run_text(rt, &text, SAMPLE_SIDE, "", true)
+    run_snapshot(rt, threads, &read(rt, &text, SAMPLE_SIDE, true)?, "", true)
 }

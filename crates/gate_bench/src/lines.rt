@@ -11,6 +11,8 @@ use mpw_core::Core;
 use mpw_events::NoKeeper;
 use mpw_serve::{Executor, OwnDesk, Silent, serve_core};
 use mpw_wire::Counted;
+use std::alloc::Global;
+use std::io;
 use std::thread::Threads;
 use std::time::Instant;
 
@@ -22,61 +24,89 @@ fn rate(lines: usize, nanoseconds: u128) -> u128 {
     (lines as u128).saturating_mul(1_000_000_000) / nanoseconds
 }
 
-/// Serves a connection, prints how many of its lines were accepted, and returns the desk.
-fn serve(
+/// Prints how many of a connection's lines were accepted, and whether it was served to its end.
+fn tell(
     rt: &HostRuntime,
-    threads: &(impl Threads + Sync),
+    part: &Part,
+    outcome: (usize, bool),
+    taken: Option<u128>,
+) -> io::Result<()> {
+    let (accepted, whole) = outcome;
+    match taken {
+        None => {
+            println!(rt;
+                "{}: {accepted} of {} lines accepted, {whole}",
+                part.name, part.lines
+            )
+        }
+        Some(taken) => println!(rt;
+            "{}: {accepted} of {} lines accepted, {} a second, {whole}",
+            part.name,
+            part.lines,
+            rate(part.lines, taken)
+        ),
+    }
+}
+
+/// The desk after a connection's lines, how many of them it accepted, and whether it served to their end.
+fn serve<T: Threads + Sync>(
+    threads: &T,
+    alloc: Global,
+    core: Box<Core>,
+    part: &Part,
+) -> (Box<Core>, (usize, bool)) {
+    let mut replies = Vec::new(alloc);
+    let progress = Silent;
+    let executor = Executor {
+        threads,
+        alloc,
+        progress,
+    };
+    let mut own = OwnDesk::new(core, NoKeeper, part.connection, executor);
+    let served = serve_core(
+        &mut own,
+        &mut Counted::new(part.text.as_bytes()),
+        &mut Counted::new(&mut replies),
+    );
+    let outcome = (
+        accepted(str::from_utf8(&replies).unwrap_or("")),
+        served.ended.is_ok(),
+    );
+    (own.into_parts().0, outcome)
+}
+
+/// Serves a connection, prints how many of its lines were accepted, and returns the desk.
+fn show<T: Threads + Sync>(
+    rt: &HostRuntime,
+    threads: &T,
     core: Box<Core>,
     part: &Part,
     still: bool,
 ) -> Result<Box<Core>> {
-    let alloc = rt.alloc();
-    let mut replies: Vec<u8> = Vec::new(alloc);
-    let mut input = Counted::new(part.text.as_bytes());
-    let mut output = Counted::new(&mut replies);
-    let executor = Executor {
-        threads,
-        alloc,
-        progress: Silent,
-    };
     let start = Instant::now(rt)?;
-    let mut own = OwnDesk::new(core, NoKeeper, part.connection, executor);
-    let served = serve_core(&mut own, &mut input, &mut output);
-    let taken = start.elapsed(rt);
-    let (core, _keeper) = own.into_parts();
-    let taken = taken?.as_nanos();
-    let whole = served.ended.is_ok();
-    let count = accepted(replies.as_slice());
-    let (name, lines) = (part.name.as_str(), part.lines);
-    if still {
-        println!(rt; "{name}: {count} of {lines} lines accepted, {whole}")?;
-    } else {
-        println!(rt;
-            "{name}: {count} of {lines} lines accepted, {} a second, {whole}",
-            rate(lines, taken)
-        )?;
-    }
+    let (core, outcome) = serve(threads, rt.alloc(), core, part);
+    let taken = start.elapsed(rt)?.as_nanos();
+    tell(rt, part, outcome, if still { None } else { Some(taken) })?;
     Ok(core)
 }
 
 /// Serves the connections of the text.
-pub fn run(
+pub fn run<T: Threads + Sync>(
     rt: &HostRuntime,
-    threads: &(impl Threads + Sync),
+    threads: &T,
     text: &str,
     still: bool,
 ) -> Result<()> {
-    let alloc = rt.alloc();
-    let mut core = new_desk(alloc)?;
-    let mut part = Part::new(alloc, 1, "")?;
+    let mut core = new_desk(rt.alloc())?;
+    let mut part = Part::new(rt.alloc(), 1, "")?;
     for line in text.lines() {
         if !line.starts_with("-- ") {
             part.push(line)?;
             continue;
         }
-        core = serve(rt, threads, core, &part, still)?;
-        part = Part::new(alloc, part.connection.saturating_add(1), line)?;
+        core = show(rt, threads, core, &part, still)?;
+        part = Part::new(rt.alloc(), part.connection.saturating_add(1), line)?;
     }
-    serve(rt, threads, core, &part, still)?;
+    show(rt, threads, core, &part, still)?;
     Ok(())
 }

@@ -27,22 +27,23 @@ use anyhow::{Result, bail};
 use std::io::Read;
 use std::sync::Wait;
 use std::thread::Threads;
-use std::time::Clock;
 use std::{env, fs, io};
 
-/// Runs each bench in its small form, without times.
-fn run_still<T: Print + AllocGlobal + Threads + Wait + Clock + Sync>(
-    rt: &HostRuntime,
-    threads: &T,
-) -> Result<()> {
+/// Runs the benches of several threads in their small form, without times.
+fn run_still_threads<T: Threads + Wait + Sync>(rt: &HostRuntime, threads: &T) -> Result<()> {
     println!(rt; "== asks")?;
     asks::run_still(rt, threads)?;
     println!(rt; "== checks")?;
     checks::run(rt, fs::read_to_string(rt, "checks.txt")?.as_str(), true)?;
     println!(rt; "== columns")?;
-    columns::run_still(threads)?;
+    columns::run_still(rt, threads)?;
     println!(rt; "== job")?;
-    job::run_still(threads)?;
+    job::run_still(rt, threads)
+}
+
+/// Runs each bench in its small form, without times.
+fn run_still<T: Threads + Wait + Sync>(rt: &HostRuntime, threads: &T) -> Result<()> {
+    run_still_threads(rt, threads)?;
     println!(rt; "== lines")?;
     lines::run(
         rt,
@@ -57,19 +58,19 @@ fn run_still<T: Print + AllocGlobal + Threads + Wait + Clock + Sync>(
 }
 
 /// The text of the standard input.
-fn read_input(rt: &HostRuntime) -> Result<String> {
-    Ok(io::read_to_string(rt.alloc(), rt.stdin())?)
+fn read_input(rt: &HostRuntime) -> io::Result<String> {
+    io::read_to_string(rt.alloc(), rt.stdin())
 }
 
 /// The bytes of the standard input.
-fn read_bytes(rt: &HostRuntime) -> Result<Vec<u8>> {
+fn read_bytes(rt: &HostRuntime) -> io::Result<Vec<u8>> {
     let mut bytes = Vec::new(rt.alloc());
     rt.stdin().read_to_end(&mut bytes)?;
     Ok(bytes)
 }
 
 /// Runs the bench of that name with the words after it.
-fn run<T: Print + AllocGlobal + Threads + Wait + Clock + Sync>(
+fn run<T: Threads + Wait + Sync>(
     rt: &HostRuntime,
     threads: &T,
     name: &str,

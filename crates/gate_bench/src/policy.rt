@@ -6,12 +6,12 @@ mod calls;
 mod changes;
 mod desk;
 
-use crate::policy::changes::Change;
-use crate::policy::desk::{name, new_desk};
+use crate::policy::desk::{Desk, name};
 use anyhow::Result;
 use mpw_permissions::Object;
 use mpw_rbac::Policy;
 use std::alloc::{AllocError, Global};
+use std::io;
 use std::time::Instant;
 
 /// How many permissions are asked for.
@@ -24,16 +24,16 @@ const TURNS: u32 = 1_000;
 const CHANGES: u32 = 100;
 
 /// The changes that are timed.
-const KINDS: [Change; 9] = [
-    Change::Grant,
-    Change::Revoke,
-    Change::AddUser,
-    Change::Assign,
-    Change::AddRole,
-    Change::Inherit,
-    Change::DelUser,
-    Change::DelRole,
-    Change::Uninherit,
+const KINDS: [&str; 9] = [
+    "grant",
+    "revoke",
+    "adduser",
+    "assign",
+    "addrole",
+    "inherit",
+    "deluser",
+    "delrole",
+    "uninherit",
 ];
 
 /// The cells `c0`, `c1` and so on.
@@ -41,18 +41,18 @@ fn cells(alloc: Global, count: u32) -> Result<Vec<Object>, AllocError> {
     let mut cells = Vec::new(alloc);
     for index in 0..count {
         let text = format!(in alloc; "c{index}")?;
-        let cell = name(alloc, text.as_str())?;
-        cells.push(Object::Cell(cell))?;
+        cells.push(Object::Cell(name(alloc, text.as_str())?))?;
     }
     Ok(cells)
 }
 
-/// Calls a second.
-fn rate(calls: u32, nanoseconds: u128) -> u128 {
-    if nanoseconds == 0 {
-        return 0;
+/// Calls a second since then.
+fn rate(rt: &HostRuntime, calls: u32, since: &Instant) -> io::Result<u128> {
+    let taken = since.elapsed(rt)?.as_nanos();
+    if taken == 0 {
+        return Ok(0);
     }
-    u128::from(calls).saturating_mul(1_000_000_000) / nanoseconds
+    Ok(u128::from(calls).saturating_mul(1_000_000_000) / taken)
 }
 
 /// The size of a policy: the roles with the officer's, the grants without the officer's, and the users without the officer
@@ -60,28 +60,30 @@ fn rate(calls: u32, nanoseconds: u128) -> u128 {
 type Size = (u32, u32, u32);
 
 /// Prints how many permissions a second are answered.
-fn time_permits(rt: &HostRuntime, policy: &Policy, cells: &[Object], still: bool) -> Result<()> {
+fn time_permits(
+    rt: &HostRuntime,
+    policy: &Policy,
+    cells: &[Object],
+    still: bool,
+) -> io::Result<()> {
     let start = Instant::now(rt)?;
     let permitted = calls::permitted(policy, cells, CALLS);
-    let taken = start.elapsed(rt)?.as_nanos();
+    let rate = rate(rt, CALLS, &start)?;
     if still {
-        return Ok(println!(rt; "  {permitted} of {CALLS} permitted")?);
+        return println!(rt; "  {permitted} of {CALLS} permitted");
     }
-    Ok(println!(rt;
-        "  permits {} a second, {permitted} of {CALLS} permitted",
-        rate(CALLS, taken)
-    )?)
+    println!(rt; "  permits {rate} a second, {permitted} of {CALLS} permitted")
 }
 
 /// Prints how many lists of objects a second are tested with one access.
-fn time_access(rt: &HostRuntime, policy: &Policy, cells: &[Object], still: bool) -> Result<()> {
+fn time_access(rt: &HostRuntime, policy: &Policy, cells: &[Object], still: bool) -> io::Result<()> {
     let start = Instant::now(rt)?;
     let permitted = calls::accessible(policy, cells, CALLS);
-    let taken = start.elapsed(rt)?.as_nanos();
+    let rate = rate(rt, CALLS, &start)?;
     if still {
-        return Ok(println!(rt; "  {permitted} of {CALLS} accessible")?);
+        return println!(rt; "  {permitted} of {CALLS} accessible");
     }
-    Ok(println!(rt; "  access.permits {} a second", rate(CALLS, taken))?)
+    println!(rt; "  access.permits {rate} a second")
 }
 
 /// Prints how many requests of sessions a second are answered.
@@ -89,64 +91,49 @@ fn time_sessions(rt: &HostRuntime, policy: &mut Policy, still: bool) -> Result<(
     let role = name(rt.alloc(), "r1")?;
     let start = Instant::now(rt)?;
     let told = calls::known(policy, TURNS);
-    let whoami = start.elapsed(rt)?.as_nanos();
+    let whoami = rate(rt, TURNS, &start)?;
     let start = Instant::now(rt)?;
     let activated = calls::activated(policy, &role, TURNS);
-    let active = start.elapsed(rt)?.as_nanos();
+    let active = rate(rt, TURNS, &start)?;
     if still {
         return Ok(println!(rt; "  {told} told, {activated} activated")?);
     }
-    Ok(println!(rt;
-        "  whoami {} a second, activate and drop {} a second",
-        rate(TURNS, whoami),
-        rate(TURNS, active)
-    )?)
+    Ok(println!(rt; "  whoami {whoami} a second, activate and drop {active} a second")?)
 }
 
 /// Prints how many changes of a kind a second are made, each in a copy of the policy.
-fn time_change(rt: &HostRuntime, policy: &Policy, kind: Change, still: bool) -> Result<()> {
-    let text = kind.text();
+fn time_change(rt: &HostRuntime, policy: &Policy, kind: &str, still: bool) -> Result<()> {
     let start = Instant::now(rt)?;
     let accepted = changes::changed(rt.alloc(), policy, kind, CHANGES)?;
-    let taken = start.elapsed(rt)?.as_nanos();
+    let rate = rate(rt, CHANGES, &start)?;
     if still {
-        return Ok(println!(rt; "  {text}: {accepted} of {CHANGES} accepted")?);
+        return Ok(println!(rt; "  {kind}: {accepted} of {CHANGES} accepted")?);
     }
-    Ok(println!(rt;
-        "  copy and {text} {} a second, {accepted} of {CHANGES} accepted",
-        rate(CHANGES, taken)
-    )?)
+    Ok(println!(rt; "  copy and {kind} {rate} a second, {accepted} of {CHANGES} accepted")?)
 }
 
-/// Prints how many changes of each kind a second are made.
-fn time_changes(rt: &HostRuntime, policy: &Policy, still: bool) -> Result<()> {
+/// Times the calls of a policy, and its changes.
+fn time(rt: &HostRuntime, policy: &mut Policy, cells: &[Object], still: bool) -> Result<()> {
+    time_permits(rt, policy, cells, still)?;
+    time_access(rt, policy, cells, still)?;
+    time_sessions(rt, policy, still)?;
     for kind in KINDS {
         time_change(rt, policy, kind, still)?;
     }
     Ok(())
 }
 
-/// Times the calls of a policy.
-fn time_calls(rt: &HostRuntime, policy: &mut Policy, cells: &[Object], still: bool) -> Result<()> {
-    time_permits(rt, policy, cells, still)?;
-    time_access(rt, policy, cells, still)?;
-    time_sessions(rt, policy, still)?;
-    time_changes(rt, policy, still)
-}
-
-/// Fills a policy, and times its calls.
-fn time(rt: &HostRuntime, policy: &mut Policy, size: Size, still: bool) -> Result<()> {
-    let (roles, grants, users) = size;
-    let filled = desk::fill(rt.alloc(), policy, roles, grants, users)?;
-    println!(rt; "{roles} roles, {grants} grants, {users} users more: {filled} refused")?;
-    let cells = cells(rt.alloc(), grants.saturating_mul(2))?;
-    time_calls(rt, policy, cells.as_slice(), still)
-}
-
-/// Times a policy of a size.
+/// Fills a policy of a size, and times its calls.
 fn show(rt: &HostRuntime, size: Size, still: bool) -> Result<()> {
-    let mut policy = new_desk(rt.alloc())?;
-    time(rt, &mut policy, size, still)
+    let (roles, grants, users) = size;
+    let mut desk = Desk::new(rt.alloc())?;
+    desk.fill(roles, grants, users)?;
+    println!(rt;
+        "{roles} roles, {grants} grants, {users} users more: {} refused",
+        desk.refused
+    )?;
+    let cells = cells(rt.alloc(), grants.saturating_mul(2))?;
+    time(rt, &mut desk.policy, cells.as_slice(), still)
 }
 
 /// The sizes of the policies. One more role, grant and user fit, except the role if there are 512.

@@ -27,7 +27,7 @@ fn count(word: &[u8]) -> Result<usize> {
 }
 
 /// Reads the text after a line, and prints what that gives.
-fn answer(rt: &(impl Print + AllocGlobal), line: &[u8], input: &mut Input<'_>) -> Result<()> {
+fn answer(rt: &HostRuntime, line: &[u8], input: &mut Input<'_>) -> Result<()> {
     let words = parts(rt.alloc(), line, b' ')?;
     let [kind, length, ends @ ..] = words.as_slice() else {
         bail!("a kind and a number of bytes");
@@ -48,7 +48,7 @@ fn answer(rt: &(impl Print + AllocGlobal), line: &[u8], input: &mut Input<'_>) -
 }
 
 /// Reads the texts of the bytes in turn.
-pub fn run(rt: &(impl Print + AllocGlobal), bytes: &[u8]) -> Result<()> {
+pub fn run(rt: &HostRuntime, bytes: &[u8]) -> Result<()> {
     let mut input = Input::new(bytes);
     for _ in 0..u64::MAX {
         let Some(line) = input.line() else {

@@ -6,21 +6,24 @@
 //! and `wide N` compare N layouts with few boxes, with many, with many equal borders, and over a wide place, and print how many differ.
 //! `grids N` compares grids of cores with one core.
 mod compare;
+mod drawn;
 mod layout;
 mod numbers;
 mod plain;
 mod squares;
 
 use anyhow::Result;
+use gate_words::Words;
 use layout::Shapes;
 
 /// Answers the lines of its table.
-pub(crate) fn run(rt: &HostRuntime, lines: &[String]) -> Result<()> {
-    let alloc = rt.alloc();
-    let mut shapes = Shapes::new(alloc);
-    for line in lines {
-        let text = shapes.answer(alloc, line.as_str())?;
-        print!(rt; "{text}")?;
+pub(crate) fn run(rt: &HostRuntime, lines: &str) -> Result<()> {
+    let mut shapes = Shapes::new(rt.alloc());
+    for line in lines.lines() {
+        let mut words = Words::of(line);
+        let verb = words.next();
+        shapes.answer(rt, verb, &mut words)?;
+        words.end()?;
     }
     Ok(())
 }

@@ -14,32 +14,31 @@ mod whole;
 mod words;
 
 use anyhow::{Result, bail};
+use gate_words::Words;
 use std::thread::Threads;
 
-fn answer(rt: &(impl Print + AllocGlobal + Threads + Sync), line: &str) -> Result<()> {
-    if line.is_empty() || line.starts_with('#') {
-        return Ok(());
-    }
-    let (command, rest) = line.split_once('|').unwrap_or((line, ""));
-    let (rules, shapes) = rest.split_once('|').unwrap_or((rest, ""));
-    let words: Vec<&str> = command.split_whitespace().collect(rt.alloc())?;
-    match words.as_slice() {
-        ["find", side] => book::print_found(rt, side, rules, shapes),
-        ["sides"] => book::print_sides(rt, rules, shapes),
-        ["random", count] => random::compared(rt, count),
-        ["copies"] => copies::compared(rt),
+/// Answers a line, with threads for the jobs.
+fn answer<T: Threads + Sync>(rt: &HostRuntime, threads: &T, line: &str) -> Result<()> {
+    let (command, behind) = line.split_once('|').unwrap_or((line, ""));
+    let (rules, shapes) = behind.split_once('|').unwrap_or((behind, ""));
+    let mut words = Words::of(command);
+    match words.next() {
+        "find" => book::print_found(rt, threads, words.next(), rules, shapes)?,
+        "sides" => book::print_sides(rt, threads, rules, shapes)?,
+        "random" => random::compared(rt, threads, words.number())?,
+        "copies" => copies::compared(rt)?,
         _ => bail!("a command"),
     }
+    words.end()
 }
 
 /// Answers the lines of its table.
-pub(crate) fn run(
-    rt: &(impl Print + AllocGlobal + Threads + Sync),
-    lines: &[String],
-) -> Result<()> {
-    for line in lines {
+pub(crate) fn run<T: Threads + Sync>(rt: &HostRuntime, threads: &T, lines: &str) -> Result<()> {
+    for line in lines.lines() {
         println!(rt; "{line}")?;
-        answer(rt, line.as_str())?;
+        if !line.is_empty() && !line.starts_with('#') {
+            answer(rt, threads, line)?;
+        }
     }
     Ok(())
 }

@@ -8,28 +8,25 @@ mod job;
 mod markers;
 
 use anyhow::{Result, bail};
-use gate_words::{Table, read_tables};
+use gate_words::{HEAD, read_input, table};
 use std::thread::Threads;
 
 /// Runs a table.
-fn run<T: Print + AllocGlobal + Threads + Sync>(
-    rt: &HostRuntime,
-    threads: &T,
-    table: &Table,
-) -> Result<()> {
-    match table.name() {
-        "checks" => checks::run(rt, table.lines()),
-        "markers" => markers::run(rt, table.lines()),
-        "job" => job::run(threads, table.lines()),
+fn run<T: Threads + Sync>(rt: &HostRuntime, threads: &T, name: &str, lines: &str) -> Result<()> {
+    match name {
+        "checks" => checks::run(rt, lines),
+        "markers" => markers::run(rt, lines),
+        "job" => job::run(rt, threads, lines),
         _ => bail!("no table has this name"),
     }
 }
 
 fn main(rt: HostRuntime) -> Result<()> {
-    let tables = read_tables(&rt)?;
-    for table in &tables {
-        println!(rt; "== {}", table.name())?;
-        run(&rt, &rt, table)?;
+    let input = read_input(&rt)?;
+    for text in input.split(HEAD) {
+        let (name, lines) = table(text);
+        println!(rt; "== {name}")?;
+        run(&rt, &rt, name, lines)?;
     }
     Ok(())
 }

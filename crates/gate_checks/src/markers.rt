@@ -14,44 +14,12 @@ mod plain;
 mod scattered;
 mod shapes;
 mod tiles;
-mod words;
 
-use anyhow::{Result, bail};
-use shapes::Shapes;
+use anyhow::Result;
+use gate_words::answer_lines;
 use tiles::Tiles;
 
-fn answer(
-    rt: &(impl Print + AllocGlobal),
-    tiles: &mut Tiles,
-    shapes: &mut Shapes,
-    line: &str,
-) -> Result<()> {
-    if line.is_empty() || line.starts_with('#') {
-        return Ok(());
-    }
-    let words: Vec<&str> = line.split_whitespace().collect(rt.alloc())?;
-    match words.as_slice() {
-        ["tile"] => tiles.close(rt.alloc()),
-        ["clear"] => tiles.clear(rt.alloc()),
-        ["marker", rest @ ..] => tiles.add(rt.alloc(), rest),
-        ["book"] => tiles.print_book(rt),
-        ["find", rest @ ..] => tiles.find(rt, rest),
-        ["rectangle", rest @ ..] => shapes.add_rectangle(rest),
-        ["box", rest @ ..] => shapes.add_box(rest),
-        ["origins"] => shapes.print_origins(rt),
-        ["scattered", count] => scattered::compared(rt, count),
-        ["random", count] => compare::compared(rt, count),
-        _ => bail!("a command"),
-    }
-}
-
 /// Answers the lines of its table.
-pub(crate) fn run(rt: &HostRuntime, lines: &[String]) -> Result<()> {
-    let mut tiles = Tiles::new(rt.alloc());
-    let mut shapes = Shapes::new(rt.alloc());
-    for line in lines {
-        println!(rt; "{line}")?;
-        answer(rt, &mut tiles, &mut shapes, line.as_str())?;
-    }
-    Ok(())
+pub(crate) fn run(rt: &HostRuntime, lines: &str) -> Result<()> {
+    answer_lines(rt, &mut Tiles::new(rt.alloc()), lines)
 }

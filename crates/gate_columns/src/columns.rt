@@ -11,40 +11,73 @@
 //! - `random N` checks N random libraries so by five numbers, and tells how many books differ;
 //! - `rows N` does so with random libraries of rows of cells.
 mod book;
-mod layout;
+mod first;
 mod random;
+mod told;
 
 use anyhow::{Result, bail};
+use gate_plain::{deck_of, drawn};
+use gate_samples::text_of_library;
+use gate_words::Words;
+use mpw_tiles::Snapshot;
+use std::alloc::Global;
 use std::thread::Threads;
 
-fn answer(rt: &(impl Print + AllocGlobal + Threads + Sync), line: &str) -> Result<()> {
-    if line.is_empty() || line.starts_with('#') {
-        return Ok(());
-    }
-    let (command, rest) = line.split_once('|').unwrap_or((line, ""));
-    let (rules, library) = rest.split_once('|').unwrap_or((rest, ""));
-    let words: Vec<&str> = command.split_whitespace().collect(rt.alloc())?;
-    match words.as_slice() {
-        ["find", most] => book::print_found(rt, most, rules, library),
-        ["alike", most] => book::print_alike(rt, most, rules, library),
-        ["first", limit] => book::print_first(rt, limit, rules, library),
-        ["room", markers] => book::print_room(rt, markers, rules, library),
-        ["told", most] => book::print_told(rt, most, rules, library),
-        ["whole", side] => book::print_whole(rt, side, rules, library),
-        ["random", count] => random::compared(rt, false, count),
-        ["rows", count] => random::compared(rt, true, count),
+/// The side of the tiles if a line names none, in nm.
+const SIDE: &str = "256";
+
+/// The snapshot of a library's structure `TOP`, as it is drawn.
+fn snapshot_of(alloc: Global, side: &str, rules: &str, library: &str) -> Result<Snapshot> {
+    drawn(
+        alloc,
+        deck_of(alloc, side, rules)?,
+        &text_of_library(alloc, library)?,
+    )
+}
+
+/// Answers a line about a library's snapshot.
+fn answer_drawn<T: Threads + Sync>(
+    rt: &HostRuntime,
+    threads: &T,
+    verb: &str,
+    words: &mut Words<'_>,
+    behind: &str,
+) -> Result<()> {
+    let (rules, library) = behind.split_once('|').unwrap_or((behind, ""));
+    let snapshot = snapshot_of(rt.alloc(), SIDE, rules, library)?;
+    match verb {
+        "find" => book::print_found(rt, threads, &snapshot, words.number()),
+        "alike" => book::print_alike(rt, threads, &snapshot, words.number()),
+        "first" => first::print_first(rt, threads, &snapshot, words.number()),
+        "room" => told::print_room(rt, threads, &snapshot, words.number()),
+        "told" => told::print_told(rt, threads, &snapshot, words.number()),
+        "whole" => {
+            let other = snapshot_of(rt.alloc(), words.next(), rules, library)?;
+            book::print_whole(rt, threads, &snapshot, &other)
+        }
         _ => bail!("a command"),
     }
 }
 
+/// Answers a line, with threads for the checks.
+fn answer<T: Threads + Sync>(rt: &HostRuntime, threads: &T, line: &str) -> Result<()> {
+    let (command, behind) = line.split_once('|').unwrap_or((line, ""));
+    let mut words = Words::of(command);
+    match words.next() {
+        "random" => random::compared(rt, threads, false, words.number())?,
+        "rows" => random::compared(rt, threads, true, words.number())?,
+        verb => answer_drawn(rt, threads, verb, &mut words, behind)?,
+    }
+    words.end()
+}
+
 /// Answers the lines of its table.
-pub(crate) fn run(
-    rt: &(impl Print + AllocGlobal + Threads + Sync),
-    lines: &[String],
-) -> Result<()> {
-    for line in lines {
+pub(crate) fn run<T: Threads + Sync>(rt: &HostRuntime, threads: &T, lines: &str) -> Result<()> {
+    for line in lines.lines() {
         println!(rt; "{line}")?;
-        answer(rt, line.as_str())?;
+        if !line.is_empty() && !line.starts_with('#') {
+            answer(rt, threads, line)?;
+        }
     }
     Ok(())
 }

@@ -8,28 +8,25 @@ mod parts;
 mod spread;
 
 use anyhow::{Result, bail};
-use gate_words::{Table, read_tables};
+use gate_words::{HEAD, read_input, table};
 use std::thread::Threads;
 
 /// Runs a table.
-fn run<T: Print + AllocGlobal + Threads + Sync>(
-    rt: &HostRuntime,
-    threads: &T,
-    table: &Table,
-) -> Result<()> {
-    match table.name() {
-        "columns" => columns::run(threads, table.lines()),
-        "parts" => parts::run(rt, table.lines()),
-        "spread" => spread::run(rt, threads, table.lines()),
+fn run<T: Threads + Sync>(rt: &HostRuntime, threads: &T, name: &str, lines: &str) -> Result<()> {
+    match name {
+        "columns" => columns::run(rt, threads, lines),
+        "parts" => parts::run(rt, lines),
+        "spread" => spread::run(rt, threads, lines),
         _ => bail!("no table has this name"),
     }
 }
 
 fn main(rt: HostRuntime) -> Result<()> {
-    let tables = read_tables(&rt)?;
-    for table in &tables {
-        println!(rt; "== {}", table.name())?;
-        run(&rt, &rt, table)?;
+    let input = read_input(&rt)?;
+    for text in input.split(HEAD) {
+        let (name, lines) = table(text);
+        println!(rt; "== {name}")?;
+        run(&rt, &rt, name, lines)?;
     }
     Ok(())
 }

@@ -8,21 +8,21 @@
 ghost use Rattle.std.specs.Prelude.{◌≡◌, ◌≤◌, ◌^◌, length, IfOk};
 ghost use Rattle.mpw_columns.specs.Plan.{AreColumnsOfLayout};
 
-use anyhow::{Result, bail};
-use gate_words::print_marker;
+use crate::parts::print_stitched;
+use anyhow::{Context, Result, bail};
+use gate_words::{Words, letter};
 use mpw_check::{Silent, read_layout};
 use mpw_columns::columns_of;
 use mpw_deck::read_deck;
-use mpw_edges::Axis;
 use mpw_geom::Name;
 use mpw_keys::Column;
-use mpw_parts::{Part, read_part, stitch_parts, write_part};
+use mpw_parts::{Part, read_part, write_part};
 use mpw_spread::{Plan, check_part, columns_for_shares, read_range, subject_of};
 use mpw_tiles::Snapshot;
 use std::alloc::Global;
 use std::sync::Arc;
 use std::thread::Threads;
-use std::{fs, mem, str};
+use std::{fs, io, mem, str};
 
 /// What is checked: its texts, the structure, what they give, and how that is cut into columns.
 #[derive(Drop)]
@@ -31,11 +31,18 @@ struct Layout {
     top: Name,
     library: Arc<Vec<u8>>,
     snapshot: Snapshot,
-    most: String,
+    most: u32,
 }
 
-/// The columns of what is checked, of which each shows at most so many shapes, or those for shares.
-fn cut(alloc: Global, snapshot: &Snapshot, most: &str) -> Result<Vec<Column>>
+/// What is checked, and the parts so far.
+#[derive(Drop)]
+struct Spread {
+    layout: Option<Layout>,
+    parts: Vec<Part>,
+}
+
+/// The columns of what is checked, of which each shows at most so many shapes, or those for shares if that is 0.
+fn cut(alloc: Global, snapshot: &Snapshot, most: u32) -> Result<Vec<Column>>
     ensures columns { IfOk result (λ v. AreColumnsOfLayout snapshot.now v.items) }
     ensures few { IfOk result (λ v. length v.items ≤ 2 ^ 22) }
     ensures alone { IfOk result (λ _. length snapshot.now.shelf ≡ 1) }
@@ -43,57 +50,52 @@ fn cut(alloc: Global, snapshot: &Snapshot, most: &str) -> Result<Vec<Column>>
     if snapshot.shelf().submissions().len() != 1 {
         bail!("one submission");
     }
-    if most == "shares" {
+    if most == 0 {
         return Ok(columns_for_shares(alloc, snapshot)?);
     }
-    Ok(columns_of(alloc, snapshot, most.parse()?)?)
+    Ok(columns_of(alloc, snapshot, most)?)
 }
 
-/// Reads the files of what is checked.
-fn read(rt: &HostRuntime, deck: &str, top: &str, library: &str, most: &str) -> Result<Layout> {
-    let alloc = rt.alloc();
-    let deck = fs::read(rt, deck)?;
-    let library = Arc::new(alloc, fs::read(rt, library)?)?;
-    let Ok(rules) = read_deck(alloc, &deck) else {
-        bail!("a deck");
-    };
-    let Ok(top) = Name::read(alloc, top.as_bytes()) else {
-        bail!("a name");
-    };
-    let Ok(snapshot) = read_layout(alloc, rules, &top, &library) else {
-        bail!("a layout");
-    };
+/// What the texts of a deck and of a library give.
+fn snapshot_of(alloc: Global, deck: &[u8], top: &Name, library: &Arc<Vec<u8>>) -> Result<Snapshot> {
+    match read_layout(alloc, read_deck(alloc, deck)?, top, library) {
+        Ok(snapshot) => Ok(snapshot),
+        Err(_) => bail!("a layout"),
+    }
+}
+
+/// Reads the files of what is checked: the deck, the structure, the library, and how that is cut.
+fn read(rt: &HostRuntime, words: &mut Words<'_>) -> Result<Layout> {
+    let deck = fs::read(rt, words.next())?;
+    let top = Name::read(rt.alloc(), words.next().as_bytes())?;
+    let library = Arc::new(rt.alloc(), fs::read(rt, words.next())?)?;
+    let snapshot = snapshot_of(rt.alloc(), &deck, &top, &library)?;
     Ok(Layout {
         deck,
         top,
         library,
         snapshot,
-        most: String::from_str(alloc, most)?,
+        most: words.next().parse::<u32>().unwrap_or(0),
     })
 }
 
 /// Prints the columns.
-fn print_columns(rt: &HostRuntime, columns: &[Column]) -> Result<()> {
+fn print_columns(rt: &HostRuntime, columns: &[Column]) -> io::Result<()> {
     for column in columns {
-        let axis = match column.axis {
-            Axis::V => "V",
-            Axis::H => "H",
-        };
-        println!(rt; "    {axis} {} {}", column.from, column.to)?;
+        println!(rt; "    {} {} {}", letter(column.axis), column.from, column.to)?;
     }
-    println!(rt; "    {} columns", columns.len())?;
-    Ok(())
+    println!(rt; "    {} columns", columns.len())
 }
 
-/// The text of the part of the columns that a text names; none where it names no columns of the layout.
-fn part_text(
+/// The part of the columns that a text names; none if it names no columns of the layout.
+fn part_of<T: Threads + Sync>(
     alloc: Global,
-    threads: &(impl Threads + Sync),
+    threads: &T,
     layout: &Layout,
     text: &str,
-) -> Result<Option<Vec<u8>>> {
+) -> Result<Option<Part>> {
     let snapshot = &layout.snapshot;
-    let columns = cut(alloc, snapshot, layout.most.as_str())?;
+    let columns = cut(alloc, snapshot, layout.most)?;
     let total = u32::try_from(columns.len())?;
     let Some(range) = read_range(alloc, text.as_bytes())? else {
         return Ok(None);
@@ -107,94 +109,76 @@ fn part_text(
         snapshot,
         columns: columns.as_slice(),
     };
-    let part = check_part(threads, alloc, subject, plan, span, &mut Silent)?;
-    let mut written = Vec::new(alloc);
-    write_part(alloc, &mut written, &part)?;
-    Ok(Some(written))
+    Ok(Some(check_part(threads, alloc, subject, plan, span, &mut Silent)?))
 }
 
 /// Prints a part, and reads it.
-fn kept(rt: &HostRuntime, text: &[u8]) -> Result<Part> {
-    let Ok(lines) = str::from_utf8(text) else {
-        bail!("a text");
-    };
-    print!(rt; "{lines}")?;
-    match read_part(rt.alloc(), text)? {
-        Some(part) => Ok(part),
-        None => bail!("a part"),
-    }
+fn kept(rt: &HostRuntime, part: &Part) -> Result<Part> {
+    let mut text = Vec::new(rt.alloc());
+    write_part(rt.alloc(), &mut text, part)?;
+    print!(rt; "{}", str::from_utf8(&text)?)?;
+    read_part(rt.alloc(), &text)?.context("a part")
 }
 
-/// Checks the columns that a text names, and keeps their part.
-fn check(
-    rt: &HostRuntime,
-    threads: &(impl Threads + Sync),
-    layout: &Layout,
-    text: &str,
-    parts: &mut Vec<Part>,
-) -> Result<()> {
-    match part_text(rt.alloc(), threads, layout, text)? {
-        Some(text) => parts.push(kept(rt, &text)?)?,
-        None => println!(rt; "    no columns of the layout")?,
+impl Spread {
+    /// Begins with another layout.
+    fn begin(&mut self, rt: &HostRuntime, words: &mut Words<'_>) -> Result<()> {
+        let layout = read(rt, words)?;
+        let columns = cut(rt.alloc(), &layout.snapshot, layout.most)?;
+        print_columns(rt, &columns)?;
+        self.layout = Some(layout);
+        Ok(())
     }
-    Ok(())
-}
 
-/// Stitches the parts, under so many rules, and begins anew.
-fn stitch(rt: &HostRuntime, parts: &mut Vec<Part>, rules: u32) -> Result<()> {
-    let parts = mem::replace(parts, Vec::new(rt.alloc()));
-    match stitch_parts(rt.alloc(), parts, rules) {
-        Ok(book) => {
-            for marker in book.as_slice() {
-                print_marker(rt, marker)?;
+    /// Checks the columns that a text names, and keeps their part.
+    fn check<T: Threads + Sync>(
+        &mut self,
+        rt: &HostRuntime,
+        threads: &T,
+        text: &str,
+    ) -> Result<()> {
+        let Some(layout) = &self.layout else {
+            bail!("a layout first");
+        };
+        match part_of(rt.alloc(), threads, layout, text)? {
+            Some(part) => self.parts.push(kept(rt, &part)?)?,
+            None => println!(rt; "    no columns of the layout")?,
+        }
+        Ok(())
+    }
+
+    /// Answers a line, with threads for the checks.
+    fn answer<T: Threads + Sync>(
+        &mut self,
+        rt: &HostRuntime,
+        threads: &T,
+        line: &str,
+    ) -> Result<()> {
+        let mut words = Words::of(line);
+        match words.next() {
+            "layout" => self.begin(rt, &mut words)?,
+            "columns" => self.check(rt, threads, words.next())?,
+            "stitch" => {
+                let parts = mem::replace(&mut self.parts, Vec::new(rt.alloc()));
+                print_stitched(rt, parts, words.number())?;
             }
-            println!(rt; "    {} markers", book.len())?;
+            _ => bail!("a command"),
         }
-        Err(fault) => println!(rt; "    {fault}")?,
-    }
-    Ok(())
-}
-
-/// Answers a line.
-fn answer(
-    rt: &HostRuntime,
-    threads: &(impl Threads + Sync),
-    layout: &mut Option<Layout>,
-    parts: &mut Vec<Part>,
-    line: &str,
-) -> Result<()> {
-    if line.is_empty() || line.starts_with('#') {
-        return Ok(());
-    }
-    let words: Vec<&str> = line.split_whitespace().collect(rt.alloc())?;
-    match words.as_slice() {
-        ["layout", deck, top, library, most] => {
-            let found = read(rt, deck, top, library, most)?;
-            let columns = cut(rt.alloc(), &found.snapshot, most)?;
-            print_columns(rt, columns.as_slice())?;
-            *layout = Some(found);
-            Ok(())
-        }
-        ["columns", text] => match layout {
-            Some(layout) => check(rt, threads, layout, text, parts),
-            None => bail!("a layout first"),
-        },
-        ["stitch", rules] => stitch(rt, parts, rules.parse()?),
-        _ => bail!("a command"),
+        words.end()
     }
 }
 
 /// Answers the lines of its table.
-pub(crate) fn run(
-    rt: &HostRuntime,
-    threads: &(impl Threads + Sync),
-    lines: &[String],
-) -> Result<()> {
-    let mut layout = None;
-    let mut parts = Vec::new(rt.alloc());
-    for line in lines {
+pub(crate) fn run<T: Threads + Sync>(rt: &HostRuntime, threads: &T, lines: &str) -> Result<()> {
+    let mut spread = Spread {
+        layout: None,
+        parts: Vec::new(rt.alloc()),
+    };
+    for line in lines.lines() {
         println!(rt; "{line}")?;
-        answer(rt, threads, &mut layout, &mut parts, line.as_str())?;
+        if !line.is_empty() && !line.starts_with('#') {
+            spread.answer(rt, threads, line)?;
+        }
     }
     Ok(())
 }

@@ -15,36 +15,35 @@ mod part;
 mod seen;
 
 use anyhow::{Result, bail};
+use gate_plain::submit;
+use gate_words::{Answers, Words, answer_lines};
+use mpw_hier::Shelf;
 
-fn answer(rt: &(impl Print + AllocGlobal), line: &str) -> Result<()> {
-    if line.is_empty() || line.starts_with('#') {
-        return Ok(());
-    }
-    let (command, library) = line.split_once('|').unwrap_or((line, ""));
-    let words: Vec<&str> = command.split_whitespace().collect(rt.alloc())?;
-    match words.as_slice() {
-        ["see", most, width, axis, window @ ..] => {
-            let wanted = seen::wanted(most, width, axis)?;
-            seen::print_seen(rt, wanted, window, library)
+/// What answers the lines, each over a shelf of its own.
+#[derive(Clone, Copy)]
+struct Contents;
+
+impl Answers for Contents {
+    fn answer(
+        &mut self,
+        rt: &HostRuntime,
+        verb: &str,
+        words: &mut Words<'_>,
+        behind: &str,
+    ) -> Result<()> {
+        let mut shelf = Shelf::new(rt.alloc());
+        submit(rt.alloc(), &mut shelf, "chip", "TOP", behind)?;
+        match verb {
+            "see" => seen::print_seen(rt, &shelf, words),
+            "alike" => seen::print_alike(rt, &shelf, words),
+            "part" => part::print_part(rt, &shelf, words),
+            "boxes" => part::print_boxes_of(rt, &shelf, words.number()),
+            _ => bail!("a command"),
         }
-        ["alike", most, width, axis, windows @ ..] => {
-            let wanted = seen::wanted(most, width, axis)?;
-            seen::print_alike(rt, wanted, windows, library)
-        }
-        ["part", most, instances, shapes, window @ ..] => {
-            let wish = part::Wish::of(most, instances, shapes, window)?;
-            part::print_part(rt, wish, library)
-        }
-        ["boxes", structure] => part::print_boxes_of(rt, structure, library),
-        _ => bail!("a command"),
     }
 }
 
 /// Answers the lines of its table.
-pub(crate) fn run(rt: &HostRuntime, lines: &[String]) -> Result<()> {
-    for line in lines {
-        println!(rt; "{line}")?;
-        answer(rt, line.as_str())?;
-    }
-    Ok(())
+pub(crate) fn run(rt: &HostRuntime, lines: &str) -> Result<()> {
+    answer_lines(rt, &mut Contents, lines)
 }

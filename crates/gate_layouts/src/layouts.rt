@@ -22,40 +22,12 @@ mod shelves;
 mod walks;
 
 use anyhow::Result;
+use gate_words::answer_lines;
 use mpw_hier::Shelf;
-
-/// Answers a line.
-fn answer(rt: &(impl Print + AllocGlobal), shelf: &mut Shelf, line: &str) -> Result<()> {
-    if line.is_empty() || line.starts_with('#') {
-        return Ok(());
-    }
-    if let Some(roots) = line.strip_prefix("walk ") {
-        return walks::walk(rt, shelf, roots);
-    }
-    if let Some(roots) = line.strip_prefix("within ") {
-        return walks::within(rt, shelf, roots);
-    }
-    if let Some(roots) = line.strip_prefix("count ") {
-        return walks::count(rt, shelf, roots);
-    }
-    let (command, notation) = line.split_once('|').unwrap_or((line, ""));
-    let words: Vec<&str> = command.split_whitespace().collect(rt.alloc())?;
-    match words.as_slice() {
-        ["outside", top] => shelves::outside(rt, top, notation),
-        ["walks", count] => walks::compared(rt, count),
-        ["layers", number] => layers::print_layers(rt, shelf, number),
-        ["seen", number, flags] => seen::print_seen(rt, shelf, number, flags),
-        ["seen", number, flags, "walked"] => seen::print_walked(rt, shelf, number, flags),
-        words => shelves::answer(rt, shelf, words, notation),
-    }
-}
+use shelves::Layouts;
 
 /// Answers the lines of its table.
-pub(crate) fn run(rt: &HostRuntime, lines: &[String]) -> Result<()> {
-    let mut shelf = Shelf::new(rt.alloc());
-    for line in lines {
-        println!(rt; "{line}")?;
-        answer(rt, &mut shelf, line.as_str())?;
-    }
-    Ok(())
+pub(crate) fn run(rt: &HostRuntime, lines: &str) -> Result<()> {
+    let shelf = Shelf::new(rt.alloc());
+    answer_lines(rt, &mut Layouts { shelf }, lines)
 }

@@ -10,25 +10,26 @@ mod tiles;
 mod waivers;
 
 use anyhow::{Result, bail};
-use gate_words::{Table, read_tables};
+use gate_words::{HEAD, read_input, table};
 
 /// Runs a table.
-fn run(rt: &HostRuntime, table: &Table) -> Result<()> {
-    match table.name() {
-        "layouts" => layouts::run(rt, table.lines()),
-        "tiles" => tiles::run(rt, table.lines()),
-        "contents" => contents::run(rt, table.lines()),
-        "placings" => placings::run(rt, table.lines()),
-        "waivers" => waivers::run(rt, table.lines()),
+fn run(rt: &HostRuntime, name: &str, lines: &str) -> Result<()> {
+    match name {
+        "layouts" => layouts::run(rt, lines),
+        "tiles" => tiles::run(rt, lines),
+        "contents" => contents::run(rt, lines),
+        "placings" => placings::run(rt, lines),
+        "waivers" => waivers::run(rt, lines),
         _ => bail!("no table has this name"),
     }
 }
 
 fn main(rt: HostRuntime) -> Result<()> {
-    let tables = read_tables(&rt)?;
-    for table in &tables {
-        println!(rt; "== {}", table.name())?;
-        run(&rt, table)?;
+    let input = read_input(&rt)?;
+    for text in input.split(HEAD) {
+        let (name, lines) = table(text);
+        println!(rt; "== {name}")?;
+        run(&rt, name, lines)?;
     }
     Ok(())
 }

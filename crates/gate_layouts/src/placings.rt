@@ -9,48 +9,11 @@
 mod decks;
 mod top;
 
-use crate::placings::top::Top;
-use anyhow::{Result, bail};
-use gate_words::placing;
-
-/// Commands about the placements.
-fn answer_top(rt: &(impl Print + AllocGlobal), top: &mut Top, words: &[&str]) -> Result<()> {
-    match words {
-        ["place", cell, label, turn, x, y] => {
-            let placing = placing(turn, x, y)?;
-            top.place(rt, cell, label, placing)
-        }
-        ["unplace", cell, label] => top.unplace(rt, cell, label),
-        ["fill", cell, count] => top.fill(rt, cell, count),
-        ["list"] => top.list(rt),
-        ["tiles", side] => top.tiles(rt, side),
-        _ => bail!("a command"),
-    }
-}
-
-fn answer(rt: &(impl Print + AllocGlobal), top: &mut Top, line: &str) -> Result<()> {
-    if line.is_empty() || line.starts_with('#') {
-        return Ok(());
-    }
-    let (command, rest) = line.split_once('|').unwrap_or((line, ""));
-    let words: Vec<&str> = command.split_whitespace().collect(rt.alloc())?;
-    match words.as_slice() {
-        ["deck"] => decks::print_deck(rt, rest),
-        ["new"] => {
-            *top = Top::new(rt.alloc());
-            Ok(())
-        }
-        ["submit", cell, name] => top.submit(rt.alloc(), cell, name, rest),
-        words => answer_top(rt, top, words),
-    }
-}
+use anyhow::Result;
+use gate_words::answer_lines;
+use top::Top;
 
 /// Answers the lines of its table.
-pub(crate) fn run(rt: &HostRuntime, lines: &[String]) -> Result<()> {
-    let mut top = Top::new(rt.alloc());
-    for line in lines {
-        println!(rt; "{line}")?;
-        answer(rt, &mut top, line.as_str())?;
-    }
-    Ok(())
+pub(crate) fn run(rt: &HostRuntime, lines: &str) -> Result<()> {
+    answer_lines(rt, &mut Top::new(rt.alloc()), lines)
 }

@@ -14,44 +14,44 @@ mod squares;
 mod windows;
 
 use anyhow::{Result, bail};
+use gate_plain::submit;
+use gate_words::{Answers, Words, answer_lines};
 use mpw_hier::Shelf;
 
-/// Commands about the shelf.
-fn answer_shelf(
-    rt: &(impl Print + AllocGlobal),
-    shelf: &mut Shelf,
-    words: &[&str],
-    rest: &str,
-) -> Result<()> {
-    match words {
-        ["new"] => *shelf = Shelf::new(rt.alloc()),
-        ["submit", cell, top] => gate_plain::submit(rt.alloc(), shelf, cell, top, rest)?,
-        ["cut", side, distance] => cuts::print_cut(rt, shelf, side, distance, rest)?,
-        _ => bail!("a command"),
-    }
-    Ok(())
+/// The shelf after the lines.
+#[derive(Drop)]
+struct Tiles {
+    shelf: Shelf,
 }
 
-fn answer(rt: &(impl Print + AllocGlobal), shelf: &mut Shelf, line: &str) -> Result<()> {
-    if line.is_empty() || line.starts_with('#') {
-        return Ok(());
-    }
-    let (command, rest) = line.split_once('|').unwrap_or((line, ""));
-    let words: Vec<&str> = command.split_whitespace().collect(rt.alloc())?;
-    match words.as_slice() {
-        ["plan", rest @ ..] => plans::plan(rt, rest),
-        ["random", count] => windows::compared(rt, count),
-        ["cuts", count] => squares::compared(rt, count),
-        words => answer_shelf(rt, shelf, words, rest),
+impl Answers for Tiles {
+    fn answer(
+        &mut self,
+        rt: &HostRuntime,
+        verb: &str,
+        words: &mut Words<'_>,
+        behind: &str,
+    ) -> Result<()> {
+        match verb {
+            "plan" => plans::plan(rt, words.area(), words.next(), words.next()),
+            "random" => windows::compared(rt, words.number()),
+            "cuts" => squares::compared(rt, words.number()),
+            "cut" => cuts::print_cut(rt, &self.shelf, words.next(), words.next(), behind),
+            "submit" => {
+                let (cell, top) = (words.next(), words.next());
+                submit(rt.alloc(), &mut self.shelf, cell, top, behind)
+            }
+            "new" => {
+                self.shelf = Shelf::new(rt.alloc());
+                Ok(())
+            }
+            _ => bail!("a command"),
+        }
     }
 }
 
 /// Answers the lines of its table.
-pub(crate) fn run(rt: &HostRuntime, lines: &[String]) -> Result<()> {
-    let mut shelf = Shelf::new(rt.alloc());
-    for line in lines {
-        println!(rt; "{line}")?;
-        answer(rt, &mut shelf, line.as_str())?;
-    }
-    Ok(())
+pub(crate) fn run(rt: &HostRuntime, lines: &str) -> Result<()> {
+    let shelf = Shelf::new(rt.alloc());
+    answer_lines(rt, &mut Tiles { shelf }, lines)
 }

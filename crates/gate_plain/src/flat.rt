@@ -4,13 +4,13 @@
 use crate::named::{bound, own};
 use anyhow::{Context, Result, bail};
 use mpw_geom::{Layer, Name, Orient, Placing, Point};
-use mpw_hier::{Shelf, Submission};
+use mpw_hier::Shelf;
 use mpw_structures::{Boundary, Element, Path, Reference, Structure};
 use mpw_walk::Root;
-use std::alloc::Global;
+use std::alloc::{AllocError, Global};
 
-/// More levels than a random layout has.
-const LEVELS: u32 = 8;
+/// More levels than a random layout has: a library has at most 4, and a name outside adds one.
+const LEVELS: u32 = 30;
 
 /// No coordinate of a random shape is farther from its origin, including half a wire's width.
 const REACH: i64 = 90;
@@ -24,168 +24,202 @@ pub struct Cell {
     pub y: i64,
 }
 
-/// A shape of a submission under placings, the innermost first.
-#[derive(Drop)]
+/// The affine map that takes (x, y) to (xx x + xy y + x0, yx x + yy y + y0).
+#[derive(Clone, Copy, PartialEq, Eq)]
+pub struct Affine {
+    xx: i64,
+    xy: i64,
+    x0: i64,
+    yx: i64,
+    yy: i64,
+    y0: i64,
+}
+
+/// A shape of a submission, and the map to its place.
+#[derive(Clone, Copy)]
 pub struct Shown<'a> {
     /// The submission's number, from 0.
     pub origin: u32,
+    /// What takes the points of its library to their places.
+    pub map: Affine,
     /// A boundary or a path, as it is in its library.
     pub element: &'a Element,
-    placings: Vec<Placing>,
 }
 
-/// The quarter turn takes the square of (x, y) to that of (-y - 1, x).
-fn turned(cell: Cell) -> Cell {
-    Cell {
-        x: cell.y.wrapping_neg().wrapping_sub(1),
-        y: cell.x,
-    }
+/// A row times a column.
+fn dot(a: i64, b: i64, x: i64, y: i64) -> i64 {
+    a.wrapping_mul(x).wrapping_add(b.wrapping_mul(y))
 }
 
-/// The mirror about the x axis.
-fn mirrored(cell: Cell) -> Cell {
-    Cell {
-        x: cell.x,
-        y: cell.y.wrapping_neg().wrapping_sub(1),
+impl Affine {
+    /// The map of a placing: its orientation, and then its displacement.
+    pub fn of(placing: Placing) -> Affine {
+        let (xx, xy, yx, yy) = match placing.orient {
+            Orient::R0 => (1, 0, 0, 1),
+            Orient::R90 => (0, -1, 1, 0),
+            Orient::R180 => (-1, 0, 0, -1),
+            Orient::R270 => (0, 1, -1, 0),
+            Orient::M0 => (1, 0, 0, -1),
+            Orient::M90 => (0, 1, 1, 0),
+            Orient::M180 => (-1, 0, 0, 1),
+            Orient::M270 => (0, -1, -1, 0),
+        };
+        Affine {
+            xx,
+            xy,
+            x0: placing.by.x,
+            yx,
+            yy,
+            y0: placing.by.y,
+        }
     }
-}
 
-/// Whether the orientation begins with the mirror, and the quarter turns that follow.
-fn parts(orient: Orient) -> (bool, u32) {
-    match orient {
-        Orient::R0 => (false, 0),
-        Orient::R90 => (false, 1),
-        Orient::R180 => (false, 2),
-        Orient::R270 => (false, 3),
-        Orient::M0 => (true, 0),
-        Orient::M90 => (true, 1),
-        Orient::M180 => (true, 2),
-        Orient::M270 => (true, 3),
+    /// The place of a point.
+    fn at(&self, x: i64, y: i64) -> Point {
+        Point {
+            x: dot(self.xx, self.xy, x, y).wrapping_add(self.x0),
+            y: dot(self.yx, self.yy, x, y).wrapping_add(self.y0),
+        }
     }
-}
 
-fn placed(placing: &Placing, cell: Cell) -> Cell {
-    let (is_mirrored, turns) = parts(placing.orient);
-    let mut cell = if is_mirrored { mirrored(cell) } else { cell };
-    for _ in 0..turns {
-        cell = turned(cell);
-    }
-    Cell {
-        x: cell.x.wrapping_add(placing.by.x),
-        y: cell.y.wrapping_add(placing.by.y),
+    /// This map, and then another.
+    fn then(&self, next: &Affine) -> Affine {
+        let Point { x: x0, y: y0 } = next.at(self.x0, self.y0);
+        Affine {
+            xx: dot(next.xx, next.xy, self.xx, self.yx),
+            xy: dot(next.xx, next.xy, self.xy, self.yy),
+            x0,
+            yx: dot(next.yx, next.yy, self.xx, self.yx),
+            yy: dot(next.yx, next.yy, self.xy, self.yy),
+            y0,
+        }
     }
 }
 
 impl Shown<'_> {
-    /// The place of the shape's square.
-    pub fn placed(&self, cell: Cell) -> Cell {
-        let mut cell = cell;
-        for placing in &self.placings {
-            cell = placed(placing, cell);
+    /// The place of the shape's square: the lower left one of the places of two opposite corners.
+    fn placed(&self, cell: Cell) -> Cell {
+        let first = self.map.at(cell.x, cell.y);
+        let last = self.map.at(cell.x.wrapping_add(1), cell.y.wrapping_add(1));
+        Cell {
+            x: first.x.min(last.x),
+            y: first.y.min(last.y),
         }
-        cell
     }
-}
-
-/// The same placings with one more before them.
-fn with(alloc: Global, placings: &[Placing], first: Placing) -> Result<Vec<Placing>> {
-    let mut all = Vec::new(alloc);
-    all.push(first)?;
-    for placing in placings {
-        all.push(*placing)?;
-    }
-    Ok(all)
-}
-
-fn same(alloc: Global, placings: &[Placing]) -> Result<Vec<Placing>> {
-    let mut all = Vec::new(alloc);
-    for placing in placings {
-        all.push(*placing)?;
-    }
-    Ok(all)
 }
 
 /// The instance of a row and a column.
-fn instance(reference: &Reference, row: u16, column: u16) -> Placing {
+fn instance(reference: &Reference, row: u16, column: u16) -> Affine {
     let (row, column) = (i64::from(row), i64::from(column));
     let (across, up) = (reference.column_step, reference.row_step);
-    let x = column
-        .wrapping_mul(across.x)
-        .wrapping_add(row.wrapping_mul(up.x));
-    let y = column
-        .wrapping_mul(across.y)
-        .wrapping_add(row.wrapping_mul(up.y));
-    Placing {
+    let x = dot(column, row, across.x, up.x);
+    let y = dot(column, row, across.y, up.y);
+    Affine::of(Placing {
         orient: reference.orient,
         by: Point {
             x: x.wrapping_add(reference.origin.x),
             y: y.wrapping_add(reference.origin.y),
         },
-    }
+    })
 }
 
-/// The instances of a reference.
-fn instances(alloc: Global, reference: &Reference) -> Result<Vec<Placing>> {
-    let mut all = Vec::new(alloc);
-    for place in 0..u32::from(reference.columns) * u32::from(reference.rows) {
-        let columns = u32::from(reference.columns.max(1));
-        all.push(instance(
-            reference,
-            (place / columns) as u16,
-            (place % columns) as u16,
-        ))?;
-    }
-    Ok(all)
-}
+/// The name and the map of an instance.
+type Target<'a> = (&'a Name, Affine);
 
-/// Adds the flat shapes of a name to the list, under these placings.
-fn flatten<'a>(
-    list: &mut Vec<Shown<'a>>,
-    shelf: &'a Shelf,
-    number: u32,
-    name: &Name,
-    placings: &[Placing],
-    depth: u32,
-) -> Result<()> {
-    if depth == 0 {
-        bail!("fewer levels");
-    }
-    let alloc = *list.allocator();
-    let submission = shelf.get(number).context("a submission")?;
-    let Some(structure) = own(submission, name) else {
-        let outer = bound(submission, name)?;
-        let top = &shelf.get(outer).context("a bound submission")?.top;
-        return flatten(list, shelf, outer, top, placings, depth - 1);
-    };
-    for element in structure.elements.as_slice() {
-        let Element::Reference(reference) = element else {
-            let placings = same(alloc, placings)?;
-            list.push(Shown {
-                origin: number,
-                element,
-                placings,
-            })?;
-            continue;
-        };
-        let reference = reference.get();
-        for instance in &instances(alloc, reference)? {
-            let inner = with(alloc, placings, *instance)?;
-            flatten(list, shelf, number, &reference.name, &inner, depth - 1)?;
+/// Adds the instances of a reference: row by row, the column running fastest.
+fn add_instances<'a>(
+    targets: &mut Vec<Target<'a>>,
+    reference: &'a Reference,
+) -> Result<(), AllocError> {
+    for row in 0..reference.rows {
+        for column in 0..reference.columns {
+            targets.push((&reference.name, instance(reference, row, column)))?;
         }
     }
     Ok(())
 }
 
-/// The shapes of placed submissions, each with its placings.
+/// The instances of a structure's references, in file order.
+fn targets(alloc: Global, structure: &Structure) -> Result<Vec<Target<'_>>, AllocError> {
+    let mut targets = Vec::new(alloc);
+    for element in structure.elements.as_slice() {
+        if let Element::Reference(reference) = element {
+            add_instances(&mut targets, reference.get())?;
+        }
+    }
+    Ok(targets)
+}
+
+/// What a name of a submission refers to: a structure, and the submission that has it.
+#[derive(Clone, Copy)]
+struct Found<'a> {
+    origin: u32,
+    structure: &'a Structure,
+}
+
+/// The structure of a name, of the submission's library or of one outside.
+fn named<'a>(shelf: &'a Shelf, number: u32, name: &Name) -> Result<Found<'a>> {
+    let submission = shelf.get(number).context("a submission")?;
+    if let Some(structure) = own(submission, name) {
+        return Ok(Found {
+            origin: number,
+            structure,
+        });
+    }
+    let origin = bound(submission, name)?;
+    let outer = shelf.get(origin).context("a bound submission")?;
+    let structure = own(outer, &outer.top).context("a top")?;
+    Ok(Found { origin, structure })
+}
+
+/// Adds the own shapes of a structure.
+fn add_shapes<'a>(
+    list: &mut Vec<Shown<'a>>,
+    found: Found<'a>,
+    map: Affine,
+) -> Result<(), AllocError> {
+    let origin = found.origin;
+    for element in found.structure.elements.as_slice() {
+        if !matches!(element, Element::Reference(_)) {
+            list.push(Shown {
+                origin,
+                map,
+                element,
+            })?;
+        }
+    }
+    Ok(())
+}
+
+/// Adds the flat shapes of a structure to the list, placed by a map: its own ones, and then those of its instances.
+fn flatten<'a>(
+    list: &mut Vec<Shown<'a>>,
+    shelf: &'a Shelf,
+    outer: Found<'a>,
+    map: Affine,
+    depth: u32,
+) -> Result<()> {
+    if depth == 0 {
+        bail!("fewer levels");
+    }
+    add_shapes(list, outer, map)?;
+    for (name, inner) in &targets(*list.allocator(), outer.structure)? {
+        let found = named(shelf, outer.origin, name)?;
+        flatten(list, shelf, found, inner.then(&map), depth - 1)?;
+    }
+    Ok(())
+}
+
+/// The shapes of placed submissions, each with the map to its place.
 ///
 /// # Errors
 /// A submission or a bound name doesn't exist, there are more levels than a random layout has, or out of memory.
 pub fn flat_list<'a>(alloc: Global, shelf: &'a Shelf, roots: &[Root]) -> Result<Vec<Shown<'a>>> {
     let mut list = Vec::new(alloc);
     for root in roots {
-        let placings = with(alloc, &[], root.placing)?;
         let top = &shelf.get(root.submission).context("a root")?.top;
-        flatten(&mut list, shelf, root.submission, top, &placings, LEVELS)?;
+        let found = named(shelf, root.submission, top)?;
+        flatten(&mut list, shelf, found, Affine::of(root.placing), LEVELS)?;
     }
     Ok(list)
 }
@@ -221,29 +255,41 @@ fn is_along(from: i64, to: i64, before: i64, behind: i64, z: i64) -> bool {
     }
 }
 
+/// A segment of a path, how far it goes on before its first point and behind its last one, and half its width.
+#[derive(Clone, Copy)]
+struct Segment {
+    from: Point,
+    to: Point,
+    before: i64,
+    behind: i64,
+    half: i64,
+}
+
+impl Segment {
+    fn has(&self, cell: Cell) -> bool {
+        let (from, to, half) = (self.from, self.to, self.half);
+        if from.y == to.y {
+            is_along(from.x, to.x, self.before, self.behind, cell.x)
+                && is_along(from.y, to.y, half, half, cell.y)
+        } else {
+            is_along(from.x, to.x, half, half, cell.x)
+                && is_along(from.y, to.y, self.before, self.behind, cell.y)
+        }
+    }
+}
+
 fn path_has(path: &Path, cell: Cell) -> bool {
-    let points = &path.points;
+    let count = path.points.len();
     let half = path.width / 2;
-    for index in 1..points.len() {
-        let (from, to) = (points.at(index - 1), points.at(index));
-        let before = if index == 1 { path.begin } else { half };
-        let behind = if index.wrapping_add(1) == points.len() {
-            path.end
-        } else {
-            half
+    for index in 1..count {
+        let segment = Segment {
+            from: path.points.at(index - 1),
+            to: path.points.at(index),
+            before: if index == 1 { path.begin } else { half },
+            behind: if index + 1 == count { path.end } else { half },
+            half,
         };
-        let is_level = from.y == to.y;
-        let (x0, x1) = if is_level {
-            (before, behind)
-        } else {
-            (half, half)
-        };
-        let (y0, y1) = if is_level {
-            (half, half)
-        } else {
-            (before, behind)
-        };
-        if is_along(from.x, to.x, x0, x1, cell.x) && is_along(from.y, to.y, y0, y1, cell.y) {
+        if segment.has(cell) {
             return true;
         }
     }
@@ -251,7 +297,7 @@ fn path_has(path: &Path, cell: Cell) -> bool {
 }
 
 /// Whether the shape has the square, in its own coordinates.
-pub fn has(element: &Element, cell: Cell) -> bool {
+fn has(element: &Element, cell: Cell) -> bool {
     match element {
         Element::Boundary(boundary) => boundary_has(boundary, cell),
         Element::Path(path) => path_has(path.get(), cell),
@@ -272,7 +318,7 @@ pub fn layer(element: &Element) -> Option<Layer> {
 ///
 /// # Errors
 /// Out of memory.
-pub fn squares_of(alloc: Global, shown: &Shown<'_>) -> Result<Vec<Cell>> {
+pub fn squares_of(alloc: Global, shown: &Shown<'_>) -> Result<Vec<Cell>, AllocError> {
     let mut squares = Vec::new(alloc);
     for x in -REACH..REACH {
         for y in -REACH..REACH {

@@ -1,5 +1,6 @@
 //! Random layouts: a pad with an arm inside, and a chip that places pads, alone and in arrays, in any orientation.
 
+use crate::notation::Notation;
 use crate::shelves::submit;
 use anyhow::Result;
 use gate_words::{ORIENTS, Random};
@@ -27,69 +28,79 @@ fn orient(random: &mut Random) -> (&'static str, Orient) {
     ORIENTS[(random.below(8) % 8) as usize]
 }
 
-/// A rectangle, a notched polygon or a wire with one corner.
-fn shape(alloc: Global, random: &mut Random) -> Result<String, AllocError> {
+/// Adds a rectangle, a notched polygon or a wire with one corner.
+fn shape(text: &mut Notation, random: &mut Random) {
     let (x, y) = (near(random), near(random));
-    let layer = random.below(2);
-    let (a, b) = (
-        x.wrapping_add(length(random)),
-        y.wrapping_add(length(random)),
-    );
-    let (c, d) = (
-        a.wrapping_add(length(random)),
-        b.wrapping_add(length(random)),
-    );
-    match random.below(3) {
-        0 => format!(in alloc; "; b {layer}/0 {x} {y} {c} {d}"),
-        1 => {
-            format!(in alloc;
-                "; p {layer}/0 {x} {y} {c} {y} {c} {b} {a} {b} {a} {d} {x} {d} {x} {y}"
-            )
-        }
+    let layer = ["0/0", "1/0"][(random.below(2) % 2) as usize];
+    let a = x.wrapping_add(length(random));
+    let b = y.wrapping_add(length(random));
+    let c = a.wrapping_add(length(random));
+    let d = b.wrapping_add(length(random));
+    let kind = random.below(3);
+    text.add(["; b ", "; p ", "; w "][(kind % 3) as usize]);
+    text.add(layer);
+    match kind {
+        0 => text.numbers(&[x, y, c, d]),
+        1 => text.numbers(&[x, y, c, y, c, b, a, b, a, d, x, d, x, y]),
         _ => {
-            let width = length(random);
-            format!(in alloc; "; w {layer}/0 . {width} . . {x} {y} {c} {y} {c} {d}")
+            text.add(" .");
+            text.numbers(&[length(random)]);
+            text.add(" . .");
+            text.numbers(&[x, y, c, y, c, d]);
         }
     }
 }
 
-fn single(alloc: Global, random: &mut Random, name: &str) -> Result<String, AllocError> {
-    let (x, y) = (far(random), far(random));
+/// Adds an orientation.
+fn turn(text: &mut Notation, random: &mut Random) {
     let (turn, _) = orient(random);
-    format!(in alloc; "; s {name} {x} {y} {turn}")
+    text.add(" ");
+    text.add(turn);
 }
 
-/// An array of two columns and three rows.
-fn array(alloc: Global, random: &mut Random, name: &str) -> Result<String, AllocError> {
+/// Adds an instance.
+fn single(text: &mut Notation, random: &mut Random, name: &str) {
+    text.add("; s ");
+    text.add(name);
+    text.numbers(&[far(random), far(random)]);
+    turn(text, random);
+}
+
+/// Adds an array of two columns and three rows.
+fn array(text: &mut Notation, random: &mut Random, name: &str) {
     let (x, y) = (far(random), far(random));
-    let (a, b) = (near(random).wrapping_mul(2), near(random).wrapping_mul(2));
-    let (c, d) = (near(random).wrapping_mul(3), near(random).wrapping_mul(3));
-    let (a, b) = (x.wrapping_add(a), y.wrapping_add(b));
-    let (c, d) = (x.wrapping_add(c), y.wrapping_add(d));
-    let (turn, _) = orient(random);
-    format!(in alloc; "; a {name} 2 3 {x} {y} {a} {b} {c} {d} {turn}")
+    let a = x.wrapping_add(near(random).wrapping_mul(2));
+    let b = y.wrapping_add(near(random).wrapping_mul(2));
+    let c = x.wrapping_add(near(random).wrapping_mul(3));
+    let d = y.wrapping_add(near(random).wrapping_mul(3));
+    text.add("; a ");
+    text.add(name);
+    text.numbers(&[2, 3, x, y, a, b, c, d]);
+    turn(text, random);
 }
 
 /// A pad that places an arm.
 fn pad(alloc: Global, random: &mut Random) -> Result<String, AllocError> {
-    let mut text = format!(in alloc; "PAD:")?;
-    text.push_str(shape(alloc, random)?.as_str())?;
-    text.push_str(single(alloc, random, "ARM")?.as_str())?;
-    text.push_str("; ARM:")?;
-    text.push_str(shape(alloc, random)?.as_str())?;
-    Ok(text)
+    let mut text = Notation::new(alloc);
+    text.add("PAD:");
+    shape(&mut text, random);
+    single(&mut text, random, "ARM");
+    text.add("; ARM:");
+    shape(&mut text, random);
+    text.finish()
 }
 
 /// A chip that places pads and its own structure.
 fn chip(alloc: Global, random: &mut Random) -> Result<String, AllocError> {
-    let mut text = format!(in alloc; "CHIP:")?;
-    text.push_str(shape(alloc, random)?.as_str())?;
-    text.push_str(single(alloc, random, "pad")?.as_str())?;
-    text.push_str(array(alloc, random, "pad")?.as_str())?;
-    text.push_str(array(alloc, random, "OWN")?.as_str())?;
-    text.push_str("; OWN:")?;
-    text.push_str(shape(alloc, random)?.as_str())?;
-    Ok(text)
+    let mut text = Notation::new(alloc);
+    text.add("CHIP:");
+    shape(&mut text, random);
+    single(&mut text, random, "pad");
+    array(&mut text, random, "pad");
+    array(&mut text, random, "OWN");
+    text.add("; OWN:");
+    shape(&mut text, random);
+    text.finish()
 }
 
 /// Submits a pad and a chip.
@@ -105,19 +116,21 @@ pub fn layout(alloc: Global, random: &mut Random) -> Result<Shelf> {
     Ok(shelf)
 }
 
-/// The chip twice and the pad once, in any orientation.
-pub fn roots(alloc: Global, random: &mut Random) -> Result<Vec<Root>> {
-    let mut roots = Vec::new(alloc);
-    for submission in [1u32, 0, 1] {
-        let (_, orient) = orient(random);
-        let by = Point {
-            x: far(random),
-            y: far(random),
-        };
-        roots.push(Root {
-            submission,
-            placing: Placing { orient, by },
-        })?;
+/// A placement of a submission, in any orientation.
+fn root(random: &mut Random, submission: u32) -> Root {
+    let (_, orient) = orient(random);
+    let by = Point {
+        x: far(random),
+        y: far(random),
+    };
+    Root {
+        submission,
+        placing: Placing { orient, by },
     }
-    Ok(roots)
+}
+
+/// The chip twice and the pad once, in any orientation.
+pub fn roots(alloc: Global, random: &mut Random) -> Result<Vec<Root>, AllocError> {
+    let roots = [root(random, 1), root(random, 0), root(random, 1)];
+    Vec::from_slice(alloc, &roots)
 }

@@ -1,9 +1,9 @@
 //! The unit squares of a layout, painted one by one.
 
 use crate::flat::{Cell, Shown, layer, squares_of};
-use anyhow::{Context, Result, bail};
+use anyhow::{Result, bail};
 use mpw_geom::Box2;
-use std::alloc::Global;
+use std::alloc::{AllocError, Global};
 
 /// The side of a picture, in nm, and its lower left corner.
 const SIDE: usize = 3000;
@@ -28,6 +28,15 @@ fn place(x: i64, y: i64) -> Option<usize> {
     }
 }
 
+/// The bits of a shape's layer and submission, or none if the picture has none for them.
+fn mark_of(shown: &Shown<'_>) -> Option<u8> {
+    let layer = layer(shown.element)?.layer;
+    if layer > 1 || shown.origin > 5 {
+        return None;
+    }
+    Some((1u8 << layer) | (4u8 << shown.origin))
+}
+
 /// The smallest box that has those squares and this one.
 fn reaching(reach: &Box2, cell: Cell) -> Box2 {
     Box2 {
@@ -43,9 +52,8 @@ impl Picture {
     ///
     /// # Errors
     /// Out of memory.
-    pub fn new(alloc: Global) -> Result<Picture> {
-        let mut squares = Vec::with_capacity(alloc, SIDE * SIDE)?;
-        squares.resize(SIDE * SIDE, 0u8)?;
+    pub fn new(alloc: Global) -> Result<Picture, AllocError> {
+        let squares = vec![in alloc; 0u8; SIDE * SIDE]?;
         let reach = Box2 {
             x0: 0,
             y0: 0,
@@ -55,13 +63,24 @@ impl Picture {
         Ok(Picture { squares, reach })
     }
 
-    fn paint_square(&mut self, cell: Cell, mark: u8) -> Result<()> {
-        let place = place(cell.x, cell.y).context("a square within the picture")?;
+    /// Paints a square, and returns whether it is within the picture.
+    fn paint_square(&mut self, cell: Cell, mark: u8) -> bool {
+        let place = place(cell.x, cell.y).unwrap_or(usize::MAX);
         let Some(square) = self.squares.get_mut(place) else {
-            bail!("a square of the picture");
+            return false;
         };
         *square |= mark;
         self.reach = reaching(&self.reach, cell);
+        true
+    }
+
+    /// Paints squares.
+    fn paint_squares(&mut self, squares: &[Cell], mark: u8) -> Result<()> {
+        for cell in squares {
+            if !self.paint_square(*cell, mark) {
+                bail!("a square within the picture");
+            }
+        }
         Ok(())
     }
 
@@ -70,15 +89,11 @@ impl Picture {
     /// # Errors
     /// It is on another layer, of another submission or outside, or out of memory.
     pub fn paint(&mut self, alloc: Global, shown: &Shown<'_>) -> Result<()> {
-        let layer = layer(shown.element).context("a shape")?.layer;
-        if layer > 1 || shown.origin > 5 {
+        let Some(mark) = mark_of(shown) else {
             bail!("a layer and a submission of the picture");
-        }
-        let mark = (1u8 << layer) | (4u8 << shown.origin);
-        for cell in &squares_of(alloc, shown)? {
-            self.paint_square(*cell, mark)?;
-        }
-        Ok(())
+        };
+        let squares = squares_of(alloc, shown)?;
+        self.paint_squares(&squares, mark)
     }
 
     /// A box that has the origin and all squares.

@@ -1,21 +1,12 @@
 //! The markers of a picture, square by square: each pair of edges in each row is tested by the definition of its check.
 
 use crate::picture::Picture;
-use anyhow::Result;
 use mpw_deck::{Check, Rule};
 use mpw_geom::Box2;
-use std::alloc::Global;
+use std::alloc::{AllocError, Global};
 
-/// A row with a pair of edges that a rule finds too near, by the order of markers: axis 0 is `V`, axis 1 `H`.
-#[derive(Clone, Copy, PartialEq, Eq, PartialOrd, Ord)]
-struct Step {
-    rule: u32,
-    axis: u8,
-    side: u8,
-    x1: i64,
-    x2: i64,
-    row: i64,
-}
+/// A row with a pair of edges that a rule finds too near, by the order of markers: the rule, the axis (0 is `V`, 1 `H`), the side, both edges, and the row.
+type Step = (u32, u8, u8, i64, i64, i64);
 
 /// A maximal run of rows, from `y0` to before `y1`, with the submissions that it touches.
 #[derive(Drop)]
@@ -91,7 +82,12 @@ impl View<'_> {
     }
 
     fn is_covered(&self, layer: u16, x1: i64, x2: i64, row: i64) -> bool {
-        (x1..x2).all(|x| self.has(layer, x, row))
+        for x in x1..x2 {
+            if !self.has(layer, x, row) {
+                return false;
+            }
+        }
+        true
     }
 
     /// Whether the check pairs the edges at `x1` and `x2` on that side.
@@ -123,125 +119,181 @@ impl View<'_> {
     }
 }
 
+/// A rule of a deck, and its index there.
+#[derive(Clone, Copy)]
+struct Placed<'a> {
+    rule: &'a Rule,
+    place: u32,
+}
+
 /// Adds the pairs of an edge.
 fn add_pairs(
     steps: &mut Vec<Step>,
     view: View<'_>,
-    place: u32,
-    rule: &Rule,
+    placed: Placed<'_>,
     x1: i64,
     row: i64,
-) -> Result<()> {
+) -> Result<(), AllocError> {
+    let (check, distance) = (placed.rule.check, i64::from(placed.rule.distance));
     for side in 0..2u8 {
-        for x2 in x1..x1.saturating_add(i64::from(rule.distance)) {
-            if view.is_pair(rule.check, side, x1, x2, row) {
-                steps.push(Step {
-                    rule: place,
-                    axis: view.axis,
-                    side,
-                    x1,
-                    x2,
-                    row,
-                })?;
+        for x2 in x1..x1.saturating_add(distance) {
+            if view.is_pair(check, side, x1, x2, row) {
+                steps.push((placed.place, view.axis, side, x1, x2, row))?;
             }
         }
     }
     Ok(())
 }
 
-fn add_row(steps: &mut Vec<Step>, view: View<'_>, place: u32, rule: &Rule, row: i64) -> Result<()> {
+fn add_row(
+    steps: &mut Vec<Step>,
+    view: View<'_>,
+    placed: Placed<'_>,
+    row: i64,
+) -> Result<(), AllocError> {
     let reach = view.reach();
     for x in reach.x0..reach.x1.saturating_add(1) {
         if view.has_edge(x, row) {
-            add_pairs(steps, view, place, rule, x, row)?;
+            add_pairs(steps, view, placed, x, row)?;
         }
     }
     Ok(())
 }
 
 /// Adds the rows of a rule, on both axes.
-fn add_rule(steps: &mut Vec<Step>, picture: &Picture, place: u32, rule: &Rule) -> Result<()> {
+fn add_rule(
+    steps: &mut Vec<Step>,
+    picture: &Picture,
+    placed: Placed<'_>,
+) -> Result<(), AllocError> {
     for axis in 0..2u8 {
         let view = View { picture, axis };
         let reach = view.reach();
         for row in reach.y0..reach.y1 {
-            add_row(steps, view, place, rule, row)?;
+            add_row(steps, view, placed, row)?;
         }
     }
     Ok(())
 }
 
 /// Whether a closed square of the submission shares a point with the closed box.
-fn meets(picture: &Picture, origin: u32, x0: i64, x1: i64, y0: i64, y1: i64) -> bool {
-    (x0.saturating_sub(1)..x1.saturating_add(1)).any(|x| (y0.saturating_sub(1)..y1.saturating_add(
-        1,
-    )).any(|y| picture.is_of(origin, x, y)))
-}
-
-/// The submissions that the run touches, ascending.
-fn met(alloc: Global, picture: &Picture, run: &PlainMarker) -> Result<Vec<u32>> {
-    let mut met = Vec::new(alloc);
-    for origin in 0..6u32 {
-        let is_met = if run.is_horizontal {
-            meets(picture, origin, run.y0, run.y1, run.x1, run.x2)
-        } else {
-            meets(picture, origin, run.x1, run.x2, run.y0, run.y1)
-        };
-        if is_met {
-            met.push(origin)?;
+fn meets(picture: &Picture, origin: u32, area: &Box2) -> bool {
+    for x in area.x0.saturating_sub(1)..area.x1.saturating_add(1) {
+        for y in area.y0.saturating_sub(1)..area.y1.saturating_add(1) {
+            if picture.is_of(origin, x, y) {
+                return true;
+            }
         }
     }
-    Ok(met)
+    false
 }
 
-/// Whether the step continues the run.
-fn goes_on(run: &PlainMarker, step: &Step) -> bool {
-    run.rule == step.rule
-        && run.is_horizontal == (step.axis == 1)
-        && run.side == step.side
-        && run.x1 == step.x1
-        && run.x2 == step.x2
-        && run.y1 == step.row
+impl PlainMarker {
+    /// A run of one row, which touches no submission yet.
+    fn of(alloc: Global, step: &Step) -> PlainMarker {
+        let (rule, axis, side, x1, x2, row) = *step;
+        PlainMarker {
+            rule,
+            is_horizontal: axis == 1,
+            side,
+            x1,
+            x2,
+            y0: row,
+            y1: row.saturating_add(1),
+            met: Vec::new(alloc),
+        }
+    }
+
+    /// The box from the first edge to the second, as it lies.
+    fn area(&self) -> Box2 {
+        if self.is_horizontal {
+            Box2 {
+                x0: self.y0,
+                y0: self.x1,
+                x1: self.y1,
+                y1: self.x2,
+            }
+        } else {
+            Box2 {
+                x0: self.x1,
+                y0: self.y0,
+                x1: self.x2,
+                y1: self.y1,
+            }
+        }
+    }
+
+    /// Whether the step continues the run. Then the run has it.
+    fn takes(&mut self, step: &Step) -> bool {
+        let (rule, axis, side, x1, x2, row) = *step;
+        let goes_on = self.rule == rule
+            && self.is_horizontal == (axis == 1)
+            && self.side == side
+            && self.x1 == x1
+            && self.x2 == x2
+            && self.y1 == row;
+        if goes_on {
+            self.y1 = row.saturating_add(1);
+        }
+        goes_on
+    }
+
+    /// Notes the submissions that the run touches, ascending.
+    fn find_met(&mut self, picture: &Picture) -> Result<(), AllocError> {
+        let area = self.area();
+        for origin in 0..6u32 {
+            if meets(picture, origin, &area) {
+                self.met.push(origin)?;
+            }
+        }
+        Ok(())
+    }
+}
+
+/// Whether the last run goes on with a step.
+fn is_taken(runs: &mut Vec<PlainMarker>, step: &Step) -> bool {
+    match runs.last_mut() {
+        Some(run) => run.takes(step),
+        None => false,
+    }
 }
 
 /// The maximal runs of rows of steps in order.
-fn runs(alloc: Global, steps: &[Step]) -> Result<Vec<PlainMarker>> {
+fn runs(alloc: Global, steps: &[Step]) -> Result<Vec<PlainMarker>, AllocError> {
     let mut runs: Vec<PlainMarker> = Vec::new(alloc);
     for step in steps {
-        if let Some(run) = runs.last_mut() {
-            if goes_on(run, step) {
-                run.y1 = step.row.saturating_add(1);
-                continue;
-            }
+        if !is_taken(&mut runs, step) {
+            runs.push(PlainMarker::of(alloc, step))?;
         }
-        runs.push(PlainMarker {
-            rule: step.rule,
-            is_horizontal: step.axis == 1,
-            side: step.side,
-            x1: step.x1,
-            x2: step.x2,
-            y0: step.row,
-            y1: step.row.saturating_add(1),
-            met: Vec::new(alloc),
-        })?;
     }
     Ok(runs)
+}
+
+/// The steps of the rules, in order.
+fn steps_of(alloc: Global, picture: &Picture, rules: &[Rule]) -> Result<Vec<Step>, AllocError> {
+    let mut steps = Vec::new(alloc);
+    let mut place = 0u32;
+    for rule in rules {
+        add_rule(&mut steps, picture, Placed { rule, place })?;
+        place = place.saturating_add(1);
+    }
+    steps.sort()?;
+    Ok(steps)
 }
 
 /// The markers of the rules, in order. Cost: a pass over all squares for each rule and axis.
 ///
 /// # Errors
 /// Out of memory.
-pub fn plain_markers(alloc: Global, picture: &Picture, rules: &[Rule]) -> Result<Vec<PlainMarker>> {
-    let mut steps = Vec::new(alloc);
-    for (place, rule) in rules.iter().enumerate() {
-        let place = u32::try_from(place).unwrap_or(u32::MAX);
-        add_rule(&mut steps, picture, place, rule)?;
-    }
-    steps.sort()?;
+pub fn plain_markers(
+    alloc: Global,
+    picture: &Picture,
+    rules: &[Rule],
+) -> Result<Vec<PlainMarker>, AllocError> {
+    let steps = steps_of(alloc, picture, rules)?;
     let mut runs = runs(alloc, &steps)?;
     for run in &mut runs {
-        run.met = met(alloc, picture, run)?;
+        run.find_met(picture)?;
     }
     Ok(runs)
 }

@@ -13,38 +13,33 @@ mod names;
 mod planes;
 mod reals;
 
-use anyhow::{Result, bail};
+use anyhow::Result;
+use gate_words::{Answers, Words, answer_lines};
 
-/// Answers the words before the bar and those after it.
-fn answer_words(rt: &(impl Print + AllocGlobal), words: &[&str], more: &[&str]) -> Result<()> {
-    match words {
-        ["name", word] => names::name(rt, word),
-        ["names", count] => names::names(rt, count),
-        ["order", first, second] => names::order(rt, first, second),
-        ["real", word] => reals::real(rt, word, more),
-        [key, rest @ ..] => planes::answer(rt, key, rest, more),
-        [] => bail!("a command"),
-    }
-}
+/// What answers the lines.
+#[derive(Clone, Copy)]
+struct Geometry;
 
-fn answer(rt: &(impl Print + AllocGlobal), line: &str) -> Result<()> {
-    if line.is_empty() || line.starts_with('#') {
-        return Ok(());
+impl Answers for Geometry {
+    fn answer(
+        &mut self,
+        rt: &HostRuntime,
+        verb: &str,
+        words: &mut Words<'_>,
+        behind: &str,
+    ) -> Result<()> {
+        match verb {
+            "deck" => decks::deck(rt, words.rest()),
+            "name" => names::name(rt, words.next()),
+            "names" => names::names(rt, words.number()),
+            "order" => names::order(rt, words.next(), words.next()),
+            "real" => reals::real(rt, words.next(), behind),
+            _ => planes::answer(rt, verb, words, behind),
+        }
     }
-    if let Some(text) = line.strip_prefix("deck ") {
-        return decks::deck(rt, text);
-    }
-    let (before, behind) = line.split_once('|').unwrap_or((line, ""));
-    let words: Vec<&str> = before.split_whitespace().collect(rt.alloc())?;
-    let more: Vec<&str> = behind.split_whitespace().collect(rt.alloc())?;
-    answer_words(rt, &words, &more)
 }
 
 /// Answers the lines of its table.
-pub(crate) fn run(rt: &HostRuntime, lines: &[String]) -> Result<()> {
-    for line in lines {
-        println!(rt; "{line}")?;
-        answer(rt, line.as_str())?;
-    }
-    Ok(())
+pub(crate) fn run(rt: &HostRuntime, lines: &str) -> Result<()> {
+    answer_lines(rt, &mut Geometry, lines)
 }

@@ -12,32 +12,12 @@ mod layouts;
 mod texts;
 
 use anyhow::Result;
-use gate_samples::text_of_library;
+use gate_words::answer_lines;
+use layouts::Hostile;
 use mpw_hier::Shelf;
 
-/// Answers a line.
-fn answer(rt: &(impl Print + AllocGlobal), shelf: &mut Shelf, line: &str) -> Result<()> {
-    if line.is_empty() || line.starts_with('#') {
-        return Ok(());
-    }
-    let (command, notation) = line.split_once('|').unwrap_or((line, ""));
-    let words: Vec<&str> = command.split_whitespace().collect(rt.alloc())?;
-    if let ["count", submission] = words.as_slice() {
-        return layouts::count(rt, shelf, submission);
-    }
-    let bytes = text_of_library(rt.alloc(), notation)?;
-    match words.as_slice() {
-        ["submit", cell, top] => layouts::submit(rt, shelf, cell, top, &bytes),
-        words => texts::answer(rt, words, bytes),
-    }
-}
-
 /// Answers the lines of its table.
-pub(crate) fn run(rt: &HostRuntime, lines: &[String]) -> Result<()> {
-    let mut shelf = Shelf::new(rt.alloc());
-    for line in lines {
-        println!(rt; "{line}")?;
-        answer(rt, &mut shelf, line.as_str())?;
-    }
-    Ok(())
+pub(crate) fn run(rt: &HostRuntime, lines: &str) -> Result<()> {
+    let shelf = Shelf::new(rt.alloc());
+    answer_lines(rt, &mut Hostile { shelf }, lines)
 }

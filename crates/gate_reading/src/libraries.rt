@@ -13,12 +13,10 @@ mod print;
 mod texts;
 
 use anyhow::Result;
+use gate_words::answer_lines;
+use texts::Texts;
 
 /// Answers the lines of its table.
-pub(crate) fn run(rt: &HostRuntime, lines: &[String]) -> Result<()> {
-    for line in lines {
-        println!(rt; "{line}")?;
-        texts::answer(rt, line.as_str())?;
-    }
-    Ok(())
+pub(crate) fn run(rt: &HostRuntime, lines: &str) -> Result<()> {
+    answer_lines(rt, &mut Texts, lines)
 }

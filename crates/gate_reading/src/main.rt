@@ -9,24 +9,25 @@ mod libraries;
 mod shapes;
 
 use anyhow::{Result, bail};
-use gate_words::{Table, read_tables};
+use gate_words::{HEAD, read_input, table};
 
 /// Runs a table.
-fn run(rt: &HostRuntime, table: &Table) -> Result<()> {
-    match table.name() {
-        "geometry" => geometry::run(rt, table.lines()),
-        "libraries" => libraries::run(rt, table.lines()),
-        "hostile" => hostile::run(rt, table.lines()),
-        "shapes" => shapes::run(rt, table.lines()),
+fn run(rt: &HostRuntime, name: &str, lines: &str) -> Result<()> {
+    match name {
+        "geometry" => geometry::run(rt, lines),
+        "libraries" => libraries::run(rt, lines),
+        "hostile" => hostile::run(rt, lines),
+        "shapes" => shapes::run(rt, lines),
         _ => bail!("no table has this name"),
     }
 }
 
 fn main(rt: HostRuntime) -> Result<()> {
-    let tables = read_tables(&rt)?;
-    for table in &tables {
-        println!(rt; "== {}", table.name())?;
-        run(&rt, table)?;
+    let input = read_input(&rt)?;
+    for text in input.split(HEAD) {
+        let (name, lines) = table(text);
+        println!(rt; "== {name}")?;
+        run(&rt, name, lines)?;
     }
     Ok(())
 }

@@ -7,33 +7,14 @@
 //!   only that the boxes are at most that many, if they are;
 //! - `scribbles N` compares the boxes of random boundaries with the winding numbers of each square.
 mod figures;
+mod scribbles;
 mod shapes;
 
 use anyhow::Result;
-
-fn answer_words(rt: &(impl Print + AllocGlobal), words: &[&str], notation: &str) -> Result<()> {
-    match words {
-        ["figure", name, rest @ ..] => shapes::figure(rt, name, rest),
-        ["scribbles", count] => shapes::scribbles(rt, count),
-        _ => shapes::answer(rt, words, &shapes::boxes_of_notation(rt.alloc(), notation)?),
-    }
-}
-
-/// Prints a line, and answers it.
-fn answer(rt: &(impl Print + AllocGlobal), line: &str) -> Result<()> {
-    println!(rt; "{line}")?;
-    if line.is_empty() || line.starts_with('#') {
-        return Ok(());
-    }
-    let (command, notation) = line.split_once('|').unwrap_or((line, ""));
-    let words: Vec<&str> = command.split_whitespace().collect(rt.alloc())?;
-    answer_words(rt, &words, notation)
-}
+use gate_words::answer_lines;
+use shapes::Shapes;
 
 /// Answers the lines of its table.
-pub(crate) fn run(rt: &HostRuntime, lines: &[String]) -> Result<()> {
-    for line in lines {
-        answer(rt, line.as_str())?;
-    }
-    Ok(())
+pub(crate) fn run(rt: &HostRuntime, lines: &str) -> Result<()> {
+    answer_lines(rt, &mut Shapes, lines)
 }

@@ -1,7 +1,6 @@
 //! The table of `mpw help` as the tables of docs/: requests, commands, denials and codes, each with its columns.
-use anyhow::Result;
 use mpw_help::{Detail, Entry, Table, tables};
-use std::io::{BufWriter, Write};
+use std::io;
 
 /// The head of a table whose entries are like this one.
 fn head(detail: Detail) -> &'static str {
@@ -14,46 +13,33 @@ fn head(detail: Detail) -> &'static str {
     }
 }
 
-/// The columns behind the meaning.
-fn put_detail<W: Write>(writer: &mut W, detail: Detail) -> Result<()> {
-    match detail {
-        Detail::Request { tests, reply } => writeln!(writer, " {tests} | {reply} |")?,
-        Detail::Command { statuses } => writeln!(writer, " {statuses} |")?,
+/// Prints a row of a table.
+fn print_row(rt: &HostRuntime, entry: &Entry) -> io::Result<()> {
+    print!(rt; "| `{}` | {} |", entry.form, entry.meaning)?;
+    match entry.detail {
+        Detail::Request { tests, reply } => println!(rt; " {tests} | {reply} |"),
+        Detail::Command { statuses } => println!(rt; " {statuses} |"),
         Detail::Denial { remedy } | Detail::Refusal { number: _, remedy } => {
-            writeln!(writer, " {remedy} |")?
+            println!(rt; " {remedy} |")
         }
     }
-    Ok(())
 }
 
-/// A row of a table.
-fn put_row<W: Write>(writer: &mut W, entry: &Entry) -> Result<()> {
-    write!(writer, "| `{}` | {} |", entry.form, entry.meaning)?;
-    put_detail(writer, entry.detail)
-}
-
-/// The rows of a table.
-fn put_rows<W: Write>(writer: &mut W, entries: &[Entry]) -> Result<()> {
-    for entry in entries {
-        put_row(writer, entry)?;
-    }
-    Ok(())
-}
-
-/// A table, behind its title.
-fn put_table<W: Write>(writer: &mut W, table: &Table) -> Result<()> {
+/// Prints a table, behind its title.
+fn print_table(rt: &HostRuntime, table: &Table) -> io::Result<()> {
     if let Some(first) = table.entries.first() {
-        write!(writer, "\n## {}\n\n{}", table.title, head(first.detail))?;
+        print!(rt; "\n## {}\n\n{}", table.title, head(first.detail))?;
     }
-    put_rows(writer, table.entries)
+    for entry in table.entries {
+        print_row(rt, entry)?;
+    }
+    Ok(())
 }
 
 /// Prints all tables of the help.
-pub(crate) fn run(rt: &HostRuntime) -> Result<()> {
-    let mut output = BufWriter::new(rt.alloc(), rt.stdout())?;
+pub(crate) fn run(rt: &HostRuntime) -> io::Result<()> {
     for table in tables().iter() {
-        put_table(&mut output, table)?;
+        print_table(rt, table)?;
     }
-    output.flush()?;
     Ok(())
 }

@@ -10,25 +10,26 @@ mod settings;
 mod stored;
 
 use anyhow::{Result, bail};
-use gate_words::{Table, read_tables};
+use gate_words::{HEAD, read_input, table};
 
 /// Runs a table.
-fn run(rt: &HostRuntime, table: &Table) -> Result<()> {
-    match table.name() {
-        "settings" => settings::run(rt, table.lines()),
-        "stored" => stored::run(rt, table.lines()),
-        "report" => report::run(rt, table.lines()),
-        "picture" => picture::run(rt, table.lines()),
-        "help" => help::run(rt),
+fn run(rt: &HostRuntime, name: &str, lines: &str) -> Result<()> {
+    match name {
+        "settings" => settings::run(rt, lines),
+        "stored" => stored::run(rt, lines),
+        "report" => report::run(rt, lines),
+        "picture" => picture::run(rt, lines),
+        "help" => Ok(help::run(rt)?),
         _ => bail!("no table has this name"),
     }
 }
 
 fn main(rt: HostRuntime) -> Result<()> {
-    let tables = read_tables(&rt)?;
-    for table in &tables {
-        println!(rt; "== {}", table.name())?;
-        run(&rt, table)?;
+    let input = read_input(&rt)?;
+    for text in input.split(HEAD) {
+        let (name, lines) = table(text);
+        println!(rt; "== {name}")?;
+        run(&rt, name, lines)?;
     }
     Ok(())
 }

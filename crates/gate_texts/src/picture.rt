@@ -10,9 +10,9 @@
 //! - `near PLACE | N R90 x y, ..` draws what lies round the marker with that place, which is wanted.
 mod given;
 
-use anyhow::{Result, bail};
+use anyhow::{Context, Result};
+use gate_words::Words;
 use given::Given;
-use mpw_markers::Marker;
 use mpw_picture::{Picture, View, draw, draw_view, marker_window, whole_window, write_picture};
 use mpw_tiles::Snapshot;
 use std::io::BufWriter;
@@ -25,74 +25,64 @@ fn print(rt: &HostRuntime, given: &Given, snapshot: &Snapshot, picture: &Picture
 }
 
 /// Draws all of placed submissions.
-fn print_whole(rt: &HostRuntime, given: &Given, placed: &str) -> Result<()> {
-    let snapshot = given.snapshot(rt.alloc(), placed)?;
-    let window = whole_window(&snapshot);
-    let picture = draw(rt.alloc(), &snapshot, given.markers.as_slice(), window)?;
-    print(rt, given, &snapshot, &picture)
-}
-
-/// A number of a line.
-fn count(word: &str) -> Result<usize> {
-    match word.parse::<usize>() {
-        Ok(count) => Ok(count),
-        Err(_) => bail!("a number"),
-    }
+fn print_whole(rt: &HostRuntime, given: &Given, snapshot: &Snapshot) -> Result<()> {
+    let window = whole_window(snapshot);
+    let picture = draw(rt.alloc(), snapshot, given.markers.as_slice(), window)?;
+    print(rt, given, snapshot, &picture)
 }
 
 /// Draws all of placed submissions, with at most so many markers of a rule.
-fn print_first(rt: &HostRuntime, given: &Given, limit: &str, placed: &str) -> Result<()> {
-    let snapshot = given.snapshot(rt.alloc(), placed)?;
+fn print_first(rt: &HostRuntime, given: &Given, snapshot: &Snapshot, limit: u32) -> Result<()> {
     let view = View {
-        window: whole_window(&snapshot),
+        window: whole_window(snapshot),
         wanted: None,
-        limit: count(limit)?,
+        limit: limit as usize,
     };
-    let picture = draw_view(rt.alloc(), &snapshot, given.markers.as_slice(), view)?;
-    print(rt, given, &snapshot, &picture)
+    let picture = draw_view(rt.alloc(), snapshot, given.markers.as_slice(), view)?;
+    print(rt, given, snapshot, &picture)
 }
 
-/// The marker with that place.
-fn marker_at<'a>(given: &'a Given, place: &str) -> Result<&'a Marker> {
-    match given.markers.as_slice().get(count(place)?) {
-        Some(marker) => Ok(marker),
-        None => bail!("a marker with that place"),
-    }
-}
-
-/// Draws what lies round a marker.
-fn print_near(rt: &HostRuntime, given: &Given, place: &str, placed: &str) -> Result<()> {
-    let snapshot = given.snapshot(rt.alloc(), placed)?;
-    let marker = marker_at(given, place)?;
+/// Draws what lies round the marker with that place.
+fn print_near(rt: &HostRuntime, given: &Given, snapshot: &Snapshot, place: u32) -> Result<()> {
+    let marker = given
+        .markers
+        .as_slice()
+        .get(place as usize)
+        .context("a marker")?;
     let view = View {
         window: marker_window(snapshot.deck().rules().as_slice(), marker),
         wanted: Some(marker.key()),
         limit: usize::MAX,
     };
-    let picture = draw_view(rt.alloc(), &snapshot, given.markers.as_slice(), view)?;
-    print(rt, given, &snapshot, &picture)
+    let picture = draw_view(rt.alloc(), snapshot, given.markers.as_slice(), view)?;
+    print(rt, given, snapshot, &picture)
 }
 
+/// Answers a line.
 fn answer(rt: &HostRuntime, given: &mut Given, line: &str) -> Result<()> {
-    if line.is_empty() || line.starts_with('#') {
-        return Ok(());
-    }
     let (command, rest) = line.split_once(" | ").unwrap_or((line, ""));
-    let words: Vec<&str> = command.split_whitespace().collect(rt.alloc())?;
-    match words.as_slice() {
-        ["whole"] => print_whole(rt, given, rest),
-        ["first", limit] => print_first(rt, given, limit, rest),
-        ["near", place] => print_near(rt, given, place, rest),
-        ["many", number, step] => given.add_many(rt.alloc(), count(number)?, count(step)?, rest),
-        words => given.take(rt.alloc(), words, rest),
+    let mut words = Words::of(command);
+    let verb = words.next();
+    if verb != "whole" && verb != "first" && verb != "near" {
+        given.take(rt.alloc(), verb, &mut words, rest)?;
+        return words.end();
     }
+    let snapshot = given.snapshot(rt.alloc(), rest)?;
+    match verb {
+        "first" => print_first(rt, given, &snapshot, words.number())?,
+        "near" => print_near(rt, given, &snapshot, words.number())?,
+        _ => print_whole(rt, given, &snapshot)?,
+    }
+    words.end()
 }
 
 /// Answers the lines of its table.
-pub(crate) fn run(rt: &HostRuntime, lines: &[String]) -> Result<()> {
+pub(crate) fn run(rt: &HostRuntime, lines: &str) -> Result<()> {
     let mut given = Given::new(rt.alloc());
-    for line in lines {
-        answer(rt, &mut given, line.as_str())?;
+    for line in lines.lines() {
+        if !line.is_empty() && !line.starts_with('#') {
+            answer(rt, &mut given, line)?;
+        }
     }
     Ok(())
 }

@@ -6,7 +6,7 @@
 //! Where there is a line `counts N..` too, the same report stands behind that by these numbers of markers, rule by rule.
 mod given;
 
-use anyhow::Result;
+use anyhow::{Context, Result};
 use given::Given;
 use mpw_report::{Report, write_full_report, write_report};
 use std::io::BufWriter;
@@ -14,12 +14,17 @@ use std::io::BufWriter;
 /// Writes the report of all markers.
 fn print_all(rt: &HostRuntime, given: &Given) -> Result<()> {
     let deck = given.deck(rt.alloc())?;
+    let top = given.top.as_ref().context("a name")?;
     let mut output = BufWriter::new(rt.alloc(), rt.stdout())?;
-    let rules = deck.rules().as_slice();
-    Ok(write_report(&mut output, rules, given.top()?, given.markers.as_slice())?)
+    Ok(write_report(
+        &mut output,
+        deck.rules().as_slice(),
+        top,
+        given.markers.as_slice(),
+    )?)
 }
 
-/// Writes the full report of a file, by numbers of markers where there are some.
+/// Writes the full report of a file, by numbers of markers if there are some.
 fn print_full(
     rt: &HostRuntime,
     given: &Given,
@@ -29,33 +34,38 @@ fn print_full(
     let deck = given.deck(rt.alloc())?;
     let notes = given.notes(rt.alloc())?;
     let faults = given.faults(rt.alloc())?;
-    let mut output = BufWriter::new(rt.alloc(), rt.stdout())?;
     let report = Report {
         original: Some(original),
-        top: given.top()?,
+        top: given.top.as_ref().context("a name")?,
         rules: deck.rules().as_slice(),
         markers: given.markers.as_slice(),
         counts,
-        limit: given.limit.unwrap_or(usize::MAX),
+        limit: given.limit,
         notes: notes.as_slice(),
         faults: faults.as_slice(),
     };
+    let mut output = BufWriter::new(rt.alloc(), rt.stdout())?;
     Ok(write_full_report(&mut output, &report)?)
 }
 
-/// Answers the lines of its table.
-pub(crate) fn run(rt: &HostRuntime, lines: &[String]) -> Result<()> {
-    let mut given = Given::new(rt.alloc());
-    for line in lines {
-        given.take(rt.alloc(), line.as_str())?;
-    }
-    print_all(rt, &given)?;
+/// Writes the reports.
+fn print(rt: &HostRuntime, given: &Given) -> Result<()> {
+    print_all(rt, given)?;
     let Some(original) = &given.original else {
         return Ok(());
     };
-    print_full(rt, &given, original.as_str(), None)?;
+    print_full(rt, given, original.as_str(), None)?;
     match &given.counts {
-        Some(counts) => print_full(rt, &given, original.as_str(), Some(counts.as_slice())),
+        Some(counts) => print_full(rt, given, original.as_str(), Some(counts.as_slice())),
         None => Ok(()),
     }
+}
+
+/// Answers the lines of its table.
+pub(crate) fn run(rt: &HostRuntime, lines: &str) -> Result<()> {
+    let mut given = Given::new(rt.alloc());
+    for line in lines.lines() {
+        given.take(rt.alloc(), line)?;
+    }
+    print(rt, &given)
 }

@@ -5,7 +5,8 @@
 //! nothing.
 use anyhow::Result;
 use mpw_settings::{Log, Officer, Service, Settings, SettingsFault, Store, read_settings};
-use std::alloc::Global;
+use std::alloc::{AllocError, Global};
+use std::io;
 
 /// What the word `ROOT` stands for.
 const ROOT: [&str; 4] = [
@@ -16,13 +17,13 @@ const ROOT: [&str; 4] = [
 ];
 
 /// The words of a line.
-fn words_of(alloc: Global, line: &str) -> Result<Vec<&str>> {
+fn words_of(alloc: Global, line: &str) -> Result<Vec<&str>, AllocError> {
     let mut words = Vec::new(alloc);
     for word in line.split_whitespace() {
         if word == "ROOT" {
             words.extend_from_slice(ROOT.as_slice())?;
         } else {
-            words.push(word)?;
+            words.extend_from_slice(&[word])?;
         }
     }
     Ok(words)
@@ -30,18 +31,13 @@ fn words_of(alloc: Global, line: &str) -> Result<Vec<&str>> {
 
 /// The first line of a text.
 fn first_line(text: &str) -> &str {
-    match text.split_once('\n') {
-        Some((first, _)) => first,
-        None => text,
-    }
+    text.split_once('\n').unwrap_or((text, "")).0
 }
 
 /// Prints an officer on a line of its own.
-fn print_officer(rt: &(impl Print + AllocGlobal), officer: &Officer) -> Result<()> {
-    let name = officer.name.as_str();
+fn print_officer(rt: &HostRuntime, officer: &Officer) -> Result<()> {
     let digest = hex::encode(rt.alloc(), officer.digest.as_slice())?;
-    println!(rt; "    officer {name}, digest {digest}")?;
-    Ok(())
+    Ok(println!(rt; "    officer {}, digest {digest}", officer.name)?)
 }
 
 /// A flag's word after a comma, if the flag is set.
@@ -50,22 +46,26 @@ fn flag_word(is_set: bool, word: &str) -> &str {
 }
 
 /// Prints where changes are stored, on a line of its own, if they are, and the flags of the file.
-fn print_store(rt: &impl Print, store: Option<&Store>) -> Result<()> {
-    if let Some(store) = store {
-        let file = store.path.as_str();
-        let existing = flag_word(store.is_existing, ", existing");
-        let new = flag_word(store.is_new, ", new");
-        let private = flag_word(store.is_private, ", private");
-        println!(rt; "    store '{file}'{existing}{new}{private}")?;
-    }
-    Ok(())
+fn print_store(rt: &HostRuntime, store: Option<&Store>) -> io::Result<()> {
+    let Some(store) = store else {
+        return Ok(());
+    };
+    println!(rt;
+        "    store '{}'{}{}{}",
+        store.path,
+        flag_word(store.is_existing, ", existing"),
+        flag_word(store.is_new, ", new"),
+        flag_word(store.is_private, ", private")
+    )
 }
 
 /// Prints the limits of strangers, on a line of their own, if there are any, and whether a run is held, on another one.
-fn print_conduct(rt: &impl Print, service: &Service) -> Result<()> {
-    if let Some(strangers) = service.strangers {
-        let (memory, rate, login) = (strangers.memory, strangers.rate, strangers.login);
-        println!(rt; "    strangers: {memory} bytes, {rate} lines a second, {login} s")?;
+fn print_conduct(rt: &HostRuntime, service: &Service) -> io::Result<()> {
+    if let Some(limits) = service.strangers {
+        println!(rt;
+            "    strangers: {} bytes, {} lines a second, {} s",
+            limits.memory, limits.rate, limits.login
+        )?;
     }
     if service.holds_run {
         println!(rt; "    an unfinished run is held")?;
@@ -73,67 +73,66 @@ fn print_conduct(rt: &impl Print, service: &Service) -> Result<()> {
     Ok(())
 }
 
-/// Prints a service, its log, its limits, its store and its officer on a line each.
-fn print_service(rt: &(impl Print + AllocGlobal), service: &Service) -> Result<()> {
-    let listen = service.listen.as_str();
-    let (connections, workers, idle) = (service.connections, service.workers, service.idle);
+/// Prints where the log goes.
+fn print_log(rt: &HostRuntime, log: &Log) -> io::Result<()> {
+    match log {
+        Log::Nowhere => println!(rt; "    log nowhere"),
+        Log::StandardError => println!(rt; "    log to the standard error"),
+        Log::File(file) => println!(rt; "    log to the file {file}"),
+    }
+}
+
+/// Prints a service, its log and its limits on a line each.
+fn print_service(rt: &HostRuntime, service: &Service) -> io::Result<()> {
     let when = if service.is_ongoing {
         "at a time"
     } else {
         "in all"
     };
     println!(rt;
-        "    serve {listen}: {connections} connections {when}, {workers} workers, {idle} s idle"
+        "    serve {}: {} connections {when}, {} workers, {} s idle",
+        service.listen, service.connections, service.workers, service.idle
     )?;
-    match &service.log {
-        Log::Nowhere => println!(rt; "    log nowhere")?,
-        Log::StandardError => println!(rt; "    log to the standard error")?,
-        Log::File(file) => println!(rt; "    log to the file {file}")?,
-    }
+    print_log(rt, &service.log)?;
     print_conduct(rt, service)?;
-    print_store(rt, service.store.as_ref())?;
-    print_officer(rt, &service.officer)
+    print_store(rt, service.store.as_ref())
 }
 
 /// Prints the settings.
-fn print_settings(rt: &(impl Print + AllocGlobal), settings: &Settings) -> Result<()> {
+fn print_settings(rt: &HostRuntime, settings: &Settings) -> Result<()> {
     match settings {
         Settings::Script(script) => {
             println!(rt; "    script")?;
             print_store(rt, script.store.as_ref())?;
             print_officer(rt, &script.officer)
         }
-        Settings::Serve(service) => print_service(rt, service),
-        Settings::Help(text) => {
-            let first = first_line(text.as_str());
-            println!(rt; "    help: {first}")?;
-            Ok(())
+        Settings::Serve(service) => {
+            print_service(rt, service)?;
+            print_officer(rt, &service.officer)
         }
+        Settings::Help(text) => Ok(println!(rt; "    help: {}", first_line(text.as_str()))?),
     }
 }
 
 /// Prints what a line's words give.
-fn answer(rt: &(impl Print + AllocGlobal), line: &str) -> Result<()> {
-    if line.is_empty() || line.starts_with('#') {
-        return Ok(());
-    }
+fn answer(rt: &HostRuntime, line: &str) -> Result<()> {
     let words = words_of(rt.alloc(), line)?;
     match read_settings(rt.alloc(), words.as_slice()) {
-        Ok(settings) => print_settings(rt, &settings)?,
+        Ok(settings) => print_settings(rt, &settings),
         Err(SettingsFault::Usage(text)) => {
-            let first = first_line(text.as_str());
-            println!(rt; "    usage: {first}")?;
+            Ok(println!(rt; "    usage: {}", first_line(text.as_str()))?)
         }
-        Err(SettingsFault::Memory) => println!(rt; "    memory")?,
+        Err(SettingsFault::Memory) => Ok(println!(rt; "    memory")?),
     }
-    Ok(())
 }
 
 /// Answers the lines of its table.
-pub(crate) fn run(rt: &HostRuntime, lines: &[String]) -> Result<()> {
-    for line in lines {
+pub(crate) fn run(rt: &HostRuntime, lines: &str) -> Result<()> {
+    for line in lines.lines() {
         println!(rt; "{line}")?;
-        answer(rt, line.as_str())?;
+        if !line.is_empty() && !line.starts_with('#') {
+            answer(rt, line)?;
+        }
     }
     Ok(())
 }

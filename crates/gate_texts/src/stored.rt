@@ -5,7 +5,7 @@
 //! - `stored LINE` has a stored line without a payload, `payload N LINE` one with a payload of N zeros: whether they
 //!   are a request's;
 //! - `grant` tells the stored lines of grants whose objects are of either kind, and reads them back.
-use anyhow::{Result, bail};
+use anyhow::{Context, Result, bail};
 use mpw_deck::DeckText;
 use mpw_geom::Name;
 use mpw_library::LibraryText;
@@ -13,50 +13,48 @@ use mpw_permissions::{Grant, Object, Operation};
 use mpw_requests::{LayoutRequest, PolicyRequest, Request, SharedRequest, WaferRequest};
 use mpw_stored_text::{read_stored, stored_line, stored_payload};
 use mpw_wire::{LineAsk, parse_line};
-use std::alloc::Global;
+use std::alloc::{AllocError, Global};
 
-fn zeros(alloc: Global, word: &str) -> Result<Vec<u8>> {
-    match word.parse::<u16>() {
-        Ok(count) => Ok(vec![in alloc; 0u8; usize::from(count)]?),
-        Err(_) => bail!("a number of bytes"),
-    }
+fn zeros(alloc: Global, count: usize) -> Result<Vec<u8>, AllocError> {
+    vec![in alloc; 0u8; count.min(65535)]
+}
+
+/// The submission of that many zeros.
+fn submission(alloc: Global, cell: Name, top: Name, count: usize) -> Result<Request, AllocError> {
+    let text = LibraryText::read(alloc, zeros(alloc, count)?)?;
+    Ok(Request::Layout(LayoutRequest::Submit { cell, top, text }))
+}
+
+/// The deck of that many zeros.
+fn deck(alloc: Global, count: usize) -> Result<Request, AllocError> {
+    let text = DeckText::read(alloc, zeros(alloc, count)?)?;
+    Ok(Request::Wafer(WaferRequest::Deck { text }))
 }
 
 /// The request of a line; it submits zeros.
 fn request_of(alloc: Global, line: &str) -> Result<SharedRequest> {
-    match parse_line(alloc, line.as_bytes())? {
-        LineAsk::Request(request) => Ok(request),
-        LineAsk::Submission { cell, top, length } => {
-            let bytes = vec![in alloc; 0u8; length.min(65535)]?;
-            let text = LibraryText::read(alloc, bytes)?;
-            let request = Request::Layout(LayoutRequest::Submit { cell, top, text });
-            Ok(SharedRequest::new(alloc, request)?)
-        }
-        LineAsk::Deck { length } => {
-            let bytes = vec![in alloc; 0u8; length.min(65535)]?;
-            let text = DeckText::read(alloc, bytes)?;
-            let request = Request::Wafer(WaferRequest::Deck { text });
-            Ok(SharedRequest::new(alloc, request)?)
-        }
+    let request = match parse_line(alloc, line.as_bytes())? {
+        LineAsk::Request(request) => return Ok(request),
+        LineAsk::Submission { cell, top, length } => submission(alloc, cell, top, length)?,
+        LineAsk::Deck { length } => deck(alloc, length)?,
         LineAsk::Long | LineAsk::Form => bail!("a request's line"),
-    }
+    };
+    Ok(SharedRequest::new(alloc, request)?)
 }
 
 /// Whether a line and a payload are read as a request that has them.
 fn is_read(alloc: Global, line: &str, payload: Option<&[u8]>) -> Result<bool> {
-    match read_stored(alloc, line, payload)? {
-        Some(request) => {
-            if stored_line(alloc, request.get())?.as_str() != line {
-                bail!("the request's line");
-            }
-            Ok(true)
-        }
-        None => Ok(false),
+    let Some(request) = read_stored(alloc, line, payload)? else {
+        return Ok(false);
+    };
+    if stored_line(alloc, request.get())?.as_str() != line {
+        bail!("the request's line");
     }
+    Ok(true)
 }
 
 /// Tells a request's stored line, and reads it back.
-fn tell_request(rt: &(impl Print + AllocGlobal), request: &Request) -> Result<()> {
+fn tell_request(rt: &HostRuntime, request: &Request) -> Result<()> {
     let line = stored_line(rt.alloc(), request)?;
     println!(rt; "    {line}")?;
     let payload = stored_payload(request);
@@ -70,16 +68,13 @@ fn tell_request(rt: &(impl Print + AllocGlobal), request: &Request) -> Result<()
 }
 
 /// Tells whether a line and a payload are a request's.
-fn tell_stored(rt: &(impl Print + AllocGlobal), line: &str, payload: Option<&[u8]>) -> Result<()> {
-    if is_read(rt.alloc(), line, payload)? {
-        Ok(println!(rt; "    a request's")?)
-    } else {
-        Ok(println!(rt; "    nobody's")?)
-    }
+fn tell_stored(rt: &HostRuntime, line: &str, payload: Option<&[u8]>) -> Result<()> {
+    let is_read = is_read(rt.alloc(), line, payload)?;
+    Ok(println!(rt; "    {}", if is_read { "a request's" } else { "nobody's" })?)
 }
 
 /// Tells the stored line of a grant to role `r`.
-fn tell_grant(rt: &(impl Print + AllocGlobal), operation: Operation, object: Object) -> Result<()> {
+fn tell_grant(rt: &HostRuntime, operation: Operation, object: Object) -> Result<()> {
     let role = Name::read(rt.alloc(), b"r")?;
     let grant = Grant {
         operation,
@@ -90,34 +85,26 @@ fn tell_grant(rt: &(impl Print + AllocGlobal), operation: Operation, object: Obj
 }
 
 /// Tells grants on the desk and on a cell that is named `desk`, by operations of either kind.
-fn tell_grants(rt: &(impl Print + AllocGlobal)) -> Result<()> {
-    tell_grant(rt, Operation::Submit, Object::Desk)?;
-    tell_grant(
-        rt,
-        Operation::Submit,
-        Object::Cell(Name::read(rt.alloc(), b"desk")?),
-    )?;
-    tell_grant(rt, Operation::Admin, Object::Desk)?;
-    tell_grant(
-        rt,
-        Operation::Admin,
-        Object::Cell(Name::read(rt.alloc(), b"desk")?),
-    )
+fn tell_grants(rt: &HostRuntime) -> Result<()> {
+    for operation in [Operation::Submit, Operation::Admin] {
+        tell_grant(rt, operation, Object::Desk)?;
+        tell_grant(
+            rt,
+            operation,
+            Object::Cell(Name::read(rt.alloc(), b"desk")?),
+        )?;
+    }
+    Ok(())
 }
 
-fn answer(rt: &(impl Print + AllocGlobal), line: &str) -> Result<()> {
-    if line.is_empty() || line.starts_with('#') {
-        return Ok(());
-    }
-    if line == "grant" {
-        return tell_grants(rt);
-    }
-    match line.split_once(' ') {
-        Some(("asked", text)) => tell_request(rt, request_of(rt.alloc(), text)?.get()),
-        Some(("stored", text)) => tell_stored(rt, text, None),
-        Some(("payload", text)) => {
-            let (count, text) = text.split_once(' ').unwrap_or((text, ""));
-            let payload = zeros(rt.alloc(), count)?;
+fn answer(rt: &HostRuntime, verb: &str, text: &str) -> Result<()> {
+    match verb {
+        "grant" => tell_grants(rt),
+        "asked" => tell_request(rt, request_of(rt.alloc(), text)?.get()),
+        "stored" => tell_stored(rt, text, None),
+        "payload" => {
+            let (count, text) = text.split_once(' ').context("a number of bytes")?;
+            let payload = zeros(rt.alloc(), count.parse::<usize>()?)?;
             tell_stored(rt, text, Some(payload.as_slice()))
         }
         _ => bail!("a command"),
@@ -125,10 +112,13 @@ fn answer(rt: &(impl Print + AllocGlobal), line: &str) -> Result<()> {
 }
 
 /// Answers the lines of its table.
-pub(crate) fn run(rt: &HostRuntime, lines: &[String]) -> Result<()> {
-    for line in lines {
+pub(crate) fn run(rt: &HostRuntime, lines: &str) -> Result<()> {
+    for line in lines.lines() {
         println!(rt; "{line}")?;
-        answer(rt, line.as_str())?;
+        if !line.is_empty() && !line.starts_with('#') {
+            let (verb, text) = line.split_once(' ').unwrap_or((line, ""));
+            answer(rt, verb, text)?;
+        }
     }
     Ok(())
 }

@@ -1,10 +1,12 @@
 //! Markers by their words, read and printed.
 
 use crate::numerals::{coordinate, number};
+use crate::words::Words;
 use anyhow::{Result, bail};
 use mpw_edges::Axis;
-use mpw_markers::{Marker, Met};
+use mpw_markers::{Key, Marker, Met};
 use std::alloc::Global;
+use std::io;
 
 /// The axis `V` or `H`.
 ///
@@ -31,7 +33,7 @@ pub fn side(word: &str) -> Result<u8> {
 }
 
 /// The letter of an axis.
-fn letter(axis: Axis) -> &'static str {
+pub fn letter(axis: Axis) -> &'static str {
     match axis {
         Axis::V => "V",
         Axis::H => "H",
@@ -73,4 +75,71 @@ pub fn marker(alloc: Global, line: &str) -> Result<Marker> {
         y1: coordinate(y1)?,
         met: Met::none(),
     })
+}
+
+/// Takes the axis `V` or `H`.
+fn next_axis(words: &mut Words<'_>) -> Axis {
+    match words.next() {
+        "V" => Axis::V,
+        "H" => Axis::H,
+        _ => {
+            words.fail();
+            Axis::V
+        }
+    }
+}
+
+/// Takes the side `0` or `1`.
+fn next_side(words: &mut Words<'_>) -> u8 {
+    match words.next() {
+        "0" => 0,
+        "1" => 1,
+        _ => {
+            words.fail();
+            0
+        }
+    }
+}
+
+/// Takes the seven words of a marker's key: rule, axis, side, x1, x2, y0, y1.
+pub fn key(words: &mut Words<'_>) -> Key {
+    Key {
+        rule: words.number(),
+        axis: next_axis(words),
+        side: next_side(words),
+        x1: words.coordinate(),
+        x2: words.coordinate(),
+        y0: words.coordinate(),
+        y1: words.coordinate(),
+    }
+}
+
+/// The marker of a key that touches these submissions.
+pub fn marker_of(key: Key, met: Met) -> Marker {
+    Marker {
+        rule: key.rule,
+        axis: key.axis,
+        side: key.side,
+        x1: key.x1,
+        x2: key.x2,
+        y0: key.y0,
+        y1: key.y1,
+        met,
+    }
+}
+
+/// Prints a marker on its own line: its key, and the submissions that it touches.
+///
+/// # Errors
+/// The output fails.
+pub fn tell_marker(rt: &HostRuntime, marker: &Marker) -> io::Result<()> {
+    let axis = letter(marker.axis);
+    print!(rt;
+        "    {} {axis} {} {} {} {} {} met",
+        marker.rule, marker.side, marker.x1, marker.x2, marker.y0, marker.y1
+    )?;
+    for number in marker.met.as_slice() {
+        print!(rt; " {number}")?;
+    }
+    println!(rt)
 }

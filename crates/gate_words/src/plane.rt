@@ -22,17 +22,25 @@ pub const ORIENTS: [(&str, Orient); 8] = [
     ("M270", Orient::M270),
 ];
 
+/// The orientation of a word, or none.
+pub fn orient_of(word: &str) -> Option<Orient> {
+    for (name, orient) in ORIENTS {
+        if name == word {
+            return Some(orient);
+        }
+    }
+    None
+}
+
 /// The orientation of a word.
 ///
 /// # Errors
 /// No orientation has the word.
 pub fn orient(word: &str) -> Result<Orient> {
-    for (name, orient) in ORIENTS {
-        if name == word {
-            return Ok(orient);
-        }
+    match orient_of(word) {
+        Some(orient) => Ok(orient),
+        None => bail!("an orientation"),
     }
-    bail!("an orientation")
 }
 
 /// The word of an orientation.

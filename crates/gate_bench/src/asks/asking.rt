@@ -12,30 +12,12 @@ use std::alloc::{AllocError, Global};
 use std::marker::Brand;
 use std::sync::Wait;
 use std::thread::{self, Threads};
-use std::time::{Clock, Duration, Instant};
 
 /// How many threads ask, and how often each.
 #[derive(Clone, Copy)]
 pub struct Plan {
     pub threads: u32,
     pub times: u32,
-}
-
-/// How many calls the desk answered, in what time.
-#[derive(Clone, Copy)]
-pub struct Asked {
-    pub calls: usize,
-    pub taken: Duration,
-}
-
-impl Asked {
-    /// Calls a second.
-    pub fn rate(&self) -> u128 {
-        match self.taken.as_nanos() {
-            0 => 0,
-            nanoseconds => (self.calls as u128).saturating_mul(1_000_000_000) / nanoseconds,
-        }
-    }
 }
 
 /// The request that opens a session of the officer.
@@ -77,6 +59,23 @@ fn ask<N: Room, R: Wait>(
     }
 }
 
+/// The passes of that many threads.
+fn all_passes<N: Room, R: Wait>(
+    rt: &R,
+    alloc: Global,
+    shared: &Shared<Core, NoKeeper, N>,
+    threads: u32,
+) -> Result<Vec<Pass<N>>, AllocError> {
+    let mut passes = Vec::new(alloc);
+    for _ in 0..threads {
+        let Some(pass) = shared.pass(rt) else {
+            return Err(AllocError);
+        };
+        passes.push(pass)?;
+    }
+    Ok(passes)
+}
+
 /// Asks in threads, and returns the passes of those that asked every time.
 fn ask_all<N: Room + Send + Sync, R: Threads + Wait + Sync>(
     rt: &R,
@@ -84,36 +83,30 @@ fn ask_all<N: Room + Send + Sync, R: Threads + Wait + Sync>(
     shared: &Shared<Core, NoKeeper, N>,
     plan: Plan,
 ) -> Result<Vec<Pass<N>>, AllocError> {
+    let passes = all_passes(rt, alloc, shared, plan.threads)?;
     let times = plan.times;
-    thread::scope(thread::scope_env(), rt, |scope| {
-        let mut asking = Vec::new(alloc);
-        for _ in 0..plan.threads {
-            let Some(pass) = shared.pass(rt) else {
-                return Err(AllocError);
-            };
-            match scope.spawn(move || ask(rt, alloc, shared, pass, times)) {
-                Ok(handle) => asking.push(handle)?,
-                Err(_) => return Err(AllocError),
-            }
+    let asked = thread::map_vec(
+        rt,
+        passes,
+        &|pass: Pass<N>| { ask(rt, alloc, shared, pass, times) },
+    )?;
+    let mut passes = Vec::new(alloc);
+    for pass in asked {
+        if let Some(pass) = pass {
+            passes.push(pass)?;
         }
-        let mut passes = Vec::new(alloc);
-        for handle in asking {
-            if let Some(pass) = handle.join(rt) {
-                passes.push(pass)?;
-            }
-        }
-        Ok(passes)
-    })
+    }
+    Ok(passes)
 }
 
-/// Asks a desk under its name; none if the passes that came back didn't make all its calls.
-fn ask_named<N: Room + Send + Sync, R: Threads + Wait + Clock + Sync>(
+/// Asks a desk under its name, and returns how many calls it answered; none if the passes that came back didn't make all its calls.
+fn ask_named<N: Room + Send + Sync, R: Threads + Wait + Sync>(
     rt: &R,
     alloc: Global,
     core: Box<Core>,
     blank: Blank,
     plan: Plan,
-) -> Result<Option<Asked>, AllocError>
+) -> Result<Option<usize>, AllocError>
     requires begun { N.begun ≡ kept_desk core.value None 0 }
     requires name { blank.name ≡ N.name }
     requires parts { (blank.parts ≡ N.parts) × (N.all ≡ N.parts) × (1048577 ≤ N.all) }
@@ -122,29 +115,20 @@ fn ask_named<N: Room + Send + Sync, R: Threads + Wait + Clock + Sync>(
     requires above { AreBelow 1 core.value.history }
 {
     let shared: Shared<Core, NoKeeper, N> = Shared::new(core, NoKeeper, blank, 1);
-    let Ok(begin) = Instant::now(rt) else {
-        return Ok(None);
-    };
     let passes = ask_all(rt, alloc, &shared, plan)?;
-    let Ok(taken) = begin.elapsed(rt) else {
-        return Ok(None);
-    };
     match shared.finish(passes) {
-        Ok((core, _keeper)) => {
-            let calls = core.calls().len();
-            Ok(Some(Asked { calls, taken }))
-        }
+        Ok((core, _keeper)) => Ok(Some(core.calls().len())),
         Err(_) => Ok(None),
     }
 }
 
-/// Asks a new desk in threads. It returns none if the desk had calls before, a thread did not ask every time, or the clock can't be read.
-pub fn ask_in_threads<R: Threads + Wait + Clock + Sync>(
+/// Asks a new desk in threads, and returns how many calls it answered; none if the desk had calls before, or a thread did not ask every time.
+pub fn ask_in_threads<R: Threads + Wait + Sync>(
     rt: &R,
     alloc: Global,
     core: Box<Core>,
     plan: Plan,
-) -> Result<Option<Asked>, AllocError> {
+) -> Result<Option<usize>, AllocError> {
     if !are_below(1, core.calls()) {
         return Ok(None);
     }

@@ -1,6 +1,6 @@
 //! The rectangles of two layers, and what a check finds among them.
 
-use gate_words::{check_of, coordinate_or_zero};
+use gate_words::{Words, check_of};
 use mpw_deck::{Check, Rule};
 use mpw_geom::{Box2, Layer, Name};
 use std::alloc::{AllocError, Global};
@@ -30,10 +30,9 @@ pub struct Shapes {
     second: Vec<Box2>,
 }
 
-fn rule_of(alloc: Global, word: &str, distance: i64) -> Option<Rule> {
+fn rule_of(alloc: Global, word: &str, distance: u32) -> Option<Rule> {
     let check = check_of(word, FIRST, SECOND)?;
     let name = Name::read(alloc, b"rule").ok()?;
-    let distance = u32::try_from(distance).ok()?;
     Some(Rule {
         name,
         check,
@@ -52,22 +51,16 @@ impl Shapes {
 
     /// Takes a rectangle, or returns how many pieces a check finds.
     pub fn answer(&mut self, alloc: Global, line: &str) -> Result<Option<usize>, AllocError> {
-        let mut words = line.split(' ');
-        let verb = words.next().unwrap_or("");
-        let x0 = coordinate_or_zero(words.next());
-        let y0 = coordinate_or_zero(words.next());
-        let x1 = coordinate_or_zero(words.next());
-        let y1 = coordinate_or_zero(words.next());
-        let shape = Box2 { x0, y0, x1, y1 };
-        match verb {
-            "a" => self.first.push(shape)?,
-            "b" => self.second.push(shape)?,
-            _ => return self.found(alloc, verb, x0),
+        let mut words = Words::of(line);
+        match words.next() {
+            "a" => self.first.push(words.area())?,
+            "b" => self.second.push(words.area())?,
+            verb => return self.found(alloc, verb, words.number()),
         }
         Ok(None)
     }
 
-    fn found(&self, alloc: Global, verb: &str, distance: i64) -> Result<Option<usize>, AllocError> {
+    fn found(&self, alloc: Global, verb: &str, distance: u32) -> Result<Option<usize>, AllocError> {
         let Some(rule) = rule_of(alloc, verb, distance) else {
             return Ok(None);
         };

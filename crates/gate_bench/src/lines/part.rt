@@ -36,9 +36,10 @@ impl Part {
 }
 
 /// How many of the replies' lines begin like those of accepted requests.
-pub fn accepted(replies: &[u8]) -> usize {
-    replies
-        .split(|byte: &u8| -> bool { *byte == b'\n' })
-        .filter(|line: &&[u8]| -> bool { line.starts_with(b"OK ") })
-        .count()
+pub fn accepted(replies: &str) -> usize {
+    let mut accepted = 0usize;
+    for line in replies.lines() {
+        accepted = accepted.saturating_add(usize::from(line.starts_with("OK ")));
+    }
+    accepted
 }

@@ -1,25 +1,18 @@
 //! The calls that are timed.
 
-use crate::policy::desk::is_accepted;
 use mpw_geom::Name;
 use mpw_permissions::{Object, Operation};
-use mpw_rbac::{Identity, Policy, PolicyFault};
+use mpw_rbac::Policy;
 
 /// Asks for that many permissions, of the objects in turn. It returns how many there are.
 pub fn permitted(policy: &Policy, objects: &[Object], calls: u32) -> u32 {
-    let mut permitted: u32 = 0;
-    let mut at: usize = 0;
+    let (mut permitted, mut at) = (0u32, 0usize);
     for _ in 0..calls {
-        if at >= objects.len() {
-            at = 0;
-        }
         let Some(object) = objects.get(at) else {
             return permitted;
         };
-        if policy.permits(2, Operation::Read, object) {
-            permitted = permitted.saturating_add(1);
-        }
-        at = at.saturating_add(1);
+        permitted = permitted.saturating_add(u32::from(policy.permits(2, Operation::Read, object)));
+        at = next(at, objects.len());
     }
     permitted
 }
@@ -27,48 +20,39 @@ pub fn permitted(policy: &Policy, objects: &[Object], calls: u32) -> u32 {
 /// Asks one access for that many permissions, of the objects in turn. It returns how many there are.
 pub fn accessible(policy: &Policy, objects: &[Object], calls: u32) -> u32 {
     let access = policy.access(2, Operation::Read);
-    let mut permitted: u32 = 0;
-    let mut at: usize = 0;
+    let (mut permitted, mut at) = (0u32, 0usize);
     for _ in 0..calls {
-        if at >= objects.len() {
-            at = 0;
-        }
         let Some(object) = objects.get(at) else {
             return permitted;
         };
-        if access.permits(object) {
-            permitted = permitted.saturating_add(1);
-        }
-        at = at.saturating_add(1);
+        permitted = permitted.saturating_add(u32::from(access.permits(object)));
+        at = next(at, objects.len());
     }
     permitted
 }
 
-/// Whether `whoami` returned an identity.
-fn is_known(identity: Result<Identity, PolicyFault>) -> bool {
-    identity.is_ok()
+/// The index after that one; 0 after the last.
+fn next(at: usize, count: usize) -> usize {
+    let next = at.saturating_add(1);
+    if next < count { next } else { 0 }
 }
 
 /// Asks `whoami` that many times. It returns how often it got an identity.
 pub fn known(policy: &Policy, calls: u32) -> u32 {
-    let mut known: u32 = 0;
+    let mut known = 0u32;
     for _ in 0..calls {
-        if is_known(policy.whoami(2)) {
-            known = known.saturating_add(1);
-        }
+        known = known.saturating_add(u32::from(policy.whoami(2).is_ok()));
     }
     known
 }
 
 /// Makes a role active and drops it that many times. It returns how often both were accepted.
 pub fn activated(policy: &mut Policy, role: &Name, calls: u32) -> u32 {
-    let mut accepted: u32 = 0;
+    let mut accepted = 0u32;
     for _ in 0..calls {
-        let active = is_accepted(policy.activate(2, role));
-        let dropped = is_accepted(policy.drop_role(2, role));
-        if active && dropped {
-            accepted = accepted.saturating_add(1);
-        }
+        let active = policy.activate(2, role).is_ok();
+        let dropped = policy.drop_role(2, role).is_ok();
+        accepted = accepted.saturating_add(u32::from(active && dropped));
     }
     accepted
 }

@@ -29,7 +29,7 @@ fn add_rule(sum: &mut Sum, rule: &Rule) {
 }
 
 /// Prints the side of the tiles, the number of rules, and the sum.
-fn report_deck(rt: &impl Print, deck: &Deck) -> Result<()> {
+fn report_deck(rt: &HostRuntime, deck: &Deck) -> Result<()> {
     let mut sum = Sum::new();
     let rules = deck.rules().as_slice();
     for rule in rules {
@@ -39,7 +39,7 @@ fn report_deck(rt: &impl Print, deck: &Deck) -> Result<()> {
 }
 
 /// Reads a text as that of a request is read, and prints what that gives.
-pub fn report(rt: &(impl Print + AllocGlobal), bytes: &[u8]) -> Result<()> {
+pub fn report(rt: &HostRuntime, bytes: &[u8]) -> Result<()> {
     let text = DeckText::read(rt.alloc(), Vec::from_slice(rt.alloc(), bytes)?)?;
     match text.deck(rt.alloc()) {
         Ok(deck) => report_deck(rt, &deck),

@@ -51,7 +51,7 @@ fn add_structure(sum: &mut Sum, found: &Structure) {
 }
 
 /// Prints the numbers of structures and of their elements, and the sum.
-fn report_library(rt: &impl Print, found: &Library) -> Result<()> {
+fn report_library(rt: &HostRuntime, found: &Library) -> Result<()> {
     let (mut sum, mut elements) = (Sum::new(), 0usize);
     for structure in found.structures() {
         add_structure(&mut sum, structure);
@@ -63,7 +63,7 @@ fn report_library(rt: &impl Print, found: &Library) -> Result<()> {
 
 /// Prints what reading gave.
 fn report_outcome(
-    rt: &impl Print,
+    rt: &HostRuntime,
     outcome: &std::result::Result<Library, ReadError>,
 ) -> Result<()> {
     match outcome {
@@ -74,12 +74,12 @@ fn report_outcome(
 }
 
 /// Reads a text as a submission's is read, and prints what that gives.
-pub fn report(rt: &(impl Print + AllocGlobal), bytes: &[u8]) -> Result<()> {
+pub fn report(rt: &HostRuntime, bytes: &[u8]) -> Result<()> {
     let text = LibraryText::read(rt.alloc(), Vec::from_slice(rt.alloc(), bytes)?)?;
     report_outcome(rt, &text.library(rt.alloc()))
 }
 
 /// Reads the front of a text, and prints what that gives.
-pub fn report_front(rt: &(impl Print + AllocGlobal), bytes: &[u8]) -> Result<()> {
+pub fn report_front(rt: &HostRuntime, bytes: &[u8]) -> Result<()> {
     report_outcome(rt, &read_library(rt.alloc(), bytes))
 }

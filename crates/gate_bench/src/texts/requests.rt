@@ -7,7 +7,7 @@ use mpw_stored_text::{stored_line, stored_payload};
 use mpw_wire::{Asked, WireFault, read_request};
 
 /// Prints how many bytes were taken, those of the payload, and the request's stored line.
-fn report_request(rt: &(impl Print + AllocGlobal), request: &Request, taken: usize) -> Result<()> {
+fn report_request(rt: &HostRuntime, request: &Request, taken: usize) -> Result<()> {
     let line = stored_line(rt.alloc(), request)?;
     match stored_payload(request) {
         Some(bytes) => Ok(println!(rt; "asked {taken} {} {line}", bytes.len())?),
@@ -16,7 +16,7 @@ fn report_request(rt: &(impl Print + AllocGlobal), request: &Request, taken: usi
 }
 
 /// Takes a line with its payload, and prints what it asks for.
-pub fn report(rt: &(impl Print + AllocGlobal), bytes: &[u8]) -> Result<()> {
+pub fn report(rt: &HostRuntime, bytes: &[u8]) -> Result<()> {
     let mut source = Text {
         bytes,
         at: 0,

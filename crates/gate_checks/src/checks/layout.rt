@@ -1,11 +1,15 @@
 //! The layout that the lines make, and the answer to each line.
 
-use crate::checks::compare::{Kind, both, differences, grid_differences};
-use gate_words::{check_of, coordinate_or_zero};
-use mpw_deck::{Check, Rule};
-use mpw_edges::{Axis, Piece};
-use mpw_geom::{Box2, Layer, Name};
-use std::alloc::{AllocError, Global};
+use crate::checks::compare::{print_differences, print_grid_differences};
+use crate::checks::drawn::{Drawn, Search};
+use crate::checks::numbers::Kind;
+use anyhow::{Result, bail};
+use gate_words::{Words, check_of, letter};
+use mpw_deck::Check;
+use mpw_edges::Piece;
+use mpw_geom::{Box2, Layer};
+use std::alloc::Global;
+use std::io;
 
 const FIRST: Layer = Layer {
     layer: 1,
@@ -28,8 +32,7 @@ pub const CHECKS: [Check; 4] = [
 /// The boxes of two layers, and the core that is checked.
 #[derive(Drop)]
 pub struct Shapes {
-    first: Vec<Box2>,
-    second: Vec<Box2>,
+    drawn: Drawn,
     core: Box2,
 }
 
@@ -41,91 +44,73 @@ const CORE: Box2 = Box2 {
     y1: 1000,
 };
 
-/// A rule of the check.
-pub fn rule_of(alloc: Global, check: Check, distance: u32) -> Option<Rule> {
-    let name = Name::read(alloc, b"rule").ok()?;
-    Some(Rule {
-        name,
-        check,
-        distance,
-    })
-}
-
-/// One piece a line: axis, side, the two columns and the rows.
-fn told(alloc: Global, pieces: &[Piece]) -> Result<String, AllocError> {
-    let mut text = String::new(alloc);
+/// Prints one piece a line: axis, side, the two columns and the rows.
+fn print_pieces(rt: &HostRuntime, pieces: &[Piece]) -> io::Result<()> {
     for p in pieces {
-        let axis = match p.axis {
-            Axis::V => "V",
-            Axis::H => "H",
-        };
-        let line = format!(in alloc; "{axis} {} {} {} {} {}\n", p.side, p.x1, p.x2, p.y0, p.y1)?;
-        text.push_str(line.as_str())?;
+        println!(rt;
+            "{} {} {} {} {} {}",
+            letter(p.axis),
+            p.side,
+            p.x1,
+            p.x2,
+            p.y0,
+            p.y1
+        )?;
     }
-    Ok(text)
+    Ok(())
 }
 
 impl Shapes {
     /// No boxes, and the core for lines that name none.
     pub fn new(alloc: Global) -> Shapes {
         Shapes {
-            first: Vec::new(alloc),
-            second: Vec::new(alloc),
+            drawn: Drawn {
+                first: Vec::new(alloc),
+                second: Vec::new(alloc),
+            },
             core: CORE,
         }
     }
 
-    /// The answer to a line.
-    pub fn answer(&mut self, alloc: Global, line: &str) -> Result<String, AllocError> {
-        let mut words = line.split(' ');
-        let verb = words.next().unwrap_or("");
-        let a = coordinate_or_zero(words.next());
-        let b = coordinate_or_zero(words.next());
-        let c = coordinate_or_zero(words.next());
-        let d = coordinate_or_zero(words.next());
-        let shape = Box2 {
-            x0: a,
-            y0: b,
-            x1: c,
-            y1: d,
-        };
+    /// Answers a line.
+    pub fn answer(&mut self, rt: &HostRuntime, verb: &str, words: &mut Words<'_>) -> Result<()> {
         match verb {
-            "a" => self.first.push(shape)?,
-            "b" => self.second.push(shape)?,
-            "clear" => {
-                self.first.clear();
-                self.second.clear();
-                self.core = CORE;
-            }
-            "core" => self.core = shape,
-            "random" => return differences(alloc, a, Kind::Few),
-            "crowded" => return differences(alloc, a, Kind::Crowded),
-            "aligned" => return differences(alloc, a, Kind::Aligned),
-            "wide" => return differences(alloc, a, Kind::Wide),
-            "grids" => return grid_differences(alloc, a),
-            _ => return self.found(alloc, verb, u32::try_from(a).unwrap_or(1)),
+            "a" => self.drawn.first.push(words.area())?,
+            "b" => self.drawn.second.push(words.area())?,
+            "core" => self.core = words.area(),
+            "clear" => *self = Shapes::new(rt.alloc()),
+            _ => return self.answer_more(rt, verb, words.number()),
         }
-        Ok(String::new(alloc))
+        Ok(())
     }
 
-    fn found(&self, alloc: Global, verb: &str, distance: u32) -> Result<String, AllocError> {
-        let Some(check) = check_of(verb, FIRST, SECOND) else {
-            return format!(in alloc; "{verb}?\n");
-        };
-        let Some(rule) = rule_of(alloc, check, distance) else {
-            return format!(in alloc; "no rule\n");
-        };
-        let (bands, cells) = both(
-            alloc,
-            &rule,
-            self.first.as_slice(),
-            self.second.as_slice(),
-            self.core,
-        )?;
-        if bands.as_slice() != cells.as_slice() {
-            return format!(in alloc; "bands and cells differ\n");
+    /// Answers a line about random layouts, or a check.
+    fn answer_more(&self, rt: &HostRuntime, verb: &str, number: u32) -> Result<()> {
+        match verb {
+            "random" => print_differences(rt, number, Kind::Few),
+            "crowded" => print_differences(rt, number, Kind::Crowded),
+            "aligned" => print_differences(rt, number, Kind::Aligned),
+            "wide" => print_differences(rt, number, Kind::Wide),
+            "grids" => print_grid_differences(rt, number),
+            _ => self.print_found(rt, verb, number),
         }
-        let pieces = told(alloc, bands.as_slice())?;
-        format!(in alloc; "{verb} {distance}: {}\n{pieces}", bands.len())
+    }
+
+    /// Prints what a check finds.
+    fn print_found(&self, rt: &HostRuntime, verb: &str, distance: u32) -> Result<()> {
+        let Some(check) = check_of(verb, FIRST, SECOND) else {
+            bail!("a check");
+        };
+        let search = Search {
+            check,
+            distance,
+            core: self.core,
+        };
+        let found = self.drawn.by_bands(rt.alloc(), search)?;
+        if found.as_slice() != self.drawn.by_cells(rt.alloc(), search)?.as_slice() {
+            bail!("bands and cells that agree");
+        }
+        println!(rt; "{verb} {distance}: {}", found.len())?;
+        Ok(print_pieces(rt, &found)?)
     }
 }

@@ -1,59 +1,32 @@
 //! The second opinion: a layout as a grid of squares, and a search row by row for each two columns.
 
+use crate::checks::drawn::{Drawn, Search, exchanged_box};
 use crate::checks::numbers::SIZE;
 use mpw_deck::Check;
 use mpw_edges::{Axis, Piece};
 use mpw_geom::Box2;
 use std::alloc::{AllocError, Global};
 
-fn piece(axis: Axis, side: u8, columns: (i64, i64), rows: (i64, i64)) -> Piece {
-    Piece {
-        axis,
-        side,
-        x1: columns.0,
-        x2: columns.1,
-        y0: rows.0,
-        y1: rows.1,
-    }
-}
-
-fn exchanged_box(b: &Box2) -> Box2 {
-    Box2 {
-        x0: b.y0,
-        y0: b.x0,
-        x1: b.y1,
-        y1: b.x1,
-    }
-}
-
 /// The squares of a layer, one by one.
 #[derive(Drop)]
-pub struct Grid {
+struct Grid {
     squares: Vec<bool>,
 }
 
-/// The index of a square in a grid, if it is in the grid.
-fn index(x: i64, y: i64) -> Option<usize> {
+/// The index of a square in a grid, or one beyond it.
+fn index(x: i64, y: i64) -> usize {
     if x < 0 || y < 0 || x >= SIZE || y >= SIZE {
-        return None;
+        return usize::MAX;
     }
-    usize::try_from(y.wrapping_mul(SIZE).wrapping_add(x)).ok()
+    usize::try_from(y.wrapping_mul(SIZE).wrapping_add(x)).unwrap_or(usize::MAX)
 }
 
 impl Grid {
     /// The squares of some box that are in the grid.
-    pub fn painted(alloc: Global, boxes: &[Box2]) -> Result<Grid, AllocError> {
+    fn painted(alloc: Global, boxes: &[Box2]) -> Result<Grid, AllocError> {
         let mut squares = vec![in alloc; false; 4096]?;
         for b in boxes {
-            for y in b.y0..b.y1 {
-                for x in b.x0..b.x1 {
-                    if let Some(k) = index(x, y)
-                        && k < squares.len()
-                    {
-                        squares[k] = true;
-                    }
-                }
-            }
+            paint(&mut squares, b);
         }
         Ok(Grid { squares })
     }
@@ -63,10 +36,7 @@ impl Grid {
             Axis::V => index(x, y),
             Axis::H => index(y, x),
         };
-        match at {
-            Some(k) => self.squares.get(k).copied().unwrap_or(false),
-            None => false,
-        }
+        self.squares.get(at).copied().unwrap_or(false)
     }
 
     fn rises(&self, axis: Axis, x: i64, y: i64) -> bool {
@@ -76,33 +46,79 @@ impl Grid {
     fn falls(&self, axis: Axis, x: i64, y: i64) -> bool {
         !self.has(axis, x, y) && self.has(axis, x.saturating_sub(1), y)
     }
+
+    fn has_all(&self, axis: Axis, x1: i64, x2: i64, y: i64) -> bool {
+        for x in x1..x2 {
+            if !self.has(axis, x, y) {
+                return false;
+            }
+        }
+        true
+    }
 }
 
-/// A random layout: two layers, a check, a distance and a core.
+/// Marks the squares of a box.
+fn paint(squares: &mut [bool], b: &Box2) {
+    for y in b.y0..b.y1 {
+        for x in b.x0..b.x1 {
+            if let Some(square) = squares.get_mut(index(x, y)) {
+                *square = true;
+            }
+        }
+    }
+}
+
+/// A random layout: two layers, and what is searched for.
 #[derive(Drop)]
 pub struct Layout {
-    /// The squares of the check's first layer.
-    pub first: Grid,
-    /// The squares of the check's second layer.
-    pub second: Grid,
-    /// The check, which selects the edges.
-    pub check: Check,
-    /// Edges nearer than this are too near.
-    pub distance: i64,
-    /// Half-open; it has the point of the edge at `x1` and the row.
-    pub core: Box2,
+    first: Grid,
+    second: Grid,
+    search: Search,
+}
+
+/// A pair of columns of an axis, and a side.
+#[derive(Clone, Copy)]
+struct Columns {
+    axis: Axis,
+    side: u8,
+    x1: i64,
+    x2: i64,
+}
+
+impl Columns {
+    fn piece(&self, y0: i64, y1: i64) -> Piece {
+        Piece {
+            axis: self.axis,
+            side: self.side,
+            x1: self.x1,
+            x2: self.x2,
+            y0,
+            y1,
+        }
+    }
 }
 
 impl Layout {
-    fn has_step(&self, axis: Axis, side: u8, x1: i64, x2: i64, y: i64) -> bool {
-        let a = &self.first;
-        let b = &self.second;
-        match (self.check, side) {
+    /// The squares of a layout one by one, for a search.
+    pub fn painted(alloc: Global, drawn: &Drawn, search: Search) -> Result<Layout, AllocError> {
+        let first = Grid::painted(alloc, &drawn.first)?;
+        let second = Grid::painted(alloc, &drawn.second)?;
+        Ok(Layout {
+            first,
+            second,
+            search,
+        })
+    }
+
+    fn has_step(&self, at: &Columns, y: i64) -> bool {
+        let (a, b) = (&self.first, &self.second);
+        let Columns { axis, side, x1, x2 } = *at;
+        match (self.search.check, side) {
             (Check::Width(_), 0) => {
                 x1 < x2
                     && a.rises(axis, x1, y)
                     && a.falls(axis, x2, y)
-                    && (x1..x2).all(|x| a.has(axis, x, y))
+                    && a.has_all(axis, x1, x2, y)
             }
             (Check::Space(_), 0) => x1 < x2 && a.falls(axis, x1, y) && a.rises(axis, x2, y),
             (Check::Separation(..), 0) => a.falls(axis, x1, y) && b.rises(axis, x2, y),
@@ -113,49 +129,49 @@ impl Layout {
         }
     }
 
-    /// Adds the runs of rows of one pair of columns.
+    /// Adds the runs of rows of a pair of columns.
     fn add_runs(
+        &self,
+        pieces: &mut Vec<Piece>,
+        at: &Columns,
+        rows: (i64, i64),
+    ) -> Result<(), AllocError> {
+        let mut first = rows.0;
+        for y in rows.0..rows.1 {
+            if !self.has_step(at, y) {
+                first = y.saturating_add(1);
+            } else if y.saturating_add(1) == rows.1 || !self.has_step(at, y.saturating_add(1)) {
+                pieces.push(at.piece(first, y.saturating_add(1)))?;
+            }
+        }
+        Ok(())
+    }
+
+    /// Adds the runs of rows of each pair of columns of an axis and a side.
+    fn add_side(
         &self,
         pieces: &mut Vec<Piece>,
         axis: Axis,
         side: u8,
-        x1: i64,
-        x2: i64,
-        rows: (i64, i64),
+        core: &Box2,
     ) -> Result<(), AllocError> {
-        let mut start = None;
-        for y in rows.0..rows.1 {
-            if self.has_step(axis, side, x1, x2, y) {
-                if start.is_none() {
-                    start = Some(y);
-                }
-            } else if let Some(y0) = start {
-                pieces.push(piece(axis, side, (x1, x2), (y0, y)))?;
-                start = None;
+        for x1 in core.x0..core.x1 {
+            for x2 in x1..x1.saturating_add(i64::from(self.search.distance)) {
+                let columns = Columns { axis, side, x1, x2 };
+                self.add_runs(pieces, &columns, (core.y0, core.y1))?;
             }
-        }
-        if let Some(y0) = start {
-            pieces.push(piece(axis, side, (x1, x2), (y0, rows.1)))?;
         }
         Ok(())
     }
 
     /// What the check finds, by testing each pair of columns in each row of the core: by axis, side, x1, x2 and row.
     pub fn pieces(&self, alloc: Global) -> Result<Vec<Piece>, AllocError> {
+        let (core, across) = (&self.search.core, exchanged_box(&self.search.core));
         let mut pieces = Vec::new(alloc);
-        for axis in [Axis::V, Axis::H] {
-            let core = match axis {
-                Axis::V => self.core,
-                Axis::H => exchanged_box(&self.core),
-            };
-            for side in 0..2u8 {
-                for x1 in core.x0..core.x1 {
-                    for x2 in x1..x1.saturating_add(self.distance) {
-                        self.add_runs(&mut pieces, axis, side, x1, x2, (core.y0, core.y1))?;
-                    }
-                }
-            }
-        }
+        self.add_side(&mut pieces, Axis::V, 0, core)?;
+        self.add_side(&mut pieces, Axis::V, 1, core)?;
+        self.add_side(&mut pieces, Axis::H, 0, &across)?;
+        self.add_side(&mut pieces, Axis::H, 1, &across)?;
         Ok(pieces)
     }
 }

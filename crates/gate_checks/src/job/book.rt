@@ -1,17 +1,17 @@
 //! The book of all tiles' answers.
 
-use crate::job::words::{deck, rectangles};
+use crate::job::words::rectangles;
 use anyhow::{Context, Result, bail};
-use gate_plain::all_near;
-use gate_words::{is_near, is_ordered};
+use gate_plain::{all_near, deck_of};
+use gate_words::{is_near, is_ordered, letter};
 use mpw_deck::{Deck, Rules};
-use mpw_edges::Axis;
 use mpw_geom::Box2;
 use mpw_job::{Answer, Job, TileJob};
 use mpw_markers::{Book, Marker, TileMarkers, stitch};
-use mpw_tiles::{Plan, Rectangle, Window, Windows, windows_of};
+use mpw_tiles::{Plan, Rectangle, Window, windows_of};
 use mpw_work::work_all;
 use std::alloc::Global;
+use std::io;
 use std::thread::Threads;
 
 /// Sides of tiles, and the greatest, which makes a single core.
@@ -19,9 +19,14 @@ const SIDES: [&str; 5] = ["256", "257", "300", "333", "511"];
 
 const GREATEST: &str = "1073741824";
 
-/// The smallest box that has the rectangles. There must be at least one.
-fn extent(rectangles: &[Rectangle]) -> Result<Box2> {
-    let mut extent = rectangles.first().context("a rectangle")?.area;
+/// The smallest box that has the rectangles, of which there must be at least one.
+fn extent(rectangles: &[Rectangle]) -> Box2 {
+    let mut extent = Box2 {
+        x0: i64::MAX,
+        y0: i64::MAX,
+        x1: i64::MIN,
+        y1: i64::MIN,
+    };
     for rectangle in rectangles {
         let area = rectangle.area;
         extent = Box2 {
@@ -31,39 +36,35 @@ fn extent(rectangles: &[Rectangle]) -> Result<Box2> {
             y1: extent.y1.max(area.y1),
         };
     }
-    Ok(extent)
+    extent
 }
 
 fn plan(rectangles: &[Rectangle], deck: &Deck) -> Result<Plan> {
-    let extent = extent(rectangles)?;
+    let extent = extent(rectangles);
     if !is_near(&extent) || !is_ordered(&extent) {
         bail!("an extent");
     }
-    match Plan::of(extent, deck) {
-        Ok(plan) => Ok(plan),
-        Err(_) => bail!("fewer tiles"),
-    }
+    Ok(Plan::of(extent, deck)?)
 }
 
-fn windows(alloc: Global, plan: &Plan, rectangles: &[Rectangle]) -> Result<Windows> {
-    if !all_near(rectangles) {
-        bail!("rectangles in the plane");
-    }
-    Ok(windows_of(alloc, plan, rectangles)?)
-}
-
-fn job(tile: u32, core: Box2, window: Window, rules: Rules) -> Result<Job> {
+/// The job of a tile.
+fn job(tile: u32, core: Box2, windows: &[Window], rules: &Rules) -> Result<Job> {
     if !is_near(&core) || rules.as_slice().len() > 256 {
         bail!("the job of a tile");
     }
-    Ok(Job::Tile(TileJob::new(1, tile, core, window, rules)))
+    let window = windows.get(tile as usize).context("a window")?.copy()?;
+    Ok(Job::Tile(TileJob::new(1, tile, core, window, rules.copy()?)))
 }
 
-fn jobs(alloc: Global, plan: &Plan, windows: &[Window], rules: &Rules) -> Result<Vec<Job>> {
+/// The jobs of all tiles, in order.
+fn jobs(alloc: Global, plan: &Plan, deck: &Deck, rectangles: &[Rectangle]) -> Result<Vec<Job>> {
+    if !all_near(rectangles) {
+        bail!("rectangles in the plane");
+    }
+    let windows = windows_of(alloc, plan, rectangles)?;
     let mut list = Vec::new(alloc);
     for tile in 0..plan.tiles() {
-        let window = windows.get(tile as usize).context("a window")?;
-        list.push(job(tile, plan.core(tile), window.copy()?, rules.copy()?)?)?;
+        list.push(job(tile, plan.core(tile), windows.as_slice(), deck.rules())?)?;
     }
     Ok(list)
 }
@@ -75,106 +76,103 @@ fn found(answer: &Answer) -> Result<TileMarkers> {
     }
 }
 
-fn lists(rt: &(impl Threads + Sync), alloc: Global, jobs: &[Job]) -> Result<Vec<TileMarkers>> {
-    let answers = work_all(rt, alloc, jobs)?;
+/// The book of the answers.
+fn stitched(alloc: Global, answers: &[Answer]) -> Result<Book> {
     let mut lists = Vec::new(alloc);
-    for answer in &answers {
+    for answer in answers {
         lists.push(found(answer)?)?;
     }
-    Ok(lists)
+    Ok(stitch(alloc, &lists)?)
 }
 
 /// The book of the rectangles, by one job for each tile.
-fn book(
-    rt: &(impl Threads + Sync),
+fn book<T: Threads + Sync>(
+    threads: &T,
     alloc: Global,
     plan: &Plan,
     deck: &Deck,
     rectangles: &[Rectangle],
 ) -> Result<Book> {
-    let windows = windows(alloc, plan, rectangles)?;
-    let jobs = jobs(alloc, plan, windows.as_slice(), deck.rules())?;
-    let lists = lists(rt, alloc, &jobs)?;
-    Ok(stitch(alloc, &lists)?)
+    let jobs = jobs(alloc, plan, deck, rectangles)?;
+    let answers = work_all(threads, alloc, &jobs)?;
+    stitched(alloc, &answers)
 }
 
-fn print_marker(rt: &impl Print, rules: &Rules, m: &Marker) -> Result<()> {
-    let rule = rules.as_slice().get(m.rule as usize).context("a rule")?;
-    let axis = match m.axis {
-        Axis::V => "V",
-        Axis::H => "H",
-    };
-    print!(rt; "    {}:{axis}:{}", rule.name.as_str(), m.side)?;
-    print!(rt; ":{}:{}:{}:{}", m.x1, m.x2, m.y0, m.y1)?;
+fn print_marker(rt: &HostRuntime, rule: &str, m: &Marker) -> io::Result<()> {
+    let axis = letter(m.axis);
+    print!(rt;
+        "    {rule}:{axis}:{}:{}:{}:{}:{}",
+        m.side, m.x1, m.x2, m.y0, m.y1
+    )?;
     for origin in m.met.as_slice() {
         print!(rt; " {origin}")?;
     }
-    Ok(println!(rt; "")?)
+    println!(rt)
 }
 
-fn print_book(rt: &impl Print, rules: &Rules, markers: &[Marker]) -> Result<()> {
-    for marker in markers {
-        print_marker(rt, rules, marker)?;
+fn print_book(rt: &HostRuntime, rules: &Rules, markers: &[Marker]) -> Result<()> {
+    for m in markers {
+        let rule = rules.as_slice().get(m.rule as usize).context("a rule")?;
+        print_marker(rt, rule.name.as_str(), m)?;
     }
     Ok(())
 }
 
 /// Prints the number of tiles, and the markers.
-pub fn print_found(
-    rt: &(impl Print + AllocGlobal + Threads + Sync),
+pub fn print_found<T: Threads + Sync>(
+    rt: &HostRuntime,
+    threads: &T,
     side: &str,
     rules: &str,
     shapes: &str,
 ) -> Result<()> {
-    let deck = deck(rt.alloc(), side, rules)?;
+    let deck = deck_of(rt.alloc(), side, rules)?;
     let rectangles = rectangles(rt.alloc(), shapes)?;
     let plan = plan(&rectangles, &deck)?;
     println!(rt; "    {} tiles", plan.tiles())?;
-    let book = book(rt, rt.alloc(), &plan, &deck, &rectangles)?;
+    let book = book(threads, rt.alloc(), &plan, &deck, &rectangles)?;
     print_book(rt, deck.rules(), book.as_slice())
 }
 
+fn is_same(m: &Marker, n: &Marker) -> bool {
+    m.key() == n.key() && m.met.as_slice() == n.met.as_slice()
+}
+
 fn are_same(a: &[Marker], b: &[Marker]) -> bool {
-    if a.len() != b.len() {
-        return false;
-    }
     for (m, n) in a.iter().zip(b) {
-        if m.key() != n.key() || m.met.as_slice() != n.met.as_slice() {
+        if !is_same(m, n) {
             return false;
         }
     }
-    true
+    a.len() == b.len()
 }
 
-fn book_at(
-    rt: &(impl Threads + Sync),
+fn book_at<T: Threads + Sync>(
+    threads: &T,
     alloc: Global,
     side: &str,
     rules: &str,
     shapes: &[Rectangle],
 ) -> Result<Book> {
-    let deck = deck(alloc, side, rules)?;
+    let deck = deck_of(alloc, side, rules)?;
     let plan = plan(shapes, &deck)?;
-    book(rt, alloc, &plan, &deck, shapes)
+    book(threads, alloc, &plan, &deck, shapes)
 }
 
 /// Prints for each side whether its book is that of a single core.
-pub fn print_sides(
-    rt: &(impl Print + AllocGlobal + Threads + Sync),
+pub fn print_sides<T: Threads + Sync>(
+    rt: &HostRuntime,
+    threads: &T,
     rules: &str,
     shapes: &str,
 ) -> Result<()> {
     let rectangles = rectangles(rt.alloc(), shapes)?;
-    let whole = book_at(rt, rt.alloc(), GREATEST, rules, &rectangles)?;
+    let whole = book_at(threads, rt.alloc(), GREATEST, rules, &rectangles)?;
     println!(rt; "    {} markers", whole.len())?;
-    for side in &SIDES {
-        let book = book_at(rt, rt.alloc(), side, rules, &rectangles)?;
-        let word = if are_same(whole.as_slice(), book.as_slice()) {
-            "same"
-        } else {
-            "other"
-        };
-        println!(rt; "    {side} {word}")?;
+    for side in SIDES {
+        let book = book_at(threads, rt.alloc(), side, rules, &rectangles)?;
+        let same = are_same(whole.as_slice(), book.as_slice());
+        println!(rt; "    {side} {}", if same { "same" } else { "other" })?;
     }
     Ok(())
 }

@@ -5,15 +5,20 @@ use mpw_job::{Answer, CutAnswer, CutJob, Job, tile_job};
 use mpw_markers::{Book, TileMarkers, stitch};
 use mpw_tiles::{Snapshot, Windows};
 use mpw_work::{do_job, work_all};
-use std::alloc::Global;
+use std::alloc::{AllocError, Global};
 use std::thread::Threads;
 
 /// The number of the run.
 const RUN: u32 = 7;
 
-fn cut(alloc: Global, snapshot: &Snapshot) -> Result<CutAnswer> {
+/// The job of the cut.
+fn cut_job(alloc: Global, snapshot: &Snapshot) -> Result<Job, AllocError> {
     let snapshot = snapshot.copy(alloc)?;
-    let job = Job::Cut(CutJob { run: RUN, snapshot });
+    Ok(Job::Cut(CutJob { run: RUN, snapshot }))
+}
+
+fn cut(alloc: Global, snapshot: &Snapshot) -> Result<CutAnswer> {
+    let job = cut_job(alloc, snapshot)?;
     match do_job(alloc, &job)? {
         Answer::Cut(answer) => Ok(answer),
         Answer::Tile(_) => bail!("the answer of a cut"),
@@ -22,13 +27,11 @@ fn cut(alloc: Global, snapshot: &Snapshot) -> Result<CutAnswer> {
 
 /// The markers of a tile, if the answer is that of the tile.
 fn markers_of(answer: &Answer, tile: usize) -> Result<TileMarkers> {
-    let Answer::Tile(answer) = answer else {
-        bail!("the answer of a tile");
-    };
-    if answer.job().run() != RUN || answer.job().tile() as usize != tile {
-        bail!("the answer of that job");
+    match answer {
+        Answer::Tile(answer) if answer.job().run() == RUN && answer.job().tile() as usize == tile =>
+            { Ok(answer.markers().copy()?) }
+        _ => bail!("the answer of that tile's job"),
     }
-    Ok(answer.markers().copy()?)
 }
 
 /// The jobs of all tiles, in order.
@@ -60,10 +63,15 @@ pub fn tiles(snapshot: &Snapshot) -> u32 {
     }
 }
 
-/// The book of the snapshot.
-pub fn book(rt: &(impl Threads + Sync), alloc: Global, snapshot: &Snapshot) -> Result<Book> {
+/// The jobs of the tiles that the cut gives.
+fn cut_jobs(alloc: Global, snapshot: &Snapshot) -> Result<Vec<Job>> {
     let cut = cut(alloc, snapshot)?;
-    let jobs = jobs(alloc, snapshot, cut.windows())?;
-    let answers = work_all(rt, alloc, &jobs)?;
+    jobs(alloc, snapshot, cut.windows())
+}
+
+/// The book of the snapshot.
+pub fn book<T: Threads + Sync>(threads: &T, alloc: Global, snapshot: &Snapshot) -> Result<Book> {
+    let jobs = cut_jobs(alloc, snapshot)?;
+    let answers = work_all(threads, alloc, &jobs)?;
     stitched(alloc, &answers)
 }

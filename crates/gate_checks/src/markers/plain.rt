@@ -2,9 +2,10 @@
 
 use crate::markers::asked::met;
 use anyhow::Result;
+use gate_words::marker_of;
 use mpw_edges::Axis;
-use mpw_markers::{Line, Marker};
-use std::alloc::Global;
+use mpw_markers::{Key, Line, Marker};
+use std::alloc::{AllocError, Global};
 
 /// Rules, coordinates, rows and submissions of random lists are below these.
 pub const RULES: u32 = 2;
@@ -27,29 +28,32 @@ fn has_row(all: &[Marker], line: &Line, row: i64) -> bool {
     false
 }
 
-/// Whether a marker of the line within the rows touches the submission.
-fn meets(all: &[Marker], line: &Line, y0: i64, y1: i64, submission: u32) -> bool {
+/// Whether a marker of the key's line within its rows touches the submission.
+fn meets(all: &[Marker], key: &Key, submission: u32) -> bool {
+    let line = key.line();
     for marker in all {
-        if marker.line() == *line
-            && y0 <= marker.y0
-            && marker.y1 <= y1
-            && marker.met.as_slice().contains(&submission)
-        {
+        let is_within = marker.line() == line && key.y0 <= marker.y0 && marker.y1 <= key.y1;
+        if is_within && marker.met.as_slice().contains(&submission) {
             return true;
         }
     }
     false
 }
 
-/// The marker of the rows, with each submission that some marker within them touches.
-fn marker(alloc: Global, all: &[Marker], line: &Line, y0: i64, y1: i64) -> Result<Marker> {
+/// Each submission that some marker within the key's rows touches.
+fn submissions(alloc: Global, all: &[Marker], key: &Key) -> Result<Vec<u32>, AllocError> {
     let mut numbers = Vec::new(alloc);
     for submission in 0..SUBMISSIONS {
-        if meets(all, line, y0, y1, submission) {
+        if meets(all, key, submission) {
             numbers.push(submission)?;
         }
     }
-    Ok(Marker {
+    Ok(numbers)
+}
+
+/// The marker of a line's rows.
+fn marker_at(alloc: Global, all: &[Marker], line: &Line, y0: i64, y1: i64) -> Result<Marker> {
+    let key = Key {
         rule: line.rule,
         axis: line.axis,
         side: line.side,
@@ -57,8 +61,9 @@ fn marker(alloc: Global, all: &[Marker], line: &Line, y0: i64, y1: i64) -> Resul
         x2: line.x2,
         y0,
         y1,
-        met: met(alloc, numbers.as_slice())?,
-    })
+    };
+    let met = met(alloc, &submissions(alloc, all, &key)?)?;
+    Ok(marker_of(key, met))
 }
 
 /// Adds the markers of a line: each row without one before it begins a marker, and each row without one after it ends a marker.
@@ -66,14 +71,28 @@ fn add_line(alloc: Global, book: &mut Vec<Marker>, all: &[Marker], line: &Line) 
     let mut first = 0;
     for row in 0..ROWS {
         let row = i64::from(row);
-        if has_row(all, line, row) && !has_row(all, line, row - 1) {
-            first = row;
-        }
-        if has_row(all, line, row) && !has_row(all, line, row + 1) {
-            book.push(marker(alloc, all, line, first, row + 1)?)?;
+        if !has_row(all, line, row) {
+            first = row + 1;
+        } else if !has_row(all, line, row + 1) {
+            book.push(marker_at(alloc, all, line, first, row + 1)?)?;
         }
     }
     Ok(())
+}
+
+/// The line of a rule on an axis with that number, by its side and its coordinates.
+fn line_of(rule: u32, axis: Axis, number: u32) -> Line {
+    let (side, rest) = (
+        number / (COORDINATES * COORDINATES),
+        number % (COORDINATES * COORDINATES),
+    );
+    Line {
+        rule,
+        axis,
+        side: (side % 2) as u8,
+        x1: i64::from(rest / COORDINATES),
+        x2: i64::from(rest % COORDINATES),
+    }
 }
 
 /// Adds the markers of a rule on an axis.
@@ -84,19 +103,8 @@ fn add_rule(
     rule: u32,
     axis: Axis,
 ) -> Result<()> {
-    for side in 0..2u8 {
-        for x1 in 0..COORDINATES {
-            for x2 in 0..COORDINATES {
-                let line = Line {
-                    rule,
-                    axis,
-                    side,
-                    x1: i64::from(x1),
-                    x2: i64::from(x2),
-                };
-                add_line(alloc, book, all, &line)?;
-            }
-        }
+    for number in 0..2 * COORDINATES * COORDINATES {
+        add_line(alloc, book, all, &line_of(rule, axis, number))?;
     }
     Ok(())
 }

@@ -2,10 +2,10 @@
 
 use crate::markers::asked::{met, origins};
 use anyhow::Result;
-use gate_words::{Random, number};
+use gate_words::Random;
 use mpw_geom::Box2;
 use mpw_markers::{Met, Rectangle};
-use std::alloc::Global;
+use std::alloc::{AllocError, Global};
 
 /// The submissions of random rectangles are below this.
 const SUBMISSIONS: u32 = 5;
@@ -25,19 +25,22 @@ fn random_box(random: &mut Random, place: u32, size: u32, least: u32) -> Box2 {
 }
 
 /// Some rectangles, a few of them far longer than the others.
-fn rectangles(alloc: Global, random: &mut Random, place: u32) -> Result<Vec<Rectangle>> {
+fn rectangles(
+    alloc: Global,
+    random: &mut Random,
+    place: u32,
+) -> Result<Vec<Rectangle>, AllocError> {
     let mut list = Vec::new(alloc);
     for _ in 0..random.below(40) {
         let size = if random.below(6) == 0 { place } else { 4 };
-        list.push(Rectangle {
-            area: random_box(random, place, size, 1),
-            origin: random.below(SUBMISSIONS),
-        })?;
+        let area = random_box(random, place, size, 1);
+        let origin = random.below(SUBMISSIONS);
+        list.push(Rectangle { area, origin })?;
     }
     Ok(list)
 }
 
-fn boxes(alloc: Global, random: &mut Random, place: u32) -> Result<Vec<Box2>> {
+fn boxes(alloc: Global, random: &mut Random, place: u32) -> Result<Vec<Box2>, AllocError> {
     let mut list = Vec::new(alloc);
     for _ in 0..random.below(50) {
         list.push(random_box(random, place, 5, 0))?;
@@ -57,44 +60,52 @@ fn touches(area: &Box2, b: &Box2) -> bool {
     false
 }
 
+/// Whether the box touches a rectangle of a submission.
+fn is_met(rectangles: &[Rectangle], origin: u32, b: &Box2) -> bool {
+    for rectangle in rectangles {
+        if rectangle.origin == origin && touches(&rectangle.area, b) {
+            return true;
+        }
+    }
+    false
+}
+
 /// The submissions that the box touches, one after another.
 fn plain(alloc: Global, rectangles: &[Rectangle], b: &Box2) -> Result<Met> {
     let mut numbers = Vec::new(alloc);
     for origin in 0..SUBMISSIONS {
-        if rectangles
-            .iter()
-            .any(|r| r.origin == origin && touches(&r.area, b))
-        {
+        if is_met(rectangles, origin, b) {
             numbers.push(origin)?;
         }
     }
-    met(alloc, numbers.as_slice())
+    met(alloc, &numbers)
 }
 
-/// Whether the origins of some random boxes are those of the plain search.
-fn compare(alloc: Global, random: &mut Random) -> Result<bool> {
-    let place = 8 + random.below(40) % 40;
-    let rectangles = rectangles(alloc, random, place)?;
-    let boxes = boxes(alloc, random, place)?;
-    let mets = origins(alloc, rectangles.as_slice(), boxes.as_slice())?;
+/// Whether the origins of boxes are those of the plain search.
+fn are_right(alloc: Global, rectangles: &[Rectangle], boxes: &[Box2]) -> Result<bool> {
+    let mets = origins(alloc, rectangles, boxes)?;
     for (b, met) in boxes.iter().zip(mets.as_slice()) {
-        let wanted = plain(alloc, rectangles.as_slice(), b)?;
-        if met.as_slice() != wanted.as_slice() {
+        if met.as_slice() != plain(alloc, rectangles, b)?.as_slice() {
             return Ok(false);
         }
     }
     Ok(mets.len() == boxes.len())
 }
 
+/// Whether the origins of some random boxes are right.
+fn compare(alloc: Global, random: &mut Random) -> Result<bool> {
+    let place = 8 + random.below(40) % 40;
+    let rectangles = rectangles(alloc, random, place)?;
+    let boxes = boxes(alloc, random, place)?;
+    are_right(alloc, &rectangles, &boxes)
+}
+
 /// Compares that many times, and prints how many differ.
-pub fn compared(rt: &(impl Print + AllocGlobal), word: &str) -> Result<()> {
-    let count = number(word)?;
+pub fn compared(rt: &HostRuntime, count: u32) -> Result<()> {
     let mut random = Random::new(7);
     let mut different = 0u32;
     for _ in 0..count {
-        if !compare(rt.alloc(), &mut random)? {
-            different = different.saturating_add(1);
-        }
+        different = different.saturating_add(u32::from(!compare(rt.alloc(), &mut random)?));
     }
     Ok(println!(rt; "    {different} of {count} differ")?)
 }

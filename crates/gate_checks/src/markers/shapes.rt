@@ -2,16 +2,26 @@
 
 use crate::markers::asked::origins;
 use anyhow::{Result, bail};
-use gate_words::{coordinates, number};
+use gate_words::Words;
 use mpw_geom::Box2;
-use mpw_markers::Rectangle;
+use mpw_markers::{Met, Rectangle};
 use std::alloc::Global;
+use std::io;
 
 /// The rectangles and the boxes of the lines before.
 #[derive(Drop)]
 pub struct Shapes {
     rectangles: Vec<Rectangle>,
     boxes: Vec<Box2>,
+}
+
+/// Prints the submissions that a box touches.
+fn print_met(rt: &HostRuntime, met: &Met) -> io::Result<()> {
+    print!(rt; "    met")?;
+    for number in met.as_slice() {
+        print!(rt; " {number}")?;
+    }
+    println!(rt)
 }
 
 impl Shapes {
@@ -23,37 +33,25 @@ impl Shapes {
         }
     }
 
-    /// Adds a rectangle: the submission and four coordinates.
-    pub fn add_rectangle(&mut self, words: &[&str]) -> Result<()> {
-        let [origin, rest @ ..] = words else {
-            bail!("a submission");
-        };
-        self.rectangles.push(Rectangle {
-            area: coordinates(rest)?,
-            origin: number(origin)?,
-        })?;
-        Ok(())
-    }
-
-    /// Adds a box of four coordinates.
-    pub fn add_box(&mut self, words: &[&str]) -> Result<()> {
-        self.boxes.push(coordinates(words)?)?;
+    /// Adds a rectangle of a submission or a box, or prints the origins.
+    pub fn answer(&mut self, rt: &HostRuntime, verb: &str, words: &mut Words<'_>) -> Result<()> {
+        match verb {
+            "rectangle" => {
+                let origin = words.number();
+                let area = words.area();
+                self.rectangles.push(Rectangle { area, origin })?;
+            }
+            "box" => self.boxes.push(words.area())?,
+            "origins" => return self.print_origins(rt),
+            _ => bail!("a command"),
+        }
         Ok(())
     }
 
     /// Prints a line for each box: the submissions that it touches.
-    pub fn print_origins(&self, rt: &(impl Print + AllocGlobal)) -> Result<()> {
-        let mets = origins(
-            rt.alloc(),
-            self.rectangles.as_slice(),
-            self.boxes.as_slice(),
-        )?;
-        for met in &mets {
-            print!(rt; "    met")?;
-            for number in met.as_slice() {
-                print!(rt; " {number}")?;
-            }
-            println!(rt)?;
+    fn print_origins(&self, rt: &HostRuntime) -> Result<()> {
+        for met in &origins(rt.alloc(), &self.rectangles, &self.boxes)? {
+            print_met(rt, met)?;
         }
         Ok(())
     }

@@ -66,7 +66,7 @@ where
         bail!("a desk without calls of connections");
     }
     let blank = Blank::new(host.alloc())?;
-    let log = Log::nowhere(host);
+    let log = Log::nowhere();
     let begun = Begun {
         core,
         keeper: NoKeeper,

@@ -1,76 +1,44 @@
 //! Parts of contents, the boxes that are stored for elements, and the lines that print them.
 
-use crate::contents::seen::{print_contents, shelf_of};
-use anyhow::{Result, bail};
-use gate_words::{coordinates, number};
+use crate::contents::seen::print_contents;
+use anyhow::{Context, Result, bail};
+use gate_words::Words;
 use mpw_contents::{Boxes, Contents, Part};
 use mpw_geom::Box2;
 use mpw_hier::Shelf;
-use std::alloc::Global;
+use std::io;
 
-/// The parameters of a part, without its boxes.
-#[derive(Clone, Copy)]
-pub struct Wish {
-    window: Box2,
-    most: u32,
-    instances: u32,
-    shapes: u32,
-}
-
-impl Wish {
-    /// From three words and the window's.
-    pub fn of(most: &str, instances: &str, shapes: &str, window: &[&str]) -> Result<Wish> {
-        Ok(Wish {
-            window: coordinates(window)?,
-            most: number(most)?,
-            instances: number(instances)?,
-            shapes: number(shapes)?,
-        })
-    }
-}
-
-/// What of the top touches the window.
-fn part_of(alloc: Global, shelf: &Shelf, wish: Wish) -> Result<Option<Contents>> {
+/// Prints what of the top touches the window, by the words of the line.
+pub fn print_part(rt: &HostRuntime, shelf: &Shelf, words: &mut Words<'_>) -> Result<()> {
     if shelf.submissions().is_empty() {
         bail!("a submission");
     }
-    let boxes = Boxes::of(alloc, shelf)?;
+    let boxes = Boxes::of(rt.alloc(), shelf)?;
     let part = Part {
         boxes: &boxes,
-        window: wish.window,
-        most: wish.most as usize,
-        instances: wish.instances,
-        shapes: u64::from(wish.shapes),
+        most: words.number() as usize,
+        instances: words.number(),
+        shapes: u64::from(words.number()),
+        window: words.area(),
     };
-    match Contents::top(alloc, shelf)? {
-        Some(top) => Ok(top.within(alloc, shelf, &part)?),
-        None => bail!("a top"),
-    }
-}
-
-/// Prints the entries of a part of the top.
-pub fn print_part(rt: &(impl Print + AllocGlobal), wish: Wish, library: &str) -> Result<()> {
-    let shelf = shelf_of(rt.alloc(), library)?;
-    let Some(contents) = part_of(rt.alloc(), &shelf, wish)? else {
-        return Ok(println!(rt; "    none")?);
-    };
-    match shelf.get(0) {
-        Some(submission) => print_contents(rt, submission.library.structures(), &contents),
-        None => bail!("a submission"),
+    let top = Contents::top(rt.alloc(), shelf)?.context("a top")?;
+    match top.within(rt.alloc(), shelf, &part)? {
+        Some(contents) => print_contents(rt, shelf, &contents),
+        None => Ok(println!(rt; "    none")?),
     }
 }
 
 /// The most boxes that are printed.
 const FEW: usize = 9;
 
-fn print_boxes(rt: &impl Print, boxes: &[Option<Box2>]) -> Result<()> {
+fn print_boxes(rt: &HostRuntime, boxes: &[Option<Box2>]) -> io::Result<()> {
     println!(rt; "    {} held", boxes.len())?;
     if boxes.len() > FEW {
         return Ok(());
     }
     for held in boxes {
-        match *held {
-            Some(Box2 { x0, y0, x1, y1 }) => println!(rt; "    {x0} {y0} {x1} {y1}")?,
+        match held {
+            Some(b) => println!(rt; "    {} {} {} {}", b.x0, b.y0, b.x1, b.y1)?,
             None => println!(rt; "    none")?,
         }
     }
@@ -78,15 +46,10 @@ fn print_boxes(rt: &impl Print, boxes: &[Option<Box2>]) -> Result<()> {
 }
 
 /// Prints how many boxes are stored for the elements of the structure at an index of the library, and a few of them.
-pub fn print_boxes_of(
-    rt: &(impl Print + AllocGlobal),
-    structure: &str,
-    library: &str,
-) -> Result<()> {
-    let shelf = shelf_of(rt.alloc(), library)?;
+pub fn print_boxes_of(rt: &HostRuntime, shelf: &Shelf, structure: u32) -> Result<()> {
     if shelf.submissions().is_empty() {
         bail!("a submission");
     }
-    let boxes = Boxes::of(rt.alloc(), &shelf)?;
-    print_boxes(rt, boxes.of_structure(number(structure)? as usize))
+    let boxes = Boxes::of(rt.alloc(), shelf)?;
+    Ok(print_boxes(rt, boxes.of_structure(structure as usize))?)
 }

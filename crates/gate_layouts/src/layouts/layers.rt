@@ -1,13 +1,12 @@
 //! On which layers shapes are.
 
-use crate::layouts::flat::Shown;
 use anyhow::{Result, bail};
-use gate_words::number;
+use gate_plain::{Shown, layer};
 use mpw_geom::Layer;
 use mpw_hier::Shelf;
 use mpw_layers::{layer_count, shows, unnamed_layers};
 use mpw_walk::Root;
-use std::alloc::Global;
+use std::alloc::{AllocError, Global};
 use std::slice;
 
 /// The most layers that are printed.
@@ -20,27 +19,24 @@ const NO_LAYER: Layer = Layer {
 };
 
 /// Prints the layers of a submission's shapes, in the order in which they come, at most 64, with how many shapes are on each.
-pub fn print_layers(rt: &(impl Print + AllocGlobal), shelf: &Shelf, word: &str) -> Result<()> {
-    let number = number(word)?;
+pub fn print_layers(rt: &HostRuntime, shelf: &Shelf, number: u32) -> Result<()> {
     if number as usize >= shelf.submissions().len() {
         bail!("a submission");
     }
     let root = Root::at_origin(shelf, number);
     let roots = slice::from_ref(&root);
-    let layers = unnamed_layers(rt.alloc(), shelf, roots, &[])?;
-    for layer in layers.as_slice() {
+    for layer in unnamed_layers(rt.alloc(), shelf, roots, &[])?.as_slice() {
         let count = layer_count(rt.alloc(), shelf, roots, *layer)?;
-        let Layer { layer, datatype } = *layer;
-        println!(rt; "    {layer}/{datatype} {count}")?;
+        println!(rt; "    {}/{} {count}", layer.layer, layer.datatype)?;
     }
     Ok(())
 }
 
 /// How many shapes of a flat list are on a layer.
-fn number_on(list: &[Shown<'_>], layer: Layer) -> usize {
+fn number_on(list: &[Shown<'_>], wanted: Layer) -> usize {
     let mut count = 0usize;
     for shown in list {
-        if shown.layer() == Some(layer) {
+        if layer(shown.element) == Some(wanted) {
             count = count.wrapping_add(1);
         }
     }
@@ -48,42 +44,45 @@ fn number_on(list: &[Shown<'_>], layer: Layer) -> usize {
 }
 
 /// The layers of a flat list, each once, in the order in which they come, at most 64.
-fn layers_of(alloc: Global, list: &[Shown<'_>]) -> Result<Vec<Layer>> {
+fn layers_of(alloc: Global, list: &[Shown<'_>]) -> Result<Vec<Layer>, AllocError> {
     let mut layers = Vec::new(alloc);
     for shown in list {
-        if let Some(layer) = shown.layer() {
-            if layers.len() < MAX_LAYERS && !layers.contains(&layer) {
-                layers.push(layer)?;
-            }
+        let layer = layer(shown.element).unwrap_or(NO_LAYER);
+        if layers.len() < MAX_LAYERS && !layers.contains(&layer) {
+            layers.push(layer)?;
         }
     }
     Ok(layers)
 }
 
-/// Whether nodes have the same number of shapes on a layer as a flat list, and say correctly whether there is one.
-fn agree_on(
-    alloc: Global,
-    shelf: &Shelf,
-    roots: &[Root],
-    list: &[Shown<'_>],
-    layer: Layer,
-) -> Result<bool> {
-    let count = number_on(list, layer);
-    let is_counted = layer_count(alloc, shelf, roots, layer)? == count;
-    Ok(is_counted && shows(alloc, shelf, roots, layer)? == (count > 0))
+/// The shapes of roots, by a shelf and as a flat list.
+#[derive(Clone, Copy)]
+pub struct Both<'a> {
+    /// The shelf.
+    pub shelf: &'a Shelf,
+    /// The roots over it.
+    pub roots: &'a [Root],
+    /// Their flat list.
+    pub list: &'a [Shown<'a>],
 }
 
-/// Whether nodes have the same layers of the shapes of roots as a flat list, and the same number of shapes on each and on another one.
-pub fn agree(alloc: Global, shelf: &Shelf, roots: &[Root], list: &[Shown<'_>]) -> Result<bool> {
-    let layers = layers_of(alloc, list)?;
-    let told = unnamed_layers(alloc, shelf, roots, &[])?;
-    if told.as_slice() != layers.as_slice() {
-        return Ok(false);
+impl Both<'_> {
+    /// Whether nodes have the same number of shapes on a layer as the flat list, and say correctly whether there is one.
+    fn agree_on(&self, alloc: Global, layer: Layer) -> Result<bool, AllocError> {
+        let count = number_on(self.list, layer);
+        let counted = layer_count(alloc, self.shelf, self.roots, layer)?;
+        let is_shown = shows(alloc, self.shelf, self.roots, layer)?;
+        Ok(counted == count && is_shown == (count > 0))
     }
-    for layer in &layers {
-        if !agree_on(alloc, shelf, roots, list, *layer)? {
-            return Ok(false);
+
+    /// Whether nodes have the same layers as the flat list, and the same number of shapes on each and on another one.
+    pub fn agree(&self, alloc: Global) -> Result<bool, AllocError> {
+        let layers = layers_of(alloc, self.list)?;
+        let told = unnamed_layers(alloc, self.shelf, self.roots, &[])?;
+        let mut agree = told.as_slice() == layers.as_slice();
+        for layer in &layers {
+            agree &= self.agree_on(alloc, *layer)?;
         }
+        Ok(agree && self.agree_on(alloc, NO_LAYER)?)
     }
-    agree_on(alloc, shelf, roots, list, NO_LAYER)
 }

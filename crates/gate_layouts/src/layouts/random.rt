@@ -4,7 +4,7 @@
 //! its library and to cells on the shelf. Cells and structures share their names, so that a library may hide a cell. A cell may be submitted again.
 
 use anyhow::Result;
-use gate_plain::put_text;
+use gate_plain::{Entry, Notation, put_entry};
 use gate_samples::text_of_library;
 use gate_words::ORIENTS;
 use mpw_geom::{Name, Orient, Placing, Point};
@@ -18,51 +18,56 @@ const NAMES: [&str; 8] = ["A", "B", "C", "D", "E", "F", "G", "H"];
 /// The most flat shapes of a root.
 const MAX_SHAPES: u64 = 2000;
 
-/// A linear congruential generator (Knuth, MMIX), and the layer of the last shape.
+/// The random numbers, and the layer of the last shape.
 #[derive(Drop)]
 pub struct Random {
-    state: u64,
-    layer: u16,
+    numbers: gate_words::Random,
+    layer: i64,
 }
 
 /// A library that is being made: its first structure has the name of that number, and the others the next ones.
 #[derive(Clone, Copy)]
 struct Plan {
-    first: u16,
-    count: u16,
+    first: u32,
+    count: u32,
 }
 
 impl Plan {
-    fn name(self, place: u16) -> &'static str {
+    fn name(self, place: u32) -> &'static str {
         name_of(self.first.wrapping_add(place))
+    }
+
+    /// Whether one of the structures has the name, up to that one.
+    fn has(self, name: &str, last: u32) -> bool {
+        for place in 0..last.saturating_add(1) {
+            if self.name(place) == name {
+                return true;
+            }
+        }
+        false
     }
 }
 
-fn name_of(number: u16) -> &'static str {
-    NAMES[usize::from(number % 8)]
+fn name_of(number: u32) -> &'static str {
+    NAMES[(number % 8) as usize]
 }
 
 impl Random {
     /// The shelves of a seed.
     pub fn new(seed: u64) -> Random {
         Random {
-            state: seed,
+            numbers: gate_words::Random::new(seed),
             layer: 0,
         }
     }
 
     /// A number below `bound`, or 0.
-    fn below(&mut self, bound: u16) -> u16 {
-        self.state = self
-            .state
-            .wrapping_mul(6364136223846793005)
-            .wrapping_add(1442695040888963407);
-        let high = (self.state >> 40) % u64::from(bound.max(1));
-        u16::try_from(high).unwrap_or(0)
+    fn below(&mut self, bound: u32) -> u32 {
+        self.numbers.below(bound)
     }
 
     /// Flags, half of them set.
-    pub fn flags(&mut self, alloc: Global, count: usize) -> Result<Vec<bool>> {
+    pub fn flags(&mut self, alloc: Global, count: usize) -> Result<Vec<bool>, AllocError> {
         let mut flags = Vec::new(alloc);
         for _ in 0..count {
             flags.push(self.below(2) == 1)?;
@@ -71,159 +76,176 @@ impl Random {
     }
 
     /// -500 to 500 nm.
-    fn coordinate(&mut self) -> i32 {
-        i32::from(self.below(1001)) - 500
+    fn coordinate(&mut self) -> i64 {
+        i64::from(self.below(1001)) - 500
     }
 
     /// 2 to 60 nm, even.
-    fn length(&mut self) -> i32 {
-        2i32.wrapping_add(i32::from(self.below(30)).wrapping_mul(2))
-    }
-
-    /// A layer that no other shape of the shelf has.
-    fn layer(&mut self) -> u16 {
-        self.layer = self.layer.wrapping_add(1);
-        self.layer
+    fn length(&mut self) -> i64 {
+        i64::from(self.below(30)).wrapping_mul(2).wrapping_add(2)
     }
 
     fn orient(&mut self) -> (&'static str, Orient) {
-        ORIENTS[usize::from(self.below(8) % 8)]
+        ORIENTS[(self.below(8) % 8) as usize]
     }
 
-    /// A rectangle.
-    fn boundary(&mut self, alloc: Global) -> Result<String, AllocError> {
-        let (x0, y0) = (self.coordinate(), self.coordinate());
-        let x1 = x0.wrapping_add(self.length());
-        let y1 = y0.wrapping_add(self.length());
-        let layer = self.layer();
-        format!(in alloc; "; b {layer}/0 {x0} {y0} {x1} {y1}")
+    /// Adds a layer that no other shape of the shelf has.
+    fn add_layer(&mut self, text: &mut Notation) {
+        self.layer = self.layer.wrapping_add(1);
+        text.numbers(&[self.layer]);
     }
 
-    /// A wire with one corner.
-    fn path(&mut self, alloc: Global) -> Result<String, AllocError> {
-        let (x, y) = (self.coordinate(), self.coordinate());
-        let end = x.wrapping_add(self.length());
-        let low = y.wrapping_sub(self.length());
-        let width = self.length();
-        let layer = self.layer();
-        format!(in alloc; "; w {layer}/1 . {width} . . {x} {y} {end} {y} {end} {low}")
-    }
-
-    fn single(&mut self, alloc: Global, name: &str) -> Result<String, AllocError> {
-        let (x, y) = (self.coordinate(), self.coordinate());
+    /// Adds an orientation.
+    fn add_turn(&mut self, text: &mut Notation) {
         let (turn, _) = self.orient();
-        format!(in alloc; "; s {name} {x} {y} {turn}")
+        text.add(" ");
+        text.add(turn);
+    }
+
+    /// Adds a rectangle.
+    fn add_boundary(&mut self, text: &mut Notation) {
+        let (x, y) = (self.coordinate(), self.coordinate());
+        let right = x.wrapping_add(self.length());
+        let high = y.wrapping_add(self.length());
+        text.add("; b");
+        self.add_layer(text);
+        text.add("/0");
+        text.numbers(&[x, y, right, high]);
+    }
+
+    /// Adds a wire with one corner.
+    fn add_path(&mut self, text: &mut Notation) {
+        let (x, y) = (self.coordinate(), self.coordinate());
+        let right = x.wrapping_add(self.length());
+        let low = y.wrapping_sub(self.length());
+        text.add("; w");
+        self.add_layer(text);
+        text.add("/1 .");
+        text.numbers(&[self.length()]);
+        text.add(" . .");
+        text.numbers(&[x, y, right, y, right, low]);
+    }
+
+    /// Adds an instance.
+    fn add_single(&mut self, text: &mut Notation, name: &str) {
+        text.add("; s ");
+        text.add(name);
+        text.numbers(&[self.coordinate(), self.coordinate()]);
+        self.add_turn(text);
     }
 
     /// That many steps of any size from a coordinate.
-    fn behind(&mut self, from: i32, count: u16) -> i32 {
-        from.wrapping_add(self.coordinate().wrapping_mul(i32::from(count)))
+    fn behind(&mut self, from: i64, count: i64) -> i64 {
+        from.wrapping_add(self.coordinate().wrapping_mul(count))
     }
 
-    /// The three points of an array.
-    fn corners(&mut self, alloc: Global, columns: u16, rows: u16) -> Result<String, AllocError> {
+    /// Adds an array of 1 to 3 columns and 1 to 3 rows.
+    fn add_array(&mut self, text: &mut Notation, name: &str) {
+        let columns = i64::from(self.below(3)).wrapping_add(1);
+        let rows = i64::from(self.below(3)).wrapping_add(1);
         let (x, y) = (self.coordinate(), self.coordinate());
-        let (right, above) = (self.behind(x, columns), self.behind(y, columns));
-        let (left, high) = (self.behind(x, rows), self.behind(y, rows));
-        format!(in alloc; "{x} {y} {right} {above} {left} {high}")
+        text.add("; a ");
+        text.add(name);
+        text.numbers(&[columns, rows, x, y]);
+        text.numbers(&[self.behind(x, columns), self.behind(y, columns)]);
+        text.numbers(&[self.behind(x, rows), self.behind(y, rows)]);
+        self.add_turn(text);
     }
 
-    /// An array of 1 to 3 columns and 1 to 3 rows.
-    fn array(&mut self, alloc: Global, name: &str) -> Result<String, AllocError> {
-        let columns = self.below(3).wrapping_add(1);
-        let rows = self.below(3).wrapping_add(1);
-        let corners = self.corners(alloc, columns, rows)?;
-        let (turn, _) = self.orient();
-        format!(in alloc; "; a {name} {columns} {rows} {corners} {turn}")
-    }
-
-    /// A name that the structure at an index may refer to, or none if there is none.
+    /// A name that the structure at an index may refer to, or an empty one if there is none.
     fn target(
         &mut self,
         alloc: Global,
         shelf: &Shelf,
         plan: Plan,
-        place: u16,
-    ) -> Result<Option<&'static str>> {
-        let later = place.wrapping_add(1);
-        if later < plan.count && self.below(2) == 0 {
-            let further = self.below(plan.count - later);
-            return Ok(Some(plan.name(later.wrapping_add(further))));
+        place: u32,
+    ) -> Result<&'static str> {
+        let later = plan.count.saturating_sub(place).saturating_sub(1);
+        if later > 0 && self.below(2) == 0 {
+            let further = self.below(later);
+            return Ok(plan.name(place.wrapping_add(1).wrapping_add(further)));
         }
         let name = name_of(self.below(8));
-        for own in 0..plan.count {
-            if plan.name(own) == name {
-                return Ok(if own > place { Some(name) } else { None });
-            }
-        }
-        let cell = Name::read(alloc, name.as_bytes())?;
-        Ok(shelf.present(&cell).map(|_| name))
+        let is_later = plan.has(name, plan.count.saturating_sub(1)) && !plan.has(name, place);
+        let is_cell = shelf
+            .present(&Name::read(alloc, name.as_bytes())?)
+            .is_some();
+        let is_own = plan.has(name, place);
+        Ok(if is_later || is_cell && !is_own {
+            name
+        } else {
+            ""
+        })
     }
 
-    /// An element of the structure at an index, or nothing.
-    fn element(&mut self, alloc: Global, shelf: &Shelf, plan: Plan, place: u16) -> Result<String> {
-        let choice = self.below(6);
-        if choice == 0 {
-            return Ok(self.boundary(alloc)?);
-        }
-        if choice == 1 {
-            return Ok(self.path(alloc)?);
-        }
-        match self.target(alloc, shelf, plan, place)? {
-            Some(name) if choice < 4 => Ok(self.single(alloc, name)?),
-            Some(name) => Ok(self.array(alloc, name)?),
-            None => Ok(String::new(alloc)),
-        }
-    }
-
-    /// Adds the notation of a structure.
-    fn structure(
+    /// Adds an element of the structure at an index, or nothing.
+    fn add_element(
         &mut self,
-        alloc: Global,
-        text: &mut String,
+        text: &mut Notation,
         shelf: &Shelf,
         plan: Plan,
-        place: u16,
+        place: u32,
     ) -> Result<()> {
-        text.push_str("; ")?;
-        text.push_str(plan.name(place))?;
-        text.push_str(":")?;
-        for _ in 0..=self.below(6) {
-            text.push_str(self.element(alloc, shelf, plan, place)?.as_str())?;
+        match self.below(6) {
+            0 => self.add_boundary(text),
+            1 => self.add_path(text),
+            choice => {
+                let name = self.target(text.alloc(), shelf, plan, place)?;
+                if !name.is_empty() && choice < 4 {
+                    self.add_single(text, name);
+                } else if !name.is_empty() {
+                    self.add_array(text, name);
+                }
+            }
         }
         Ok(())
     }
 
-    /// The notation of a library.
-    fn library(&mut self, alloc: Global, shelf: &Shelf, plan: Plan) -> Result<String> {
-        let mut text = String::new(alloc);
-        for place in 0..plan.count {
-            self.structure(alloc, &mut text, shelf, plan, place)?;
+    /// Adds a structure.
+    fn add_structure(
+        &mut self,
+        text: &mut Notation,
+        shelf: &Shelf,
+        plan: Plan,
+        place: u32,
+    ) -> Result<()> {
+        text.add("; ");
+        text.add(plan.name(place));
+        text.add(":");
+        for _ in 0..=self.below(6) {
+            self.add_element(text, shelf, plan, place)?;
         }
-        Ok(text)
+        Ok(())
     }
 
-    /// The top of a submission: the first structure of its library, or any.
-    fn top(&mut self, plan: Plan) -> &'static str {
-        let place = if self.below(3) == 0 {
-            self.below(plan.count)
-        } else {
-            0
-        };
-        plan.name(place)
+    /// The bytes of a library.
+    fn library(&mut self, alloc: Global, shelf: &Shelf, plan: Plan) -> Result<Vec<u8>> {
+        let mut text = Notation::new(alloc);
+        for place in 0..plan.count {
+            self.add_structure(&mut text, shelf, plan, place)?;
+        }
+        Ok(text_of_library(alloc, text.finish()?.as_str())?)
     }
 
-    /// Submits a library as one of four cells.
+    /// Submits a library as one of four cells: the first structure of its library, or any.
     fn submit(&mut self, alloc: Global, shelf: &mut Shelf) -> Result<()> {
         let plan = Plan {
             first: self.below(8),
             count: self.below(4).wrapping_add(1),
         };
-        let notation = self.library(alloc, shelf, plan)?;
-        let bytes = text_of_library(alloc, notation.as_str())?;
-        let top = self.top(plan);
+        let bytes = self.library(alloc, shelf, plan)?;
+        let place = if self.below(3) == 0 {
+            self.below(plan.count)
+        } else {
+            0
+        };
         let cell = name_of(self.below(4));
-        put_text(alloc, shelf, cell, top, &bytes, mpw_hier::MAX_SHAPES)??;
+        let entry = Entry {
+            cell,
+            top: plan.name(place),
+            user: cell,
+        };
+        put_entry(alloc, shelf, entry, &bytes, mpw_hier::MAX_SHAPES)??;
         Ok(())
     }
 
@@ -238,19 +260,20 @@ impl Random {
 
     fn root(&mut self) -> Root {
         let (_, orient) = self.orient();
-        let x = i64::from(self.coordinate()).wrapping_mul(1000);
-        let y = i64::from(self.coordinate()).wrapping_mul(1000);
         Root {
-            submission: u32::from(self.below(5)),
+            submission: self.below(5),
             placing: Placing {
                 orient,
-                by: Point { x, y },
+                by: Point {
+                    x: self.coordinate().wrapping_mul(1000),
+                    y: self.coordinate().wrapping_mul(1000),
+                },
             },
         }
     }
 
     /// Up to 8 roots of the shelf, without those that have too many shapes.
-    pub fn roots(&mut self, alloc: Global, shelf: &Shelf) -> Result<Vec<Root>> {
+    pub fn roots(&mut self, alloc: Global, shelf: &Shelf) -> Result<Vec<Root>, AllocError> {
         let mut roots = Vec::new(alloc);
         for _ in 0..self.below(9) {
             let root = self.root();

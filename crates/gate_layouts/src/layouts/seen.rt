@@ -1,28 +1,20 @@
 //! How many shapes come from submissions that may be seen.
 
 use anyhow::{Result, bail};
-use gate_words::number;
+use gate_words::Words;
 use mpw_hier::Shelf;
 use mpw_seen::{is_seen, seen_count};
 use mpw_walk::{Root, Walk};
-use std::alloc::Global;
+use std::alloc::{AllocError, Global};
 use std::slice;
 
 /// Which submissions are seen, by number: those with a `1`.
-fn flags(alloc: Global, word: &str) -> Result<Vec<bool>> {
+fn flags(alloc: Global, word: &str) -> Result<Vec<bool>, AllocError> {
     let mut seen = Vec::new(alloc);
     for byte in word.as_bytes() {
         seen.push(*byte == b'1')?;
     }
     Ok(seen)
-}
-
-/// How many shapes of a submission are seen, by its nodes.
-fn counted(alloc: Global, shelf: &Shelf, number: u32, seen: &[bool]) -> Result<u64> {
-    if number as usize >= shelf.submissions().len() {
-        bail!("a submission");
-    }
-    Ok(seen_count(alloc, shelf, number, seen)?)
 }
 
 /// How many shapes of a walk are seen.
@@ -39,36 +31,29 @@ fn walked(walk: &mut Walk<'_>, seen: &[bool]) -> u64 {
     count
 }
 
-/// Prints how many shapes of a submission are seen.
-pub fn print_seen(
-    rt: &(impl Print + AllocGlobal),
-    shelf: &Shelf,
-    word: &str,
-    seen: &str,
-) -> Result<()> {
-    let number = number(word)?;
-    let seen = flags(rt.alloc(), seen)?;
-    let count = counted(rt.alloc(), shelf, number, &seen)?;
-    let all = shelf.count(number);
-    Ok(println!(rt; "    {count} of {all}")?)
-}
-
-/// Prints the same, and how many a walk gives.
-pub fn print_walked(
-    rt: &(impl Print + AllocGlobal),
-    shelf: &Shelf,
-    word: &str,
-    seen: &str,
-) -> Result<()> {
-    print_seen(rt, shelf, word, seen)?;
-    let number = number(word)?;
+/// Prints how many shapes of a submission are seen, and how many a walk gives if that is asked for.
+pub fn print_seen(rt: &HostRuntime, shelf: &Shelf, words: &mut Words<'_>) -> Result<()> {
+    let number = words.number();
+    let seen = flags(rt.alloc(), words.next())?;
     if number as usize >= shelf.submissions().len() {
         bail!("a submission");
     }
-    let root = Root::at_origin(shelf, number);
-    let seen = flags(rt.alloc(), seen)?;
-    let count = walked(&mut Walk::new(shelf, slice::from_ref(&root)), &seen);
-    Ok(println!(rt; "    {count} by a walk")?)
+    let count = seen_count(rt.alloc(), shelf, number, &seen)?;
+    println!(rt; "    {count} of {}", shelf.count(number))?;
+    if words.rest() == "walked" {
+        let root = Root::at_origin(shelf, number);
+        let count = walked(&mut Walk::new(shelf, slice::from_ref(&root)), &seen);
+        println!(rt; "    {count} by a walk")?;
+    }
+    Ok(())
+}
+
+/// How many shapes of a submission are seen, by its nodes.
+fn counted(alloc: Global, shelf: &Shelf, number: u32, seen: &[bool]) -> Result<u64> {
+    if number as usize >= shelf.submissions().len() {
+        bail!("a submission");
+    }
+    Ok(seen_count(alloc, shelf, number, seen)?)
 }
 
 /// Whether nodes and a walk have the same number of seen shapes of roots.

@@ -1,48 +1,41 @@
 //! Texts of decks.
 
 use anyhow::Result;
-use mpw_deck::{DeckError, DeckText};
+use mpw_deck::{Deck, DeckError, DeckText};
 use std::alloc::{AllocError, Global};
+use std::io;
 
-/// The bytes of a text, from its lines with `; ` between them.
-fn bytes_of(alloc: Global, lines: &str) -> Result<Vec<u8>, AllocError> {
-    let mut bytes = Vec::new(alloc);
-    for line in lines.trim().split("; ") {
-        bytes.extend_from_slice(line.as_bytes())?;
-        bytes.push(b'\n')?;
+/// The text of lines with `; ` between them, or an empty one.
+pub fn text(alloc: Global, lines: &str) -> Result<DeckText, AllocError> {
+    let mut text = lines.trim().replace(alloc, "; ", "\n")?;
+    if !text.is_empty() {
+        text.push('\n')?;
     }
-    Ok(bytes)
+    DeckText::read(alloc, text.into_bytes())
 }
 
-/// The text of these lines, or an empty one.
-pub fn text(alloc: Global, lines: &str) -> Result<DeckText, AllocError> {
-    if lines.trim().is_empty() {
-        return DeckText::read(alloc, Vec::new(alloc));
+/// Prints the side of tiles, and the rules.
+fn print_rules(rt: &HostRuntime, which: &str, deck: &Deck) -> io::Result<()> {
+    print!(rt; "    {which}: tile {}", deck.tile())?;
+    for rule in deck.rules().as_slice() {
+        print!(rt; ", {} {}", rule.name, rule.distance)?;
     }
-    DeckText::read(alloc, bytes_of(alloc, lines)?)
+    println!(rt)
 }
 
 /// Prints the deck of a text.
-fn print_one(rt: &(impl Print + AllocGlobal), which: &str, text: &DeckText) -> Result<()> {
-    let deck = match text.deck(rt.alloc()) {
-        Ok(deck) => deck,
-        Err(DeckError::Fault(fault)) => return Ok(println!(rt; "    {which}: {fault}")?),
-        Err(DeckError::Memory) => return Ok(println!(rt; "    {which}: out of memory")?),
-    };
-    let tile = deck.tile();
-    print!(rt; "    {which}: tile {tile}")?;
-    for rule in deck.rules().as_slice() {
-        let name = rule.name.as_str();
-        let distance = rule.distance;
-        print!(rt; ", {name} {distance}")?;
+fn print_one(rt: &HostRuntime, which: &str, text: &DeckText) -> io::Result<()> {
+    match text.deck(rt.alloc()) {
+        Ok(deck) => print_rules(rt, which, &deck),
+        Err(DeckError::Fault(fault)) => println!(rt; "    {which}: {fault}"),
+        Err(DeckError::Memory) => println!(rt; "    {which}: out of memory"),
     }
-    Ok(println!(rt; "")?)
 }
 
 /// Prints the deck of a text three times.
-pub fn print_deck(rt: &(impl Print + AllocGlobal), lines: &str) -> Result<()> {
+pub fn print_deck(rt: &HostRuntime, lines: &str) -> Result<()> {
     let text = text(rt.alloc(), lines)?;
     print_one(rt, "text", &text)?;
     print_one(rt, "copy", &text.copy()?)?;
-    print_one(rt, "alone", &text.alone()?)
+    Ok(print_one(rt, "alone", &text.alone()?)?)
 }

@@ -1,15 +1,14 @@
 //! The contents of the wafer: a shelf, and the placements of its submissions.
 
 use crate::placings::decks;
-use anyhow::{Result, bail};
-use gate_plain::submit;
-use gate_words::orient_word;
-use mpw_deck::DeckError;
+use anyhow::{Context, Result, bail};
+use gate_plain::{deck_of, placed, submit};
+use gate_words::{Answers, Words, orient_word};
 use mpw_geom::{Name, Orient, Placing, Point};
 use mpw_hier::Shelf;
 use mpw_placings::{PlacementRef, PlacingFault, Placings};
-use mpw_tiles::{Snapshot, are_roots};
 use std::alloc::{AllocError, Global};
+use std::io;
 
 const DRAWN: Placing = Placing {
     orient: Orient::R0,
@@ -23,20 +22,44 @@ pub struct Top {
     placings: Placings,
 }
 
-fn print_placement(rt: &impl Print, placement: PlacementRef<'_>) -> Result<()> {
-    let cell = placement.cell.as_str();
-    let label = placement.label.as_str();
-    let submission = placement.root.submission;
-    let orient = orient_word(placement.root.placing.orient);
-    let Point { x, y } = placement.root.placing.by;
-    Ok(println!(rt; "    {cell} {label}: {submission} {orient} {x} {y}")?)
+fn print_placement(rt: &HostRuntime, placement: PlacementRef<'_>) -> io::Result<()> {
+    let Placing { orient, by } = placement.root.placing;
+    println!(rt;
+        "    {} {}: {} {} {} {}",
+        placement.cell,
+        placement.label,
+        placement.root.submission,
+        orient_word(orient),
+        by.x,
+        by.y
+    )
 }
 
-/// Prints the result of a change: its word, or why it failed.
-fn print_told(rt: &impl Print, told: Result<&str, PlacingFault>) -> Result<()> {
-    match told {
-        Ok(word) => Ok(println!(rt; "    {word}")?),
-        Err(fault) => Ok(println!(rt; "    {fault}")?),
+/// The name of a word.
+fn name(alloc: Global, word: &str) -> Result<Name> {
+    Ok(Name::read(alloc, word.as_bytes())?)
+}
+
+impl Answers for Top {
+    fn answer(
+        &mut self,
+        rt: &HostRuntime,
+        verb: &str,
+        words: &mut Words<'_>,
+        behind: &str,
+    ) -> Result<()> {
+        match verb {
+            "deck" => return decks::print_deck(rt, behind),
+            "new" => *self = Top::new(rt.alloc()),
+            "submit" => {
+                let (cell, top) = (words.next(), words.next());
+                submit(rt.alloc(), &mut self.shelf, cell, top, behind)?;
+            }
+            "list" => self.list(rt)?,
+            "tiles" => self.tiles(rt, words.next())?,
+            _ => return self.answer_cell(rt, verb, words),
+        }
+        Ok(())
     }
 }
 
@@ -49,58 +72,62 @@ impl Top {
         }
     }
 
-    /// Submits a cell: the structure of that name, of a library in the notation of samples.
-    pub fn submit(&mut self, alloc: Global, cell: &str, name: &str, notation: &str) -> Result<()> {
-        submit(alloc, &mut self.shelf, cell, name, notation)
+    /// Answers a command about a cell.
+    fn answer_cell(&mut self, rt: &HostRuntime, verb: &str, words: &mut Words<'_>) -> Result<()> {
+        let cell = name(rt.alloc(), words.next())?;
+        match verb {
+            "place" => {
+                let label = name(rt.alloc(), words.next())?;
+                self.place(rt, &cell, &label, words.placing())
+            }
+            "unplace" => {
+                let label = name(rt.alloc(), words.next())?;
+                let changed = self.placings.unplace(rt.alloc(), &cell, &label);
+                self.change(rt, changed, "taken away")
+            }
+            "fill" => self.fill(rt, &cell, words.number()),
+            _ => bail!("a command"),
+        }
     }
 
-    /// Prints the version of the placement of a cell and a label.
-    fn print_version(&self, rt: &impl Print, cell: &Name, label: &Name) -> Result<()> {
-        let Some(version) = self.placings.version(&self.shelf, cell, label) else {
-            bail!("a version");
-        };
-        Ok(println!(rt; "    version {version}")?)
+    /// Goes on with changed placements, and prints a word, or why there was no change.
+    fn change(
+        &mut self,
+        rt: &HostRuntime,
+        changed: Result<Placings, PlacingFault>,
+        word: &str,
+    ) -> Result<()> {
+        match changed {
+            Ok(placings) => {
+                self.placings = placings;
+                Ok(println!(rt; "    {word}")?)
+            }
+            Err(fault) => Ok(println!(rt; "    {fault}")?),
+        }
     }
 
     /// Places a cell's present submission under a label, and prints its version, or why not.
-    pub fn place(
+    fn place(
         &mut self,
-        rt: &(impl Print + AllocGlobal),
-        cell: &str,
-        label: &str,
+        rt: &HostRuntime,
+        cell: &Name,
+        label: &Name,
         placing: Placing,
     ) -> Result<()> {
-        let cell = Name::read(rt.alloc(), cell.as_bytes())?;
-        let label = Name::read(rt.alloc(), label.as_bytes())?;
         let placed = self
             .placings
-            .place(rt.alloc(), &self.shelf, &cell, &label, placing);
-        match placed {
-            Ok(placings) => self.placings = placings,
-            Err(fault) => return print_told(rt, Err(fault)),
-        }
-        self.print_version(rt, &cell, &label)
-    }
-
-    /// Removes a placement, and prints that, or why not.
-    pub fn unplace(
-        &mut self,
-        rt: &(impl Print + AllocGlobal),
-        cell: &str,
-        label: &str,
-    ) -> Result<()> {
-        let cell = Name::read(rt.alloc(), cell.as_bytes())?;
-        let label = Name::read(rt.alloc(), label.as_bytes())?;
-        match self.placings.unplace(rt.alloc(), &cell, &label) {
-            Ok(placings) => self.placings = placings,
-            Err(fault) => return print_told(rt, Err(fault)),
-        }
-        print_told(rt, Ok("taken away"))
+            .place(rt.alloc(), &self.shelf, cell, label, placing);
+        let version = match &placed {
+            Ok(placings) => placings.version(&self.shelf, cell, label),
+            Err(_) => None,
+        };
+        let word = format!(in rt.alloc(); "version {}", version.unwrap_or(0))?;
+        self.change(rt, placed, word.as_str())
     }
 
     fn place_drawn(&mut self, alloc: Global, cell: &Name, number: u32) -> Result<()> {
         let label = format!(in alloc; "{number}")?;
-        let label = Name::read(alloc, label.as_bytes())?;
+        let label = name(alloc, label.as_str())?;
         self.placings = self
             .placings
             .place(alloc, &self.shelf, cell, &label, DRAWN)?;
@@ -108,55 +135,30 @@ impl Top {
     }
 
     /// Places a cell that many times as it is drawn, under the labels 0, 1 and so on, and prints how many placements there are.
-    pub fn fill(&mut self, rt: &(impl Print + AllocGlobal), cell: &str, count: &str) -> Result<()> {
-        let cell = Name::read(rt.alloc(), cell.as_bytes())?;
-        let Ok(count) = count.parse::<u32>() else {
-            bail!("a number");
-        };
+    fn fill(&mut self, rt: &HostRuntime, cell: &Name, count: u32) -> Result<()> {
         for number in 0..count {
-            self.place_drawn(rt.alloc(), &cell, number)?;
+            self.place_drawn(rt.alloc(), cell, number)?;
         }
-        let count = self.placings.len();
-        Ok(println!(rt; "    {count} placings")?)
+        Ok(println!(rt; "    {} placings", self.placings.len())?)
     }
 
     /// Prints the placements, by a copy of the table.
-    pub fn list(&self, rt: &impl Print) -> Result<()> {
+    fn list(&self, rt: &HostRuntime) -> Result<()> {
         let placings = self.placings.copy()?;
-        let count = placings.len();
-        println!(rt; "    {count} placings")?;
-        for place in 0..count {
-            let Some(placement) = placings.get(place) else {
-                bail!("a placing");
-            };
-            print_placement(rt, placement)?;
+        println!(rt; "    {} placings", placings.len())?;
+        for place in 0..placings.len() {
+            print_placement(rt, placings.get(place).context("a placing")?)?;
         }
         Ok(())
     }
 
-    fn snapshot(&self, alloc: Global, side: &str) -> Result<Snapshot> {
-        let lines = format!(in alloc; "tile {side}")?;
-        let deck = match decks::text(alloc, &lines)?.deck(alloc) {
-            Ok(deck) => deck,
-            Err(DeckError::Fault(_)) => bail!("a side"),
-            Err(DeckError::Memory) => return Err(AllocError.into()),
-        };
-        let roots = self.placings.roots(alloc)?;
-        let shelf = self.shelf.copy(alloc)?;
-        if !are_roots(&shelf, &roots) {
-            bail!("roots of a snapshot");
-        }
-        Ok(Snapshot::new(alloc, deck, roots, shelf)?)
-    }
-
     /// Prints how many tiles of that side, in nm, the placements have, or that there is no plan.
-    pub fn tiles(&self, rt: &(impl Print + AllocGlobal), side: &str) -> Result<()> {
-        let snapshot = self.snapshot(rt.alloc(), side)?;
+    fn tiles(&self, rt: &HostRuntime, side: &str) -> Result<()> {
+        let deck = deck_of(rt.alloc(), side, "")?;
+        let roots = self.placings.roots(rt.alloc())?;
+        let snapshot = placed(rt.alloc(), deck, &self.shelf, &roots)?;
         match snapshot.plan() {
-            Some(plan) => {
-                let tiles = plan.tiles();
-                Ok(println!(rt; "    {tiles} tiles")?)
-            }
+            Some(plan) => Ok(println!(rt; "    {} tiles", plan.tiles())?),
             None => Ok(println!(rt; "    no plan")?),
         }
     }

@@ -2,39 +2,29 @@
 
 use crate::tiles::plans::deck;
 use anyhow::{Result, bail};
-use gate_plain::placed_roots;
-use mpw_deck::Deck;
+use gate_plain::{placed, placed_roots};
 use mpw_geom::{Box2, Layer};
 use mpw_hier::Shelf;
-use mpw_tiles::{Rectangle, Snapshot, Window, Windows, are_roots, cut};
-use mpw_walk::Root;
-use std::alloc::Global;
+use mpw_tiles::{Rectangle, Snapshot, Window, Windows, cut};
+use std::alloc::{AllocError, Global};
+use std::io;
 
 /// The most tiles whose lists are printed.
 const FEW: usize = 12;
 
-/// The snapshot of these.
-pub fn snapshot(alloc: Global, deck: Deck, roots: Vec<Root>, shelf: &Shelf) -> Result<Snapshot> {
-    let shelf = shelf.copy(alloc)?;
-    if !are_roots(&shelf, &roots) {
-        bail!("roots that fit");
-    }
-    Ok(Snapshot::new(alloc, deck, roots, shelf)?)
-}
-
-fn print_rectangle(rt: &impl Print, rectangle: &Rectangle) -> Result<()> {
+fn print_rectangle(rt: &HostRuntime, rectangle: &Rectangle) -> io::Result<()> {
     let Layer { layer, datatype } = rectangle.layer;
-    let origin = rectangle.origin;
     let Box2 { x0, y0, x1, y1 } = rectangle.area;
-    Ok(print!(rt; " [{layer}/{datatype} of {origin}: {x0} {y0} {x1} {y1}]")?)
+    let origin = rectangle.origin;
+    print!(rt; " [{layer}/{datatype} of {origin}: {x0} {y0} {x1} {y1}]")
 }
 
-fn print_window(rt: &impl Print, tile: usize, window: &Window) -> Result<()> {
+fn print_window(rt: &HostRuntime, tile: usize, window: &Window) -> io::Result<()> {
     print!(rt; "    {tile}:")?;
     for rectangle in window.as_slice() {
         print_rectangle(rt, rectangle)?;
     }
-    Ok(println!(rt; "")?)
+    println!(rt)
 }
 
 /// How many rectangles are listed in all windows together.
@@ -46,11 +36,10 @@ fn entries(windows: &[Window]) -> usize {
     count
 }
 
-fn print_windows(rt: &impl Print, windows: &[Window]) -> Result<()> {
+fn print_windows(rt: &HostRuntime, windows: &[Window]) -> io::Result<()> {
     let tiles = windows.len();
     if tiles > FEW {
-        let count = entries(windows);
-        return Ok(println!(rt; "    {tiles} windows, {count} entries")?);
+        return println!(rt; "    {tiles} windows, {} entries", entries(windows));
     }
     println!(rt; "    {tiles} windows")?;
     for (tile, window) in windows.iter().enumerate() {
@@ -60,36 +49,28 @@ fn print_windows(rt: &impl Print, windows: &[Window]) -> Result<()> {
 }
 
 /// Whether a copy of the snapshot gives the same windows.
-fn is_told_again(alloc: Global, snapshot: &Snapshot, windows: &Windows) -> Result<bool> {
-    let copy = snapshot.copy(alloc)?;
-    is_told_by(alloc, &copy, windows)
-}
-
-/// Whether the snapshot gives these windows.
-fn is_told_by(alloc: Global, snapshot: &Snapshot, windows: &Windows) -> Result<bool> {
-    let again = cut(alloc, snapshot)?;
+fn is_told_again(
+    alloc: Global,
+    snapshot: &Snapshot,
+    windows: &Windows,
+) -> Result<bool, AllocError> {
+    let again = cut(alloc, &snapshot.copy(alloc)?)?;
     Ok(again.is_same(windows))
-}
-
-/// Prints what the windows of the snapshot list.
-fn print_snapshot(rt: &(impl Print + AllocGlobal), snapshot: &Snapshot) -> Result<()> {
-    let windows = cut(rt.alloc(), snapshot)?;
-    if !is_told_again(rt.alloc(), snapshot, &windows)? {
-        bail!("the same windows again");
-    }
-    print_windows(rt, windows.as_slice())
 }
 
 /// Prints what the windows of placed submissions list.
 pub fn print_cut(
-    rt: &(impl Print + AllocGlobal),
+    rt: &HostRuntime,
     shelf: &Shelf,
     side: &str,
     distance: &str,
-    placed: &str,
+    roots: &str,
 ) -> Result<()> {
-    let alloc = rt.alloc();
-    let deck = deck(alloc, side, distance)?;
-    let snapshot = snapshot(alloc, deck, placed_roots(alloc, placed)?, shelf)?;
-    print_snapshot(rt, &snapshot)
+    let deck = deck(rt.alloc(), side, distance)?;
+    let snapshot = placed(rt.alloc(), deck, shelf, &placed_roots(rt.alloc(), roots)?)?;
+    let windows = cut(rt.alloc(), &snapshot)?;
+    if !is_told_again(rt.alloc(), &snapshot, &windows)? {
+        bail!("the same windows again");
+    }
+    Ok(print_windows(rt, windows.as_slice())?)
 }

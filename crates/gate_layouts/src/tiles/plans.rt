@@ -1,31 +1,25 @@
 //! Plans.
 
 use anyhow::{Result, bail};
+use gate_plain::deck_of;
 use gate_words::{is_near, is_ordered};
-use mpw_deck::{Deck, read_deck};
+use mpw_deck::Deck;
 use mpw_geom::Box2;
 use mpw_tiles::Plan;
 use std::alloc::Global;
-
-fn number(word: &str) -> Result<i64> {
-    match word.parse::<i64>() {
-        Ok(number) => Ok(number),
-        Err(_) => bail!("a number"),
-    }
-}
+use std::io;
 
 /// The deck of one rule.
 pub fn deck(alloc: Global, side: &str, distance: &str) -> Result<Deck> {
-    let text = format!(in alloc; "tile {side}\nspace s 1/0 {distance}")?;
-    Ok(read_deck(alloc, text.as_bytes())?)
+    let rule = format!(in alloc; "space s 1/0 {distance}")?;
+    deck_of(alloc, side, rule.as_str())
 }
 
-fn print_box(rt: &impl Print, word: &str, b: Box2) -> Result<()> {
-    let Box2 { x0, y0, x1, y1 } = b;
-    Ok(println!(rt; "    {word} {x0} {y0} {x1} {y1}")?)
+fn print_box(rt: &HostRuntime, word: &str, b: Box2) -> io::Result<()> {
+    println!(rt; "    {word} {} {} {} {}", b.x0, b.y0, b.x1, b.y1)
 }
 
-fn print_plan(rt: &impl Print, plan: &Plan) -> Result<()> {
+fn print_plan(rt: &HostRuntime, plan: &Plan) -> io::Result<()> {
     let tiles = plan.tiles();
     println!(rt; "    {tiles} tiles")?;
     if tiles > 0 {
@@ -36,22 +30,13 @@ fn print_plan(rt: &impl Print, plan: &Plan) -> Result<()> {
 }
 
 /// Prints the number of tiles, and the core and the window of the last one.
-pub fn plan(rt: &(impl Print + AllocGlobal), words: &[&str]) -> Result<()> {
-    let [x0, y0, x1, y1, side, distance] = words else {
-        bail!("an extent, a side and a distance");
-    };
-    let extent = Box2 {
-        x0: number(x0)?,
-        y0: number(y0)?,
-        x1: number(x1)?,
-        y1: number(y1)?,
-    };
+pub fn plan(rt: &HostRuntime, extent: Box2, side: &str, distance: &str) -> Result<()> {
     let deck = deck(rt.alloc(), side, distance)?;
     if !is_near(&extent) || !is_ordered(&extent) {
         bail!("an extent");
     }
     match Plan::of(extent, &deck) {
-        Ok(plan) => print_plan(rt, &plan),
+        Ok(plan) => Ok(print_plan(rt, &plan)?),
         Err(fault) => Ok(println!(rt; "    {fault}")?),
     }
 }

@@ -1,9 +1,8 @@
 //! Windows compared square by square with a plain flattening.
 
-use crate::tiles::cuts::snapshot;
 use crate::tiles::plans::deck;
-use anyhow::{Context, Result, bail};
-use gate_plain::{Cell, Shown, flat_list, layer, layout, roots, squares_of};
+use anyhow::{Context, Result};
+use gate_plain::{Cell, Shown, flat_list, layer, layout, placed, roots, squares_of};
 use gate_words::Random;
 use mpw_geom::{Box2, Layer};
 use mpw_hier::Shelf;
@@ -20,34 +19,6 @@ const SIDES: [(&str, &str); 5] = [
     ("5000", "5"),
 ];
 
-fn is_in(area: &Box2, cell: Cell) -> bool {
-    area.x0 <= cell.x && cell.x < area.x1 && area.y0 <= cell.y && cell.y < area.y1
-}
-
-fn is_listed(window: &Window, shown: &Shown<'_>, cell: Cell) -> bool {
-    window.as_slice().iter().any(|rectangle| {
-        rectangle.origin == shown.origin
-            && Some(rectangle.layer) == layer(shown.element)
-            && is_in(&rectangle.area, cell)
-    })
-}
-
-/// Whether each window that has the square lists it.
-fn is_listed_everywhere(
-    plan: &Plan,
-    windows: &[Window],
-    shown: &Shown<'_>,
-    cell: Cell,
-) -> Result<bool> {
-    for tile in 0..plan.tiles() {
-        let window = windows.get(tile as usize).context("a window")?;
-        if is_in(&plan.window(tile), cell) && !is_listed(window, shown, cell) {
-            return Ok(false);
-        }
-    }
-    Ok(true)
-}
-
 /// A shape's layer and origin, with its squares and a box that has them.
 #[derive(Drop)]
 struct Painted {
@@ -55,6 +26,10 @@ struct Painted {
     origin: u32,
     squares: Vec<Cell>,
     reach: Box2,
+}
+
+fn is_in(area: &Box2, cell: Cell) -> bool {
+    area.x0 <= cell.x && cell.x < area.x1 && area.y0 <= cell.y && cell.y < area.y1
 }
 
 /// A box that has the squares.
@@ -76,39 +51,62 @@ fn reach(squares: &[Cell]) -> Box2 {
     reach
 }
 
-/// Whether all squares of all shapes are listed. The squares are added to the list.
-fn are_listed(
-    painted: &mut Vec<Painted>,
-    plan: &Plan,
-    windows: &[Window],
-    list: &[Shown<'_>],
-) -> Result<bool> {
-    let alloc = *painted.allocator();
+/// The squares of a shape.
+fn paint(alloc: Global, shown: &Shown<'_>) -> Result<Painted> {
+    let layer = layer(shown.element).context("a shape")?;
+    let squares = squares_of(alloc, shown)?;
+    Ok(Painted {
+        layer,
+        origin: shown.origin,
+        reach: reach(&squares),
+        squares,
+    })
+}
+
+/// The squares of shapes.
+fn paint_all(alloc: Global, list: &[Shown<'_>]) -> Result<Vec<Painted>> {
+    let mut all = Vec::new(alloc);
     for shown in list {
-        let squares = squares_of(alloc, shown)?;
-        for cell in &squares {
-            if !is_listed_everywhere(plan, windows, shown, *cell)? {
-                return Ok(false);
+        all.push(paint(alloc, shown)?)?;
+    }
+    Ok(all)
+}
+
+impl Painted {
+    /// Whether a rectangle is of the shape's layer and submission.
+    fn is_of(&self, rectangle: &Rectangle) -> bool {
+        self.layer == rectangle.layer && self.origin == rectangle.origin
+    }
+
+    /// Whether a window lists a square of the shape.
+    fn is_listed(&self, window: &Window, cell: Cell) -> bool {
+        for rectangle in window.as_slice() {
+            if self.is_of(rectangle) && is_in(&rectangle.area, cell) {
+                return true;
             }
         }
-        painted.push(Painted {
-            layer: layer(shown.element).context("a shape")?,
-            origin: shown.origin,
-            reach: reach(&squares),
-            squares,
-        })?;
+        false
     }
-    Ok(true)
+
+    /// Whether a window lists all squares of the shape in its area.
+    fn are_listed(&self, area: &Box2, window: &Window) -> bool {
+        for cell in &self.squares {
+            if is_in(area, *cell) && !self.is_listed(window, *cell) {
+                return false;
+            }
+        }
+        true
+    }
 }
 
 /// Whether some shape of the rectangle's layer and origin has the square.
 fn is_painted(painted: &[Painted], rectangle: &Rectangle, cell: Cell) -> bool {
-    painted.iter().any(|shape| {
-        shape.layer == rectangle.layer
-            && shape.origin == rectangle.origin
-            && is_in(&shape.reach, cell)
-            && shape.squares.iter().any(|square| *square == cell)
-    })
+    for shape in painted {
+        if shape.is_of(rectangle) && is_in(&shape.reach, cell) && shape.squares.contains(&cell) {
+            return true;
+        }
+    }
+    false
 }
 
 /// Whether each square of a listed rectangle in the window belongs to a shape.
@@ -124,89 +122,75 @@ fn is_shown(painted: &[Painted], window: &Box2, rectangle: &Rectangle) -> bool {
     true
 }
 
-fn are_shown(painted: &[Painted], plan: &Plan, windows: &[Window]) -> Result<bool> {
-    for tile in 0..plan.tiles() {
-        let listed = windows.get(tile as usize).context("a window")?;
-        let window = plan.window(tile);
-        for rectangle in listed.as_slice() {
-            if !is_shown(painted, &window, rectangle) {
-                return Ok(false);
-            }
+/// Whether a window lists exactly the squares of the shapes in its area.
+fn is_right(painted: &[Painted], area: &Box2, window: &Window) -> bool {
+    for shape in painted {
+        if !shape.are_listed(area, window) {
+            return false;
         }
     }
-    Ok(windows.len() == plan.tiles() as usize)
-}
-
-/// Whether the windows have exactly the squares of the list.
-fn are_right(alloc: Global, plan: &Plan, windows: &[Window], list: &[Shown<'_>]) -> Result<bool> {
-    let mut painted = Vec::new(alloc);
-    Ok(are_listed(&mut painted, plan, windows, list)? && are_shown(&painted, plan, windows)?)
-}
-
-/// Whether the windows that the snapshot is cut into have exactly the squares of the list.
-fn is_cut_right(alloc: Global, snapshot: &Snapshot, list: &[Shown<'_>]) -> Result<bool> {
-    let Some(plan) = snapshot.plan() else {
-        return Ok(false);
-    };
-    let windows = cut(alloc, snapshot)?;
-    are_right(alloc, &plan, windows.as_slice(), list)
-}
-
-fn same_roots(alloc: Global, roots: &[Root]) -> Result<Vec<Root>> {
-    let mut all = Vec::new(alloc);
-    for root in roots {
-        all.push(*root)?;
+    for rectangle in window.as_slice() {
+        if !is_shown(painted, area, rectangle) {
+            return false;
+        }
     }
-    Ok(all)
+    true
 }
 
-/// The snapshot of placed submissions under a side.
-fn snapshot_of(
-    alloc: Global,
-    shelf: &Shelf,
-    placed: &[Root],
-    side: &str,
-    distance: &str,
-) -> Result<Snapshot> {
-    let deck = deck(alloc, side, distance)?;
-    snapshot(alloc, deck, same_roots(alloc, placed)?, shelf)
+/// Whether the windows have exactly the squares of the shapes.
+fn are_right(painted: &[Painted], plan: &Plan, windows: &[Window]) -> bool {
+    for tile in 0..plan.tiles() {
+        let Some(window) = windows.get(tile as usize) else {
+            return false;
+        };
+        if !is_right(painted, &plan.window(tile), window) {
+            return false;
+        }
+    }
+    windows.len() == plan.tiles() as usize
 }
 
-/// For how many sides the windows of a layout differ from the list.
-fn differing_sides(
+/// Whether the windows that the snapshot is cut into have exactly the squares of the shapes.
+fn is_cut_right(alloc: Global, snapshot: &Snapshot, painted: &[Painted]) -> Result<bool> {
+    let plan = snapshot.plan().context("a plan")?;
+    let windows = cut(alloc, snapshot)?;
+    Ok(are_right(painted, &plan, windows.as_slice()))
+}
+
+/// Whether the windows of placed submissions under a side are right.
+fn is_side_right(
     alloc: Global,
     shelf: &Shelf,
-    placed: &[Root],
-    list: &[Shown<'_>],
-) -> Result<u32> {
+    roots: &[Root],
+    painted: &[Painted],
+    side: (&str, &str),
+) -> Result<bool> {
+    let deck = deck(alloc, side.0, side.1)?;
+    let snapshot = placed(alloc, deck, shelf, roots)?;
+    is_cut_right(alloc, &snapshot, painted)
+}
+
+/// For how many sides the windows of placed submissions differ from their flat list.
+fn differing(alloc: Global, shelf: &Shelf, roots: &[Root]) -> Result<u32> {
+    let painted = paint_all(alloc, &flat_list(alloc, shelf, roots)?)?;
     let mut different = 0u32;
-    for (side, distance) in SIDES {
-        let snapshot = snapshot_of(alloc, shelf, placed, side, distance)?;
-        if !is_cut_right(alloc, &snapshot, list)? {
+    for side in SIDES {
+        if !is_side_right(alloc, shelf, roots, &painted, side)? {
             different = different.saturating_add(1);
         }
     }
     Ok(different)
 }
 
-/// For how many sides the windows of placed submissions differ from their flat list.
-fn differing(alloc: Global, shelf: &Shelf, placed: &[Root]) -> Result<u32> {
-    let list = flat_list(alloc, shelf, placed)?;
-    differing_sides(alloc, shelf, placed, &list)
-}
-
 /// For how many sides the windows of a random layout differ from its flat list.
 fn compare(alloc: Global, random: &mut Random) -> Result<u32> {
-    let placed = roots(alloc, random)?;
+    let roots = roots(alloc, random)?;
     let shelf = layout(alloc, random)?;
-    differing(alloc, &shelf, &placed)
+    differing(alloc, &shelf, &roots)
 }
 
 /// Cuts that many random layouts by each side, and prints how many differ.
-pub fn compared(rt: &(impl Print + AllocGlobal), word: &str) -> Result<()> {
-    let Ok(count) = word.parse::<u32>() else {
-        bail!("a number");
-    };
+pub fn compared(rt: &HostRuntime, count: u32) -> Result<()> {
     let mut random = Random::new(11);
     let mut different = 0u32;
     for _ in 0..count {

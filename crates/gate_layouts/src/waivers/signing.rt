@@ -1,11 +1,14 @@
 //! The waivers of a book's markers, and the shelf with what they touch.
 
-use crate::waivers::shelves;
 use anyhow::{Result, bail};
+use gate_plain::{Entry, put_entry};
+use gate_samples::text_of_library;
+use gate_words::{Answers, Words};
 use mpw_geom::Name;
-use mpw_hier::Shelf;
+use mpw_hier::{MAX_SHAPES, Shelf};
 use mpw_waiver::{Waiver, WaiverFault, Waivers};
-use std::alloc::Global;
+use std::alloc::{AllocError, Global};
+use std::io;
 
 /// The state after the lines: the shelf, and the waivers of a book's markers.
 #[derive(Drop)]
@@ -14,47 +17,45 @@ pub struct Desk {
     waivers: Waivers,
 }
 
-fn place_of(word: &str) -> Result<usize> {
-    match word.parse::<usize>() {
-        Ok(number) => Ok(number),
-        Err(_) => bail!("a place"),
-    }
-}
-
-fn numbers_of(alloc: Global, words: &[&str]) -> Result<Vec<u32>> {
-    let mut numbers = Vec::new(alloc);
-    for word in words {
-        match word.parse::<u32>() {
-            Ok(number) => numbers.push(number)?,
-            Err(_) => bail!("a number"),
-        }
-    }
-    Ok(numbers)
-}
-
 /// Prints why a request failed.
-fn print_fault(rt: &impl Print, fault: &WaiverFault) -> Result<()> {
-    if let WaiverFault::Submitter(cell) = fault {
-        let cell = cell.as_str();
-        return Ok(println!(rt; "    submitter {cell}")?);
+fn print_fault(rt: &HostRuntime, fault: &WaiverFault) -> io::Result<()> {
+    match fault {
+        WaiverFault::Submitter(cell) => println!(rt; "    submitter {cell}"),
+        fault => println!(rt; "    {fault}"),
     }
-    Ok(println!(rt; "    {fault}")?)
 }
 
-fn print_waiver(rt: &impl Print, place: usize, waiver: &Waiver) -> Result<()> {
+fn print_waiver(rt: &HostRuntime, place: usize, waiver: &Waiver) -> io::Result<()> {
     let asker = waiver.asker.as_str();
     match &waiver.signer {
-        Some(signer) => {
-            let signer = signer.as_str();
-            Ok(println!(rt; "    {place} signed {asker} {signer}")?)
+        Some(signer) => println!(rt; "    {place} signed {asker} {signer}"),
+        None => println!(rt; "    {place} asked {asker}"),
+    }
+}
+
+impl Answers for Desk {
+    fn answer(
+        &mut self,
+        rt: &HostRuntime,
+        verb: &str,
+        words: &mut Words<'_>,
+        _behind: &str,
+    ) -> Result<()> {
+        match verb {
+            "new" => self.begin(rt.alloc(), words.number()),
+            "submit" => self.submit(rt, words.next(), words.next()),
+            "ask" => self.ask(rt, words.number(), words.next()),
+            "sign" => self.sign(rt, words),
+            "list" => Ok(self.list(rt)?),
+            "open" => Ok(println!(rt; "    {} open", self.waivers.count_unsigned())?),
+            _ => bail!("a command"),
         }
-        None => Ok(println!(rt; "    {place} asked {asker}")?),
     }
 }
 
 impl Desk {
     /// An empty shelf, and a book without markers.
-    pub fn new(alloc: Global) -> Result<Desk> {
+    pub fn new(alloc: Global) -> Result<Desk, AllocError> {
         Ok(Desk {
             shelf: Shelf::new(alloc),
             waivers: Waivers::new(alloc, 0)?,
@@ -62,71 +63,52 @@ impl Desk {
     }
 
     /// Begins again with an empty shelf, and that many markers without a waiver.
-    pub fn begin(&mut self, alloc: Global, size: &str) -> Result<()> {
-        let waivers = Waivers::new(alloc, place_of(size)?)?;
+    fn begin(&mut self, alloc: Global, size: u32) -> Result<()> {
+        self.waivers = Waivers::new(alloc, size as usize)?;
         self.shelf = Shelf::new(alloc);
-        self.waivers = waivers;
         Ok(())
     }
 
-    /// Puts a version of a cell on the shelf, which the user submitted, and prints its number.
-    pub fn submit(
-        &mut self,
-        rt: &(impl Print + AllocGlobal),
-        cell: &str,
-        user: &str,
-    ) -> Result<()> {
-        let cell = Name::read(rt.alloc(), cell.as_bytes())?;
-        let user = Name::read(rt.alloc(), user.as_bytes())?;
-        let number = shelves::submit(rt.alloc(), &mut self.shelf, cell, user)?;
+    /// Puts a square on the shelf as a version of a cell, which the user submitted, and prints its number.
+    fn submit(&mut self, rt: &HostRuntime, cell: &str, user: &str) -> Result<()> {
+        let text = text_of_library(rt.alloc(), "TOP: b 1/0 0 0 5 5")?;
+        let top = "TOP";
+        let entry = Entry { cell, top, user };
+        let number = put_entry(rt.alloc(), &mut self.shelf, entry, &text, MAX_SHAPES)??;
         Ok(println!(rt; "    {number}")?)
     }
 
     /// Asks for the waiver of the marker at an index, and prints that, or why not.
-    pub fn ask(&mut self, rt: &(impl Print + AllocGlobal), place: &str, user: &str) -> Result<()> {
-        let place = place_of(place)?;
-        let user = Name::read(rt.alloc(), user.as_bytes())?;
+    fn ask(&mut self, rt: &HostRuntime, place: u32, user: &str) -> Result<()> {
+        let place = place as usize;
         if let Err(fault) = self.waivers.may_ask(place) {
-            return print_fault(rt, &fault);
+            return Ok(print_fault(rt, &fault)?);
         }
+        let user = Name::read(rt.alloc(), user.as_bytes())?;
         self.waivers.ask(place, user);
         Ok(println!(rt; "    asked")?)
     }
 
     /// Signs the waiver of the marker at an index, which touches the submissions of these numbers, and prints that, or why not.
-    pub fn sign(
-        &mut self,
-        rt: &(impl Print + AllocGlobal),
-        place: &str,
-        user: &str,
-        numbers: &[&str],
-    ) -> Result<()> {
-        let place = place_of(place)?;
-        let met = numbers_of(rt.alloc(), numbers)?;
-        let user = Name::read(rt.alloc(), user.as_bytes())?;
-        let told = self
-            .waivers
-            .may_sign(place, &self.shelf, met.as_slice(), &user)?;
+    fn sign(&mut self, rt: &HostRuntime, words: &mut Words<'_>) -> Result<()> {
+        let place = words.number() as usize;
+        let user = Name::read(rt.alloc(), words.next().as_bytes())?;
+        let met = words.numbers(rt.alloc())?;
+        let told = self.waivers.may_sign(place, &self.shelf, &met, &user)?;
         if let Err(fault) = told {
-            return print_fault(rt, &fault);
+            return Ok(print_fault(rt, &fault)?);
         }
         self.waivers.sign(place, user);
         Ok(println!(rt; "    signed")?)
     }
 
     /// Prints the waivers, by index.
-    pub fn list(&self, rt: &impl Print) -> Result<()> {
+    fn list(&self, rt: &HostRuntime) -> io::Result<()> {
         for place in 0..self.waivers.len() {
             if let Some(waiver) = self.waivers.waiver_at(place) {
                 print_waiver(rt, place, waiver)?;
             }
         }
         Ok(())
-    }
-
-    /// Prints how many markers have no signed waiver.
-    pub fn open(&self, rt: &impl Print) -> Result<()> {
-        let unsigned = self.waivers.count_unsigned();
-        Ok(println!(rt; "    {unsigned} open")?)
     }
 }

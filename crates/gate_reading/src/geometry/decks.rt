@@ -3,21 +3,11 @@
 use anyhow::{Result, bail};
 use mpw_deck::{Check, Deck, Rule, read_deck};
 use mpw_geom::Layer;
-use std::alloc::Global;
+use std::alloc::{AllocError, Global};
+use std::io;
 
-/// Adds a line, or that many rules.
-fn add_line(alloc: Global, text: &mut String, line: &str) -> Result<()> {
-    let Some(count) = line.strip_prefix("rules ") else {
-        text.push_str(
-            line.replace(alloc, "\\r", "\r")?
-                .replace(alloc, "\\t", "\t")?
-                .as_str(),
-        )?;
-        return Ok(());
-    };
-    let Ok(count) = count.parse::<u16>() else {
-        bail!("a number of rules");
-    };
+/// Adds that many rules, with line feeds between them.
+fn add_rules(alloc: Global, text: &mut String, count: u32) -> Result<(), AllocError> {
     for number in 0..count {
         let feed = if number == 0 { "" } else { "\n" };
         text.push_str(format!(in alloc; "{feed}width r{number} 1/0 5")?.as_str())?;
@@ -25,16 +15,22 @@ fn add_line(alloc: Global, text: &mut String, line: &str) -> Result<()> {
     Ok(())
 }
 
-/// The deck's text in brackets.
+/// Adds a line, or that many rules.
+fn add_line(alloc: Global, text: &mut String, line: &str) -> Result<()> {
+    match line.strip_prefix("rules ") {
+        Some(count) => add_rules(alloc, text, count.parse::<u32>()?)?,
+        None => text.push_str(line)?,
+    }
+    Ok(())
+}
+
+/// The text of a deck, from its word, in which `;` is a line feed.
 fn text(alloc: Global, word: &str) -> Result<String> {
-    let Some(inner) = word
-        .strip_prefix('[')
-        .and_then(|rest| rest.strip_suffix(']'))
-    else {
-        bail!("a text in brackets");
-    };
+    let word = word
+        .replace(alloc, "\\r", "\r")?
+        .replace(alloc, "\\t", "\t")?;
     let mut text = String::new(alloc);
-    for (place, line) in inner.split(';').enumerate() {
+    for (place, line) in word.split(';').enumerate() {
         if place > 0 {
             text.push('\n')?;
         }
@@ -43,17 +39,15 @@ fn text(alloc: Global, word: &str) -> Result<String> {
     Ok(text)
 }
 
-fn print_layers(rt: &impl Print, rule: &Rule, check: &str, layers: &[Layer]) -> Result<()> {
-    let (name, distance) = (&rule.name, rule.distance);
-    print!(rt; "    {check} {name}")?;
+fn print_layers(rt: &HostRuntime, rule: &Rule, check: &str, layers: &[Layer]) -> io::Result<()> {
+    print!(rt; "    {check} {}", rule.name)?;
     for on in layers {
-        let Layer { layer, datatype } = *on;
-        print!(rt; " {layer}/{datatype}")?;
+        print!(rt; " {}/{}", on.layer, on.datatype)?;
     }
-    Ok(println!(rt; " {distance}")?)
+    println!(rt; " {}", rule.distance)
 }
 
-fn print_rule(rt: &impl Print, rule: &Rule) -> Result<()> {
+fn print_rule(rt: &HostRuntime, rule: &Rule) -> io::Result<()> {
     match rule.check {
         Check::Width(layer) => print_layers(rt, rule, "width", &[layer]),
         Check::Space(layer) => print_layers(rt, rule, "space", &[layer]),
@@ -62,32 +56,38 @@ fn print_rule(rt: &impl Print, rule: &Rule) -> Result<()> {
     }
 }
 
-/// Prints the tile, the number of rules, and each rule if they are few. A copy must be the same deck. A deck with the same tile and no
-/// rules must be another one, unless there are none.
-fn print_deck(rt: &(impl Print + AllocGlobal), deck: &Deck) -> Result<()> {
-    let (tile, rules) = (deck.tile(), deck.rules().as_slice());
-    let count = rules.len();
-    println!(rt; "    tile {tile}, {count} rules")?;
-    if count < 10 {
+/// Prints the tile, the number of rules, and each rule if they are few.
+fn print_deck(rt: &HostRuntime, deck: &Deck) -> io::Result<()> {
+    let rules = deck.rules().as_slice();
+    println!(rt; "    tile {}, {} rules", deck.tile(), rules.len())?;
+    if rules.len() < 10 {
         for rule in rules {
             print_rule(rt, rule)?;
         }
     }
-    let bare = read_deck(
-        rt.alloc(),
-        format!(in rt.alloc(); "tile {tile}")?.as_bytes(),
-    )?;
-    if !deck.is_same(&deck.copy()?) || deck.is_same(&bare) != (count == 0) {
-        bail!("a deck that is its copy's");
-    }
     Ok(())
 }
 
-/// Reads a deck, and prints it or its fault.
-pub fn deck(rt: &(impl Print + AllocGlobal), word: &str) -> Result<()> {
-    let text = text(rt.alloc(), word)?;
+/// Whether a copy is the same deck, and a deck with the same tile and no rules is another one, unless there are none.
+fn is_itself(alloc: Global, deck: &Deck) -> Result<bool> {
+    let text = format!(in alloc; "tile {}", deck.tile())?;
+    let bare = read_deck(alloc, text.as_bytes())?;
+    let is_bare = deck.rules().as_slice().is_empty();
+    Ok(deck.is_same(&deck.copy()?) && deck.is_same(&bare) == is_bare)
+}
+
+/// Reads a deck by its text in brackets, and prints it or its fault.
+pub fn deck(rt: &HostRuntime, word: &str) -> Result<()> {
+    let inner = word.strip_prefix('[').unwrap_or(word);
+    let text = text(rt.alloc(), inner.strip_suffix(']').unwrap_or(inner))?;
     match read_deck(rt.alloc(), text.as_bytes()) {
-        Ok(deck) => print_deck(rt, &deck),
+        Ok(deck) => {
+            print_deck(rt, &deck)?;
+            if !is_itself(rt.alloc(), &deck)? {
+                bail!("a deck that is its copy's");
+            }
+            Ok(())
+        }
         Err(fault) => Ok(println!(rt; "    {fault}")?),
     }
 }

@@ -1,122 +1,107 @@
 //! Points, boxes and placings.
 
-ghost use Rattle.std.specs.Prelude.{IfOk, IsTrue};
 ghost use Rattle.mpw_geom.specs.Plane.{IsCoordinate, IsInPlane, IsBoxInPlane, IsOrdered};
 
 use anyhow::{Result, bail};
-use gate_words::{is_coordinate, orient, orient_word};
+use gate_words::{Words, is_coordinate, orient_word};
 use mpw_geom::{Box2, Placing, Point};
+use std::io;
 
-fn coordinate(word: &str) -> Result<i64>
-    ensures { IfOk result IsCoordinate }
+/// The coordinate, or 0 and a note that a word is wrong.
+fn within(words: &mut Words<'_>, z: i64) -> i64
+    ensures { IsCoordinate result }
 {
-    match word.parse::<i64>() {
-        Ok(number) if is_coordinate(number) => Ok(number),
-        _ => bail!("a coordinate"),
+    if is_coordinate(z) {
+        return z;
     }
+    words.fail();
+    0
 }
 
-fn point(x: &str, y: &str) -> Result<Point>
-    ensures { IfOk result IsInPlane }
+fn point(words: &mut Words<'_>) -> Point
+    ensures { IsInPlane result }
 {
-    let (x, y) = (coordinate(x)?, coordinate(y)?);
-    Ok(Point { x, y })
+    let Point { x, y } = words.point();
+    let x = within(words, x);
+    let y = within(words, y);
+    Point { x, y }
 }
 
-fn boxed(x0: &str, y0: &str, x1: &str, y1: &str) -> Result<Box2>
-    ensures ordered { IfOk result IsOrdered }
-    ensures in_plane { IfOk result IsBoxInPlane }
+fn boxed(words: &mut Words<'_>) -> Box2
+    ensures ordered { IsOrdered result }
+    ensures in_plane { IsBoxInPlane result }
 {
-    let Point { x: x0, y: y0 } = point(x0, y0)?;
-    let Point { x: x1, y: y1 } = point(x1, y1)?;
+    let Point { x: x0, y: y0 } = point(words);
+    let Point { x: x1, y: y1 } = point(words);
     if x0 <= x1 && y0 <= y1 {
-        return Ok(Box2 { x0, y0, x1, y1 });
+        return Box2 { x0, y0, x1, y1 };
     }
-    bail!("a box")
+    words.fail();
+    Box2 {
+        x0,
+        y0,
+        x1: x0,
+        y1: y0,
+    }
 }
 
-fn placing(turn: &str, x: &str, y: &str) -> Result<Placing>
-    ensures { IfOk result (λ placing. IsInPlane placing.by) }
+/// The placing, with its displacement in the plane.
+fn in_plane(words: &mut Words<'_>, placing: Placing) -> Placing
+    ensures { IsInPlane result.by }
 {
-    let orient = orient(turn)?;
-    let by = point(x, y)?;
-    Ok(Placing { orient, by })
+    let Placing { orient, by } = placing;
+    let x = within(words, by.x);
+    let y = within(words, by.y);
+    let by = Point { x, y };
+    Placing { orient, by }
 }
 
-fn print_point(rt: &impl Print, found: Point) -> Result<()> {
-    let Point { x, y } = found;
-    Ok(println!(rt; "    {x} {y}")?)
+fn placing(words: &mut Words<'_>) -> Placing
+    ensures { IsInPlane result.by }
+{
+    let placing = words.placing();
+    in_plane(words, placing)
 }
 
-fn print_box(rt: &impl Print, found: Box2) -> Result<()> {
-    let Box2 { x0, y0, x1, y1 } = found;
-    Ok(println!(rt; "    {x0} {y0} {x1} {y1}")?)
+fn print_point(rt: &HostRuntime, found: Point) -> io::Result<()> {
+    println!(rt; "    {} {}", found.x, found.y)
 }
 
-fn meets(rt: &impl Print, first: Box2, second: Box2) -> Result<()> {
+fn print_box(rt: &HostRuntime, b: Box2) -> io::Result<()> {
+    println!(rt; "    {} {} {} {}", b.x0, b.y0, b.x1, b.y1)
+}
+
+/// A placing, and another one after it if there are words left.
+fn placing_of_both(words: &mut Words<'_>) -> Placing
+    ensures { IsInPlane result.by }
+{
+    let inner = placing(words);
+    if words.is_empty() {
+        return inner;
+    }
+    let outer = placing(words);
+    in_plane(words, inner.then(outer))
+}
+
+fn print_meets(rt: &HostRuntime, first: Box2, second: Box2) -> io::Result<()> {
     let answer = if first.meets(second) {
         "meets"
     } else {
         "apart"
     };
-    Ok(println!(rt; "    {answer}")?)
-}
-
-/// The placing, if its displacement is in the plane.
-fn in_plane(placing: Placing) -> Result<Placing>
-    ensures { IfOk result (λ placing. IsInPlane placing.by) }
-{
-    let Placing { orient, by } = placing;
-    let Point { x, y } = by;
-    if is_coordinate(x) && is_coordinate(y) {
-        let by = Point { x, y };
-        return Ok(Placing { orient, by });
-    }
-    bail!("a displacement")
-}
-
-fn answer_point(rt: &impl Print, words: &[&str], more: &[&str]) -> Result<()> {
-    match (words, more) {
-        ([turn, x, y], [a, b]) => print_point(rt, placing(turn, x, y)?.apply(point(a, b)?)),
-        ([turn, x, y, next, u, v], [a, b]) => {
-            let inner = placing(turn, x, y)?;
-            let outer = placing(next, u, v)?;
-            let both = in_plane(inner.then(outer))?;
-            print_point(rt, both.apply(point(a, b)?))
-        }
-        _ => bail!("a placing and a point"),
-    }
-}
-
-fn answer_box(rt: &impl Print, words: &[&str], more: &[&str]) -> Result<()> {
-    match (words, more) {
-        ([turn, x, y], [a, b, c, d]) => {
-            print_box(rt, placing(turn, x, y)?.apply_box(boxed(a, b, c, d)?))
-        }
-        _ => bail!("a placing and a box"),
-    }
-}
-
-fn answer_meets(rt: &impl Print, words: &[&str], more: &[&str]) -> Result<()> {
-    match (words, more) {
-        ([x0, y0, x1, y1], [a, b, c, d]) => {
-            meets(rt, boxed(x0, y0, x1, y1)?, boxed(a, b, c, d)?)
-        }
-        _ => bail!("two boxes"),
-    }
+    println!(rt; "    {answer}")
 }
 
 /// Answers a command of the plane.
-pub fn answer(rt: &impl Print, key: &str, words: &[&str], more: &[&str]) -> Result<()> {
-    match (key, words) {
-        ("point", _) => answer_point(rt, words, more),
-        ("box", _) => answer_box(rt, words, more),
-        ("meets", _) => answer_meets(rt, words, more),
-        ("between", [a, b, c, d]) => print_box(rt, Box2::between(point(a, b)?, point(c, d)?)),
-        ("inverse", [turn]) => {
-            let inverse = orient_word(orient(turn)?.inverse());
-            Ok(println!(rt; "    {inverse}")?)
-        }
+pub fn answer(rt: &HostRuntime, verb: &str, words: &mut Words<'_>, behind: &str) -> Result<()> {
+    let more = &mut Words::of(behind);
+    match verb {
+        "point" => print_point(rt, placing_of_both(words).apply(point(more)))?,
+        "box" => print_box(rt, placing(words).apply_box(boxed(more)))?,
+        "meets" => print_meets(rt, boxed(words), boxed(more))?,
+        "between" => print_box(rt, Box2::between(point(words), point(words)))?,
+        "inverse" => println!(rt; "    {}", orient_word(words.orient().inverse()))?,
         _ => bail!("a command"),
     }
+    more.end()
 }

@@ -1,8 +1,10 @@
 //! Submissions and walks over them.
 
+use crate::hostile::texts;
 use anyhow::{Result, bail};
-use gate_plain::put_text;
-use gate_words::number;
+use gate_plain::{Entry, put_entry};
+use gate_samples::text_of_library;
+use gate_words::{Answers, Words};
 use mpw_geom::{Orient, Placing, Point};
 use mpw_hier::Shelf;
 use mpw_walk::{Root, Walk, all_fit};
@@ -10,20 +12,29 @@ use mpw_walk::{Root, Walk, all_fit};
 /// The most shapes of a submission: those of a desk.
 const MAX_SHAPES: u64 = 1 << 20;
 
-/// Prints how many shapes and levels the submission has, or why there is none.
-pub fn submit(
-    rt: &(impl Print + AllocGlobal),
-    shelf: &mut Shelf,
-    cell: &str,
-    top: &str,
-    bytes: &[u8],
-) -> Result<()> {
-    match put_text(rt.alloc(), shelf, cell, top, bytes, MAX_SHAPES)? {
-        Ok(number) => {
-            let (count, height) = (shelf.count(number), shelf.height(number));
-            Ok(println!(rt; "    {number}: {count} shapes, {height} levels")?)
+/// The shelf after the lines.
+#[derive(Drop)]
+pub struct Hostile {
+    /// The shelf.
+    pub shelf: Shelf,
+}
+
+impl Answers for Hostile {
+    fn answer(
+        &mut self,
+        rt: &HostRuntime,
+        verb: &str,
+        words: &mut Words<'_>,
+        behind: &str,
+    ) -> Result<()> {
+        if verb == "count" {
+            return self.print_count(rt, words.number());
         }
-        Err(fault) => Ok(println!(rt; "    {fault}")?),
+        let bytes = text_of_library(rt.alloc(), behind)?;
+        match verb {
+            "submit" => self.submit(rt, words, &bytes),
+            _ => texts::answer(rt, verb, bytes),
+        }
     }
 }
 
@@ -39,26 +50,41 @@ fn number_of(walk: &mut Walk<'_>) -> u64 {
     count
 }
 
-/// Prints how many shapes a walk over a submission gives, its turns, and the product of its shapes and its levels plus 1.
-pub fn count(rt: &impl Print, shelf: &Shelf, word: &str) -> Result<()> {
-    let submission: u32 = number(word)?;
-    let roots = [Root {
-        submission,
-        placing: Placing {
-            orient: Orient::R0,
-            by: Point { x: 0, y: 0 },
-        },
-    }];
-    if !all_fit(shelf, &roots) {
-        bail!("a submission");
+impl Hostile {
+    /// Prints how many shapes and levels the submission has, or why there is none.
+    fn submit(&mut self, rt: &HostRuntime, words: &mut Words<'_>, bytes: &[u8]) -> Result<()> {
+        let cell = words.next();
+        let (top, user) = (words.next(), cell);
+        let entry = Entry { cell, top, user };
+        match put_entry(rt.alloc(), &mut self.shelf, entry, bytes, MAX_SHAPES)? {
+            Ok(number) => {
+                let (count, height) = (self.shelf.count(number), self.shelf.height(number));
+                Ok(println!(rt; "    {number}: {count} shapes, {height} levels")?)
+            }
+            Err(fault) => Ok(println!(rt; "    {fault}")?),
+        }
     }
-    let mut walk = Walk::new(shelf, &roots);
-    let count = number_of(&mut walk);
-    let turns = walk.turns();
-    let levels = u64::from(shelf.height(submission)).saturating_add(1);
-    let most = levels.saturating_mul(count);
-    if turns > most {
-        println!(rt; "    more turns than a walk may take")?;
+
+    /// Prints how many shapes a walk over a submission gives, its turns, and the product of its shapes and its levels plus 1.
+    fn print_count(&self, rt: &HostRuntime, submission: u32) -> Result<()> {
+        let roots = [Root {
+            submission,
+            placing: Placing {
+                orient: Orient::R0,
+                by: Point { x: 0, y: 0 },
+            },
+        }];
+        if !all_fit(&self.shelf, &roots) {
+            bail!("a submission");
+        }
+        let mut walk = Walk::new(&self.shelf, &roots);
+        let count = number_of(&mut walk);
+        let turns = walk.turns();
+        let levels = u64::from(self.shelf.height(submission)).saturating_add(1);
+        let most = levels.saturating_mul(count);
+        if turns > most {
+            bail!("no more turns than a walk may take");
+        }
+        Ok(println!(rt; "    {count} shapes, {turns} turns of at most {most}")?)
     }
-    Ok(println!(rt; "    {count} shapes, {turns} turns of at most {most}")?)
 }

@@ -1,10 +1,11 @@
 //! Texts that differ from a good one. Each is read from its beginning.
 
-use anyhow::{Context, Result, bail};
+use anyhow::{Result, bail};
 use mpw_elements::ReadError;
 use mpw_library::read_library;
 use mpw_records::{Code, ReadFault};
 use std::alloc::{AllocError, Global};
+use std::io;
 
 /// The fault of a text, if it has one.
 fn fault_of(alloc: Global, bytes: &[u8]) -> Result<Option<ReadFault>, AllocError> {
@@ -22,25 +23,23 @@ struct Place {
     end: usize,
 }
 
-/// The length at an offset.
-fn length_at(bytes: &[u8], offset: usize) -> Option<u16> {
-    let rest = bytes.get(offset..)?;
-    match rest {
-        [high, low, ..] => Some(u16::from_be_bytes([*high, *low])),
-        _ => None,
+/// The length at an offset, or 0.
+fn length_at(bytes: &[u8], offset: usize) -> u16 {
+    match (bytes.get(offset), bytes.get(offset.saturating_add(1))) {
+        (Some(high), Some(low)) => u16::from_be_bytes([*high, *low]),
+        _ => 0,
     }
 }
 
 /// The places of a text's records, by their lengths alone.
-fn places(alloc: Global, bytes: &[u8]) -> Result<Vec<Place>> {
+fn places(alloc: Global, bytes: &[u8]) -> Result<Vec<Place>, AllocError> {
     let mut places = Vec::new(alloc);
     let mut start = 0usize;
     for _ in bytes {
-        if start == bytes.len() {
+        if start >= bytes.len() {
             break;
         }
-        let length = length_at(bytes, start).context("a length")?;
-        let end = start.saturating_add(usize::from(length));
+        let end = start.saturating_add(usize::from(length_at(bytes, start)));
         places.push(Place { start, end })?;
         start = end;
     }
@@ -53,29 +52,28 @@ fn is_told(told: Option<ReadFault>, code: Code, offset: usize) -> bool {
 }
 
 /// Prints the report of a text that should have another one.
-fn differs(rt: &impl Print, text: usize, told: Option<ReadFault>) -> Result<()> {
+fn differs(rt: &HostRuntime, text: usize, told: Option<ReadFault>) -> io::Result<()> {
     match told {
-        None => Ok(println!(rt; "    {text} is read")?),
-        Some(ReadFault { code, offset }) => Ok(println!(rt; "    {text} is {code} at {offset}")?),
+        None => println!(rt; "    {text} is read"),
+        Some(ReadFault { code, offset }) => println!(rt; "    {text} is {code} at {offset}"),
     }
 }
 
 /// Reads each front of the text that ends in a record.
-fn fronts_in(rt: &(impl Print + AllocGlobal), bytes: &[u8], place: Place) -> Result<()> {
+fn fronts_in(rt: &HostRuntime, bytes: &[u8], place: Place) -> io::Result<()> {
     let mut count = 0u64;
     for size in place.start..place.end {
-        let told = fault_of(rt.alloc(), bytes.get(..size).context("a front")?)?;
+        let told = fault_of(rt.alloc(), bytes.get(..size).unwrap_or(bytes))?;
         if is_told(told, Code::Short, place.start) {
             count = count.wrapping_add(1);
         } else {
             differs(rt, size, told)?;
         }
     }
-    let start = place.start;
-    Ok(println!(rt; "    {start}: {count} short")?)
+    println!(rt; "    {}: {count} short", place.start)
 }
 
-fn fronts(rt: &(impl Print + AllocGlobal), bytes: &[u8]) -> Result<()> {
+fn fronts(rt: &HostRuntime, bytes: &[u8]) -> io::Result<()> {
     for place in &places(rt.alloc(), bytes)? {
         fronts_in(rt, bytes, *place)?;
     }
@@ -101,22 +99,21 @@ fn code_of(length: u16, left: usize) -> Option<Code> {
     }
 }
 
-/// Whether that code, or neither of the two, is reported at the record.
-fn is_right(told: Option<ReadFault>, code: Option<Code>, start: usize) -> bool {
-    match code {
-        Some(code) => is_told(told, code, start),
-        None => { !is_told(told, Code::BadLength, start) && !is_told(told, Code::Short, start) }
-    }
-}
-
 impl Tally {
-    /// One more of a code.
-    fn add(&mut self, code: Option<Code>) {
-        match code {
-            Some(Code::BadLength) => self.bad = self.bad.wrapping_add(1),
-            Some(_) => self.short = self.short.wrapping_add(1),
-            None => self.others = self.others.wrapping_add(1),
-        }
+    /// Counts a report at a record, if it is that code, or neither of the two. It returns whether it is.
+    fn counts(&mut self, told: Option<ReadFault>, code: Option<Code>, start: usize) -> bool {
+        let is_bad = is_told(told, Code::BadLength, start);
+        let is_short = is_told(told, Code::Short, start);
+        let is_right = match code {
+            Some(code) => is_told(told, code, start),
+            None => !is_bad && !is_short,
+        };
+        self.bad = self.bad.wrapping_add(u64::from(is_right && is_bad));
+        self.short = self.short.wrapping_add(u64::from(is_right && is_short));
+        self.others = self
+            .others
+            .wrapping_add(u64::from(is_right && !is_bad && !is_short));
+        is_right
     }
 }
 
@@ -133,11 +130,10 @@ fn put_length(bytes: &mut [u8], offset: usize, length: u16) {
     put(bytes, offset.saturating_add(1), low);
 }
 
-/// Reads the text with each length at a record.
-fn lengths_in(rt: &(impl Print + AllocGlobal), bytes: &mut [u8], place: Place) -> Result<()> {
-    let Place { start, .. } = place;
+/// Reads the text with each length at the record that starts there.
+fn lengths_in(rt: &HostRuntime, bytes: &mut [u8], start: usize) -> io::Result<()> {
     let left = bytes.len().saturating_sub(start);
-    let own = length_at(bytes, start).context("a length")?;
+    let own = length_at(bytes, start);
     let mut tally = Tally {
         bad: 0,
         short: 0,
@@ -146,71 +142,55 @@ fn lengths_in(rt: &(impl Print + AllocGlobal), bytes: &mut [u8], place: Place) -
     for length in 0..=u16::MAX {
         put_length(bytes, start, length);
         let told = fault_of(rt.alloc(), bytes)?;
-        let code = code_of(length, left);
-        if is_right(told, code, start) {
-            tally.add(code);
-        } else {
+        if !tally.counts(told, code_of(length, left), start) {
             differs(rt, usize::from(length), told)?;
         }
     }
     put_length(bytes, start, own);
     let Tally { bad, short, others } = tally;
-    Ok(println!(rt; "    {start}: {bad} badlength, {short} short, {others} others")?)
+    println!(rt; "    {start}: {bad} badlength, {short} short, {others} others")
 }
 
-fn lengths(rt: &(impl Print + AllocGlobal), mut bytes: Vec<u8>) -> Result<()> {
+fn lengths(rt: &HostRuntime, mut bytes: Vec<u8>) -> io::Result<()> {
     for place in &places(rt.alloc(), &bytes)? {
-        lengths_in(rt, &mut bytes, *place)?;
+        lengths_in(rt, &mut bytes, place.start)?;
     }
     Ok(())
 }
 
-/// Whether no fault is reported before the offset.
-fn is_behind(told: Option<ReadFault>, start: usize) -> bool {
-    match told {
-        Some(fault) => fault.offset >= start,
-        None => true,
-    }
-}
-
-/// Reads the text with each value at a byte of the record that starts there. It returns how many were right.
-fn values_at(
-    rt: &(impl Print + AllocGlobal),
-    bytes: &mut [u8],
-    offset: usize,
-    start: usize,
-) -> Result<u64> {
-    let own = *bytes.get(offset).context("a byte")?;
+/// Reads the text with each value at a byte of the record that starts there. It returns how many other values there are, all of which must be right.
+fn values_at(rt: &HostRuntime, bytes: &mut [u8], offset: usize, start: usize) -> io::Result<u64> {
+    let own = bytes.get(offset).copied().unwrap_or(0);
     let mut count = 0u64;
     for value in 0..=u8::MAX {
         put(bytes, offset, value);
         let told = fault_of(rt.alloc(), bytes)?;
-        if !is_behind(told, start) {
-            differs(rt, offset, told)?;
-        } else if value != own {
-            count = count.wrapping_add(1);
+        match told {
+            Some(fault) if fault.offset < start => differs(rt, offset, told)?,
+            _ => count = count.wrapping_add(u64::from(value != own)),
         }
     }
     put(bytes, offset, own);
     Ok(count)
 }
 
-fn values(rt: &(impl Print + AllocGlobal), mut bytes: Vec<u8>) -> Result<()> {
+fn values(rt: &HostRuntime, mut bytes: Vec<u8>) -> io::Result<()> {
     let mut count = 0u64;
     for place in &places(rt.alloc(), &bytes)? {
         for offset in place.start..place.end {
             count = count.wrapping_add(values_at(rt, &mut bytes, offset, place.start)?);
         }
     }
-    Ok(println!(rt; "    {count} texts, none refused before its record")?)
+    println!(rt; "    {count} texts, none refused before its record")
 }
 
 /// Answers a command about a text.
-pub fn answer(rt: &(impl Print + AllocGlobal), words: &[&str], bytes: Vec<u8>) -> Result<()> {
-    match words {
-        ["fronts"] => fronts(rt, &bytes),
-        ["lengths"] => lengths(rt, bytes),
-        ["bytes"] => values(rt, bytes),
+pub fn answer(rt: &HostRuntime, verb: &str, bytes: Vec<u8>) -> Result<()> {
+    match verb {
+        "fronts" => fronts(rt, &bytes)?,
+        "lengths" => lengths(rt, bytes)?,
+        "bytes" => values(rt, bytes)?,
         _ => bail!("a command"),
     }
+    Ok(())
 }

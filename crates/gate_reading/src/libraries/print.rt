@@ -1,73 +1,64 @@
 //! Libraries as lines.
 
 use anyhow::Result;
-use mpw_geom::{Orient, Point};
+use gate_words::orient_word;
 use mpw_structures::{Boundary, Element, Library, Path, Points, Reference, Structure};
-use std::alloc::{AllocError, Global};
+use std::io;
 
-fn orientation(orient: Orient) -> &'static str {
-    match orient {
-        Orient::R0 => "R0",
-        Orient::R90 => "R90",
-        Orient::R180 => "R180",
-        Orient::R270 => "R270",
-        Orient::M0 => "M0",
-        Orient::M90 => "M90",
-        Orient::M180 => "M180",
-        Orient::M270 => "M270",
-    }
-}
-
-/// The coordinates in turn.
-fn points(alloc: Global, points: &Points) -> Result<String, AllocError> {
-    let mut text = String::new(alloc);
+/// Prints the coordinates in turn, and ends the line.
+fn print_points(rt: &HostRuntime, points: &Points) -> io::Result<()> {
     for index in 0..points.len() {
-        let Point { x, y } = points.at(index);
-        text.push_str(format!(in alloc; " {x} {y}")?.as_str())?;
+        let at = points.at(index);
+        print!(rt; " {} {}", at.x, at.y)?;
     }
-    Ok(text)
+    println!(rt)
 }
 
-fn boundary(rt: &(impl Print + AllocGlobal), found: &Boundary) -> Result<()> {
-    let points = points(rt.alloc(), &found.points)?;
-    let (layer, datatype) = (found.layer.layer, found.layer.datatype);
-    println!(rt; "        boundary {layer}/{datatype}{points}")?;
-    Ok(())
+fn boundary(rt: &HostRuntime, found: &Boundary) -> io::Result<()> {
+    print!(rt;
+        "        boundary {}/{}",
+        found.layer.layer, found.layer.datatype
+    )?;
+    print_points(rt, &found.points)
 }
 
-fn path(rt: &(impl Print + AllocGlobal), found: &Path) -> Result<()> {
-    let points = points(rt.alloc(), &found.points)?;
-    let (layer, datatype) = (found.layer.layer, found.layer.datatype);
-    let (width, begin, end) = (found.width, found.begin, found.end);
-    println!(rt; "        path {layer}/{datatype} width {width} begin {begin} end {end}{points}")?;
-    Ok(())
+fn path(rt: &HostRuntime, found: &Path) -> io::Result<()> {
+    print!(rt;
+        "        path {}/{} width {} begin {} end {}",
+        found.layer.layer, found.layer.datatype, found.width, found.begin, found.end
+    )?;
+    print_points(rt, &found.points)
 }
 
-fn reference(rt: &impl Print, found: &Reference) -> Result<()> {
-    let orient = orientation(found.orient);
-    let Point { x, y } = found.origin;
-    let name = &found.name;
-    println!(rt; "        reference {name} {orient} {x} {y}")?;
+/// Prints the columns and rows of an array.
+fn array(rt: &HostRuntime, found: &Reference) -> io::Result<()> {
+    let (across, up) = (found.column_step, found.row_step);
+    println!(rt;
+        "            {} columns by {} {}",
+        found.columns, across.x, across.y
+    )?;
+    println!(rt; "            {} rows by {} {}", found.rows, up.x, up.y)
+}
+
+fn reference(rt: &HostRuntime, found: &Reference) -> io::Result<()> {
+    let (turn, at) = (orient_word(found.orient), found.origin);
+    println!(rt; "        reference {} {turn} {} {}", found.name, at.x, at.y)?;
     if found.columns == 1 && found.rows == 1 {
         return Ok(());
     }
-    let (columns, rows) = (found.columns, found.rows);
-    let Point { x, y } = found.column_step;
-    println!(rt; "            {columns} columns by {x} {y}")?;
-    let Point { x, y } = found.row_step;
-    println!(rt; "            {rows} rows by {x} {y}")?;
-    Ok(())
+    array(rt, found)
 }
 
-fn element(rt: &(impl Print + AllocGlobal), found: &Element) -> Result<()> {
+/// Prints a copy of an element.
+fn element(rt: &HostRuntime, found: &Element) -> Result<()> {
     match found {
-        Element::Boundary(found) => boundary(rt, &found.copy()?),
-        Element::Path(found) => path(rt, &found.get().copy()?),
-        Element::Reference(found) => reference(rt, &found.get().copy()?),
+        Element::Boundary(found) => Ok(boundary(rt, &found.copy()?)?),
+        Element::Path(found) => Ok(path(rt, &found.get().copy()?)?),
+        Element::Reference(found) => Ok(reference(rt, &found.get().copy()?)?),
     }
 }
 
-fn structure(rt: &(impl Print + AllocGlobal), found: &Structure) -> Result<()> {
+fn structure(rt: &HostRuntime, found: &Structure) -> Result<()> {
     println!(rt; "    {}", found.name)?;
     for item in found.elements.as_slice() {
         element(rt, &item.copy(rt.alloc())?)?;
@@ -76,7 +67,7 @@ fn structure(rt: &(impl Print + AllocGlobal), found: &Structure) -> Result<()> {
 }
 
 /// Prints the structures with their elements. It also prints if a structure isn't the one that its name refers to.
-pub fn library(rt: &(impl Print + AllocGlobal), found: &Library) -> Result<()> {
+pub fn library(rt: &HostRuntime, found: &Library) -> Result<()> {
     for (place, item) in found.structures().iter().enumerate() {
         structure(rt, item)?;
         if found.position(&item.name) != Some(place) {

@@ -3,18 +3,20 @@
 use crate::libraries::print;
 use anyhow::{Result, bail};
 use gate_samples::text_of_library;
+use gate_words::{Answers, Words};
 use mpw_elements::ReadError;
 use mpw_library::LibraryText;
 use mpw_records::{ReadFault, Record, Records};
 use mpw_structures::Library;
 use std::alloc::{AllocError, Global};
+use std::io;
 
 type Outcome<'a> = std::result::Result<Record<'a>, ReadFault>;
 
 /// The fault of a text as it is printed, or `read`, if its bytes are read again.
 fn outcome(alloc: Global, bytes: &[u8]) -> Result<String, AllocError> {
-    let text = LibraryText::read(alloc, Vec::from_slice(alloc, bytes)?)?;
-    match text.alone()?.library(alloc) {
+    let text = LibraryText::read(alloc, Vec::from_slice(alloc, bytes)?)?.alone()?;
+    match text.library(alloc) {
         Ok(_) => String::from_str(alloc, "read"),
         Err(ReadError::Fault(ReadFault { code, offset })) => {
             format!(in alloc; "{code} at {offset}")
@@ -23,29 +25,19 @@ fn outcome(alloc: Global, bytes: &[u8]) -> Result<String, AllocError> {
     }
 }
 
-/// The bytes with that many zero bytes after them.
-fn padded(mut bytes: Vec<u8>, words: &[&str]) -> Result<Vec<u8>> {
-    for word in words {
-        let Ok(count) = word.parse::<u16>() else {
-            bail!("a number of bytes");
-        };
-        bytes.resize(bytes.len().saturating_add(usize::from(count)), 0)?;
+/// The copy of a text with that many zero bytes after it.
+fn padded(bytes: Vec<u8>, words: &mut Words<'_>) -> Result<LibraryText> {
+    let mut bytes = bytes;
+    if !words.is_empty() {
+        let count = words.number() as usize;
+        bytes.resize(bytes.len().saturating_add(count), 0)?;
     }
-    Ok(bytes)
-}
-
-/// Prints a text and its library, by copies.
-fn read(rt: &(impl Print + AllocGlobal), bytes: Vec<u8>, words: &[&str]) -> Result<()> {
-    let bytes = padded(bytes, words)?;
-    let size = bytes.len();
-    let text = LibraryText::read(rt.alloc(), bytes)?.copy()?;
+    let (alloc, size) = (*bytes.allocator(), bytes.len());
+    let text = LibraryText::read(alloc, bytes)?.copy()?;
     if text.as_bytes().len() != size {
         bail!("a copy of the same size");
     }
-    match text.library(rt.alloc()) {
-        Ok(library) => print::library(rt, &library),
-        Err(fault) => tell_fault(rt, fault),
-    }
+    Ok(text)
 }
 
 /// All elements of the structures.
@@ -57,44 +49,46 @@ fn elements_of(library: &Library) -> usize {
     count
 }
 
-fn size(rt: &(impl Print + AllocGlobal), bytes: Vec<u8>, words: &[&str]) -> Result<()> {
-    let bytes = padded(bytes, words)?;
-    let size = bytes.len();
-    let text = LibraryText::read(rt.alloc(), bytes)?.copy()?;
-    match text.library(rt.alloc()) {
-        Ok(library) => {
-            let structures = library.structures().len();
-            let elements = elements_of(&library);
-            println!(rt; "    {size} bytes, {structures} structures, {elements} elements")?;
-            Ok(())
-        }
-        Err(fault) => tell_fault(rt, fault),
+/// Prints a library, or its size and that of its text.
+fn print_read(
+    rt: &HostRuntime,
+    text: &LibraryText,
+    library: &Library,
+    is_whole: bool,
+) -> Result<()> {
+    if is_whole {
+        return print::library(rt, library);
     }
+    let (size, structures) = (text.as_bytes().len(), library.structures().len());
+    let elements = elements_of(library);
+    Ok(println!(rt; "    {size} bytes, {structures} structures, {elements} elements")?)
 }
 
-/// Prints the fault of a text.
-fn tell_fault(rt: &impl Print, fault: ReadError) -> Result<()> {
-    match fault {
-        ReadError::Fault(ReadFault { code, offset }) => {
+/// Reads a text by copies, and prints its library, its size, or its fault.
+fn read(rt: &HostRuntime, text: &LibraryText, is_whole: bool) -> Result<()> {
+    match text.library(rt.alloc()) {
+        Ok(library) => print_read(rt, text, &library, is_whole),
+        Err(ReadError::Fault(ReadFault { code, offset })) => {
             Ok(println!(rt; "    {code} at {offset}")?)
         }
-        ReadError::Memory => bail!("out of memory"),
+        Err(ReadError::Memory) => bail!("out of memory"),
     }
 }
 
-fn record(rt: &impl Print, outcome: Outcome<'_>) -> Result<()> {
+fn record(rt: &HostRuntime, outcome: Outcome<'_>) -> io::Result<()> {
     match outcome {
-        Ok(record) => {
-            let (offset, size) = (record.offset, record.bytes.len());
-            let (kind, data_type) = (record.kind, record.data_type);
-            println!(rt; "    {offset} {kind:02X}{data_type:02X} {size}")?;
-        }
-        Err(ReadFault { code, offset }) => println!(rt; "    {code} at {offset}")?,
+        Ok(record) => println!(rt;
+            "    {} {:02X}{:02X} {}",
+            record.offset,
+            record.kind,
+            record.data_type,
+            record.bytes.len()
+        ),
+        Err(ReadFault { code, offset }) => println!(rt; "    {code} at {offset}"),
     }
-    Ok(())
 }
 
-fn records(rt: &(impl Print + AllocGlobal), bytes: &[u8]) -> Result<()> {
+fn records(rt: &HostRuntime, bytes: &[u8]) -> io::Result<()> {
     let mut records = Records::new(bytes);
     for _ in 0..u64::MAX {
         match records.next() {
@@ -106,7 +100,7 @@ fn records(rt: &(impl Print + AllocGlobal), bytes: &[u8]) -> Result<()> {
 }
 
 /// Reads each text that is cut off, and prints the number of bytes from which on another fault occurs.
-fn prefixes(rt: &(impl Print + AllocGlobal), bytes: &[u8]) -> Result<()> {
+fn prefixes(rt: &HostRuntime, bytes: &[u8]) -> io::Result<()> {
     let mut last = String::new(rt.alloc());
     for (size, _) in bytes.iter().enumerate() {
         let outcome = outcome(rt.alloc(), bytes.get(..size).unwrap_or(bytes))?;
@@ -126,63 +120,54 @@ fn relengthened(
     length: u16,
 ) -> Result<Vec<u8>, AllocError> {
     let mut other = Vec::from_slice(alloc, bytes)?;
-    let [high, low] = length.to_be_bytes();
-    if let Some(byte) = other.get_mut(offset) {
-        *byte = high;
-    }
-    if let Some(byte) = other.get_mut(offset.saturating_add(1)) {
-        *byte = low;
+    let length = length.to_be_bytes();
+    for (byte, new) in other.iter_mut().skip(offset).zip(&length) {
+        *byte = *new;
     }
     Ok(other)
 }
 
-/// The faults of the text with each length at the record of an offset, in a line.
-fn lengths_at(alloc: Global, bytes: &[u8], offset: usize, words: &[&str]) -> Result<String> {
-    let mut text = String::new(alloc);
-    for word in words {
-        let Ok(length) = word.parse::<u16>() else {
-            bail!("a length");
-        };
-        let other = relengthened(alloc, bytes, offset, length)?;
-        let outcome = outcome(alloc, &other)?;
-        text.push_str(format!(in alloc; " {length} is {outcome},")?.as_str())?;
+/// Prints the faults of the text with each length at the record of an offset, in a line.
+fn lengths_at(rt: &HostRuntime, bytes: &[u8], offset: usize, lengths: &str) -> Result<()> {
+    print!(rt; "    {offset}:")?;
+    for word in lengths.split_whitespace() {
+        let other = relengthened(rt.alloc(), bytes, offset, word.parse::<u16>()?)?;
+        print!(rt; " {word} is {},", outcome(rt.alloc(), &other)?)?;
     }
-    Ok(text)
+    Ok(println!(rt)?)
 }
 
-fn lengths(rt: &(impl Print + AllocGlobal), bytes: &[u8], words: &[&str]) -> Result<()> {
+fn lengths(rt: &HostRuntime, bytes: &[u8], lengths: &str) -> Result<()> {
     let mut records = Records::new(bytes);
     for _ in 0..u64::MAX {
         let Some(Ok(Record { offset, .. })) = records.next() else {
             break;
         };
-        let line = lengths_at(rt.alloc(), bytes, offset, words)?;
-        println!(rt; "    {offset}:{line}")?;
+        lengths_at(rt, bytes, offset, lengths)?;
     }
     Ok(())
 }
 
-/// Answers the words before the bar for the library after it.
-fn answer_words(rt: &(impl Print + AllocGlobal), words: &[&str], notation: &str) -> Result<()> {
-    let bytes = text_of_library(rt.alloc(), notation)?;
-    match words {
-        ["read", rest @ ..] => read(rt, bytes, rest),
-        ["size", rest @ ..] => size(rt, bytes, rest),
-        ["records"] => records(rt, &bytes),
-        ["prefixes"] => prefixes(rt, &bytes),
-        ["lengths", rest @ ..] => lengths(rt, &bytes, rest),
-        _ => bail!("a command"),
-    }
-}
+/// What answers the lines.
+#[derive(Clone, Copy)]
+pub struct Texts;
 
-/// Answers a line.
-pub fn answer(rt: &(impl Print + AllocGlobal), line: &str) -> Result<()> {
-    if line.is_empty() || line.starts_with('#') {
-        return Ok(());
+impl Answers for Texts {
+    fn answer(
+        &mut self,
+        rt: &HostRuntime,
+        verb: &str,
+        words: &mut Words<'_>,
+        behind: &str,
+    ) -> Result<()> {
+        let bytes = text_of_library(rt.alloc(), behind)?;
+        match verb {
+            "read" => read(rt, &padded(bytes, words)?, true),
+            "size" => read(rt, &padded(bytes, words)?, false),
+            "records" => Ok(records(rt, &bytes)?),
+            "prefixes" => Ok(prefixes(rt, &bytes)?),
+            "lengths" => lengths(rt, &bytes, words.rest()),
+            _ => bail!("a command"),
+        }
     }
-    let Some((command, notation)) = line.split_once('|') else {
-        bail!("a command, a bar and a library");
-    };
-    let words: Vec<&str> = command.split_whitespace().collect(rt.alloc())?;
-    answer_words(rt, &words, notation)
 }

@@ -1,111 +1,87 @@
 //! Boundaries of known forms.
 //!
-//! Each is added to a list of the caller, some corners at a time, so that no figure drops one.
+//! A line that begins with a figure's name adds corners to it, as often as the number after the name says. Of each corner it has x and y, and by how
+//! much these grow each time.
 
-use anyhow::{Result, bail};
-use std::alloc::AllocError;
+use anyhow::Result;
+use gate_words::Words;
+use mpw_geom::Point;
+use std::alloc::{AllocError, Global};
 
-type Corners = Vec<(i32, i32)>;
+/// The figures.
+const FIGURES: &str = "# 2,000 teeth of width 1 on a bar, each 4 corners.
+comb 2000 0 0 2 0 0 10 2 0 1 10 2 0 1 0 2 0
+comb 1 4000 0 0 0 4000 -5 0 0 0 -5 0 0
+# Steps of 1, and the corner that closes them.
+staircase 4000 0 0 1 1 1 0 1 1
+staircase 1 4000 4000 0 0 0 4000 0 0
+largest 4094 0 0 1 1 1 0 1 1
+largest 1 4094 4094 0 0 0 4094 0 0
+# A corridor of width 1 that winds inward 250 times between walls of width 1.
+spiral 1 -1 0 0 0
+spiral 250 1000 0 -2 2 1000 1000 -2 -2 0 1000 2 -2 0 2 2 2
+spiral 1 499 500 0 0
+spiral 250 499 501 -2 2 501 501 2 2 501 499 2 -2 497 499 -2 -2
+# 500 squares one in another, drawn by one line that comes back on its own steps.
+nested 500 0 0 1 1 1000 0 -1 1 1000 1000 -1 -1 0 1000 1 -1 0 0 1 1 1 0 1 1
+nested 500 500 500 -1 -1 500 499 -1 -1
+# 1,000 teeth of different lengths, and 1,000 rectangles round them all, drawn by one line.
+teeth 1000 0 0 0 2 10 0 1 2 10 1 1 2 0 1 0 2
+teeth 1 0 2000 0 0 -10 2000 0 0 -10 0 0 0
+teeth 1000 2000 0 1 0 2000 2000 1 0 -10 2000 -1 0 -10 0 -1 0";
 
-/// 2,000 teeth of width 1 on a bar, each 4 corners.
-fn add_comb(points: &mut Corners) -> Result<(), AllocError> {
-    for tooth in 0..2000u16 {
-        let x = 2 * i32::from(tooth);
-        points.extend_from_slice(&[(x, 0), (x, 10), (x + 1, 10), (x + 1, 0)])?;
+/// A corner, and by how much it moves each time.
+type Corner = (Point, Point);
+
+/// Takes all corners of a line.
+fn corners(alloc: Global, words: &mut Words<'_>) -> Result<Vec<Corner>, AllocError> {
+    let mut corners = Vec::new(alloc);
+    for _ in 0..u64::MAX {
+        if words.is_empty() {
+            break;
+        }
+        corners.push((words.point(), words.point()))?;
     }
-    points.extend_from_slice(&[(4000, 0), (4000, -5), (0, -5)])
+    Ok(corners)
 }
 
-/// Steps of 1, and the corner that closes them.
-fn add_staircase(points: &mut Corners, steps: u16) -> Result<(), AllocError> {
-    for step in 0..steps {
-        let at = i32::from(step);
-        points.extend_from_slice(&[(at, at), (at + 1, at)])?;
-    }
-    let end = i32::from(steps);
-    points.extend_from_slice(&[(end, end), (0, end)])
+/// A coordinate after that many steps.
+fn moved(from: i64, step: i64, count: u32) -> i32 {
+    let to = from.wrapping_add(step.wrapping_mul(i64::from(count)));
+    i32::try_from(to).unwrap_or(0)
 }
 
-/// A corridor of width 1 that winds inward 250 times between walls of width 1.
-fn add_spiral(points: &mut Corners) -> Result<(), AllocError> {
-    points.push((-1, 0))?;
-    for turn in 0..250u16 {
-        let low = 2 * i32::from(turn);
-        let high = 1000 - low;
-        points.extend_from_slice(&[(high, low), (high, high), (low, high), (low, low + 2)])?;
-    }
-    points.push((499, 500))?;
-    for back in 0..250u16 {
-        let low = 499 - 2 * i32::from(back);
-        let high = 1000 - low;
-        points.extend_from_slice(&[(low, high), (high, high), (high, low), (low - 2, low)])?;
+/// Adds corners that many times.
+fn add_times(
+    points: &mut Vec<(i32, i32)>,
+    corners: &[Corner],
+    times: u32,
+) -> Result<(), AllocError> {
+    for count in 0..times {
+        for (at, step) in corners {
+            points.push((moved(at.x, step.x, count), moved(at.y, step.y, count)))?;
+        }
     }
     Ok(())
 }
 
-/// 500 squares one in another, drawn by one line that comes back on its own steps.
-fn add_nested(points: &mut Corners) -> Result<(), AllocError> {
-    for step in 0..500u16 {
-        let low = i32::from(step);
-        let high = 1000 - low;
-        points.extend_from_slice(&[
-            (low, low),
-            (high, low),
-            (high, high),
-            (low, high),
-            (low, low),
-            (low + 1, low),
-        ])?;
+/// Adds the corners of a line if it is of that figure.
+fn add_line(points: &mut Vec<(i32, i32)>, name: &str, line: &str) -> Result<()> {
+    let mut words = Words::of(line);
+    if words.next() != name {
+        return Ok(());
     }
-    for back in 0..500u16 {
-        let low = 500 - i32::from(back);
-        points.extend_from_slice(&[(low, low), (low, low - 1)])?;
-    }
-    Ok(())
+    let times = words.number();
+    let corners = corners(*points.allocator(), &mut words)?;
+    add_times(points, &corners, times)?;
+    words.end()
 }
 
-/// 1,000 teeth of different lengths, and 1,000 rectangles round them all, drawn by one line.
-fn add_teeth(points: &mut Corners) -> Result<(), AllocError> {
-    for tooth in 0..1000u16 {
-        let y = 2 * i32::from(tooth);
-        let x = 10 + i32::from(tooth);
-        points.extend_from_slice(&[(0, y), (x, y), (x, y + 1), (0, y + 1)])?;
+/// The corners of a figure.
+pub fn figure(alloc: Global, name: &str) -> Result<Vec<(i32, i32)>> {
+    let mut points = Vec::new(alloc);
+    for line in FIGURES.lines() {
+        add_line(&mut points, name, line)?;
     }
-    points.extend_from_slice(&[(0, 2000), (-10, 2000), (-10, 0)])?;
-    for wide in 0..1000u16 {
-        let right = 2000 + i32::from(wide);
-        let left = -10 - i32::from(wide);
-        points.extend_from_slice(&[(right, 0), (right, 2000), (left, 2000), (left, 0)])?;
-    }
-    Ok(())
-}
-
-/// Adds the figure of a name.
-pub fn add_named(points: &mut Corners, name: &str) -> Result<()> {
-    let added = match name {
-        "comb" => add_comb(points),
-        "staircase" => add_staircase(points, 4000),
-        "largest" => add_staircase(points, 4094),
-        "spiral" => add_spiral(points),
-        "nested" => add_nested(points),
-        "teeth" => add_teeth(points),
-        _ => bail!("a figure"),
-    };
-    Ok(added?)
-}
-
-/// Adds a closed chain of steps between the lines 0 to 7, from a seed.
-pub fn add_scribble(points: &mut Corners, seed: u64, steps: u8) -> Result<(), AllocError> {
-    let mut state = seed;
-    let mut at = (0i32, 0i32);
-    for _ in 0..steps {
-        state = state
-            .wrapping_mul(6364136223846793005)
-            .wrapping_add(1442695040888963407);
-        let x = ((state >> 40) % 8) as i32;
-        let y = ((state >> 50) % 8) as i32;
-        points.extend_from_slice(&[at, (x, at.1)])?;
-        at = (x, y);
-    }
-    points.extend_from_slice(&[at, (0, at.1)])
+    Ok(points)
 }

@@ -1,14 +1,14 @@
 //! What the lines give: a deck, a shelf, markers and a name.
 
-use anyhow::{Result, bail};
-use gate_plain::{placed_roots, submit};
-use gate_words::marker;
-use mpw_deck::{Deck, read_deck};
+use anyhow::{Context, Result, bail};
+use gate_plain::{placed, placed_roots, submit};
+use gate_words::{Words, key, marker_of};
+use mpw_deck::read_deck;
 use mpw_geom::Name;
 use mpw_hier::Shelf;
-use mpw_markers::Marker;
-use mpw_tiles::{Snapshot, are_roots};
-use std::alloc::Global;
+use mpw_markers::{Key, Marker, Met};
+use mpw_tiles::Snapshot;
+use std::alloc::{AllocError, Global};
 
 /// What the lines give.
 #[derive(Drop)]
@@ -31,61 +31,56 @@ impl Given {
         }
     }
 
-    fn add_rule(&mut self, line: &str) -> Result<()> {
-        self.deck.push_str(line)?;
-        Ok(self.deck.push_str("\n")?)
-    }
-
     /// Takes what a line gives.
-    pub fn take(&mut self, alloc: Global, words: &[&str], rest: &str) -> Result<()> {
-        match words {
-            ["new", top] => {
+    pub fn take(
+        &mut self,
+        alloc: Global,
+        verb: &str,
+        words: &mut Words<'_>,
+        rest: &str,
+    ) -> Result<()> {
+        match verb {
+            "new" => {
                 *self = Given::new(alloc);
-                self.name = Some(Name::read(alloc, top.as_bytes())?);
+                self.name = Some(Name::read(alloc, words.next().as_bytes())?);
             }
-            ["deck"] => self.add_rule(rest)?,
-            ["submit", cell, top] => submit(alloc, &mut self.shelf, cell, top, rest)?,
-            ["marker"] => self.markers.push(marker(alloc, rest)?)?,
+            "deck" => {
+                self.deck.push_str(rest)?;
+                self.deck.push_str("\n")?;
+            }
+            "submit" => {
+                let (cell, top) = (words.next(), words.next());
+                submit(alloc, &mut self.shelf, cell, top, rest)?;
+            }
+            "marker" => self.add(1, 0, key(&mut Words::of(rest)))?,
+            "many" => {
+                let (count, step) = (words.number(), i64::from(words.number()));
+                self.add(count, step, key(&mut Words::of(rest)))?;
+            }
             _ => bail!("a command"),
         }
         Ok(())
     }
 
     /// Adds so many markers, each so far to the right of the one before.
-    pub fn add_many(&mut self, alloc: Global, count: usize, step: usize, line: &str) -> Result<()> {
-        let mut shift = 0i64;
+    fn add(&mut self, count: u32, step: i64, first: Key) -> Result<(), AllocError> {
+        let mut at = first;
         for _ in 0..count {
-            let mut marker = marker(alloc, line)?;
-            marker.x1 = marker.x1.saturating_add(shift);
-            marker.x2 = marker.x2.saturating_add(shift);
-            self.markers.push(marker)?;
-            shift = shift.saturating_add_unsigned(step as u64);
+            self.markers.push(marker_of(at, Met::none()))?;
+            at.x1 = at.x1.saturating_add(step);
+            at.x2 = at.x2.saturating_add(step);
         }
         Ok(())
     }
 
     /// The name of the pictures.
     pub fn top(&self) -> Result<&Name> {
-        match &self.name {
-            Some(name) => Ok(name),
-            None => bail!("a name"),
-        }
-    }
-
-    fn read_deck(&self, alloc: Global) -> Result<Deck> {
-        match read_deck(alloc, self.deck.as_bytes()) {
-            Ok(deck) => Ok(deck),
-            Err(_) => bail!("a deck"),
-        }
+        self.name.as_ref().context("a name")
     }
 
     /// The snapshot of placed submissions.
-    pub fn snapshot(&self, alloc: Global, placed: &str) -> Result<Snapshot> {
-        let roots = placed_roots(alloc, placed)?;
-        let shelf = self.shelf.copy(alloc)?;
-        if !are_roots(&shelf, &roots) {
-            bail!("roots that fit");
-        }
-        Ok(Snapshot::new(alloc, self.read_deck(alloc)?, roots, shelf)?)
+    pub fn snapshot(&self, alloc: Global, roots: &str) -> Result<Snapshot> {
+        let deck = read_deck(alloc, self.deck.as_bytes())?;
+        placed(alloc, deck, &self.shelf, &placed_roots(alloc, roots)?)
     }
 }

@@ -1,12 +1,12 @@
 //! What the lines give: a deck, a name, markers, and what a full report has besides.
 
 use anyhow::{Result, bail};
-use gate_words::{coordinate, marker, number};
+use gate_words::{Words, key, marker_of};
 use mpw_deck::{Deck, read_deck};
 use mpw_geom::{Box2, Layer, Name};
-use mpw_markers::Marker;
+use mpw_markers::{Marker, Met};
 use mpw_report::{Fault, Note};
-use std::alloc::Global;
+use std::alloc::{AllocError, Global};
 
 /// A fault of an element.
 #[derive(Drop)]
@@ -30,13 +30,14 @@ enum Noted {
 #[derive(Drop)]
 pub struct Given {
     deck: String,
-    top: Option<Name>,
+    /// The name of the structure.
+    pub top: Option<Name>,
     /// The markers, in their order.
     pub markers: Vec<Marker>,
     /// The layout's file.
     pub original: Option<String>,
     /// The most items of a rule.
-    pub limit: Option<usize>,
+    pub limit: usize,
     /// How many markers each rule has.
     pub counts: Option<Vec<usize>>,
     notes: Vec<Noted>,
@@ -44,38 +45,18 @@ pub struct Given {
     is_deck: bool,
 }
 
-fn name(alloc: Global, line: &str) -> Result<Name> {
-    match Name::read(alloc, line.as_bytes()) {
-        Ok(name) => Ok(name),
-        Err(_) => bail!("a name"),
-    }
-}
-
-/// The box of four coordinates, or none of no word.
-fn area(words: &[&str]) -> Result<Option<Box2>> {
-    match words {
-        [] => Ok(None),
-        [x0, y0, x1, y1] => Ok(Some(Box2 {
-            x0: coordinate(x0)?,
-            y0: coordinate(y0)?,
-            x1: coordinate(x1)?,
-            y1: coordinate(y1)?,
-        })),
-        _ => bail!("a box"),
-    }
-}
-
-/// The fault of a line: its code, its byte, its structure or `-`, and its box where there is one.
-fn read_fault(alloc: Global, line: &str) -> Result<Seen> {
-    let words: Vec<&str> = line.split_whitespace().collect(alloc)?;
-    let [code, byte, structure, rest @ ..] = words.as_slice() else {
-        bail!("a fault");
-    };
-    let area = area(rest)?;
-    let byte = u64::from(number(byte)?);
-    let structure = match *structure {
+/// Takes a fault: its code, its byte, its structure or `-`, and its box if there is one.
+fn read_fault(alloc: Global, words: &mut Words<'_>) -> Result<Seen> {
+    let code = words.next();
+    let byte = u64::from(words.number());
+    let structure = match words.next() {
         "-" => None,
-        structure => Some(name(alloc, structure)?),
+        structure => Some(Name::read(alloc, structure.as_bytes())?),
+    };
+    let area = if words.is_empty() {
+        None
+    } else {
+        Some(words.area())
     };
     Ok(Seen {
         code: String::from_str(alloc, code)?,
@@ -85,36 +66,33 @@ fn read_fault(alloc: Global, line: &str) -> Result<Seen> {
     })
 }
 
-/// A layer of two numbers.
-fn layer(first: &str, second: &str) -> Result<Layer> {
-    match (
-        u16::try_from(number(first)?),
-        u16::try_from(number(second)?),
-    ) {
-        (Ok(layer), Ok(datatype)) => Ok(Layer { layer, datatype }),
-        _ => bail!("a layer"),
+/// Takes a layer of two numbers.
+fn layer(words: &mut Words<'_>) -> Layer {
+    Layer {
+        layer: u16::try_from(words.number()).unwrap_or(0),
+        datatype: u16::try_from(words.number()).unwrap_or(0),
     }
 }
 
-/// The note of a line: `norules`, `unchecked`, `idle RULE LAYER DATATYPE` or `unnamed LAYER DATATYPE SHAPES`.
-fn read_note(alloc: Global, line: &str) -> Result<Noted> {
-    let words: Vec<&str> = line.split_whitespace().collect(alloc)?;
-    match words.as_slice() {
-        ["norules"] => Ok(Noted::NoRules),
-        ["unchecked"] => Ok(Noted::Unchecked),
-        ["idle", rule, first, second] => Ok(Noted::Idle(name(alloc, rule)?, layer(first, second)?)),
-        ["unnamed", first, second, shapes] => {
-            Ok(Noted::Unnamed(layer(first, second)?, number(shapes)? as usize))
+/// Takes a note: `norules`, `unchecked`, `idle RULE LAYER DATATYPE` or `unnamed LAYER DATATYPE SHAPES`.
+fn read_note(alloc: Global, words: &mut Words<'_>) -> Result<Noted> {
+    match words.next() {
+        "norules" => Ok(Noted::NoRules),
+        "unchecked" => Ok(Noted::Unchecked),
+        "idle" => {
+            let rule = Name::read(alloc, words.next().as_bytes())?;
+            Ok(Noted::Idle(rule, layer(words)))
         }
+        "unnamed" => Ok(Noted::Unnamed(layer(words), words.number() as usize)),
         _ => bail!("a note"),
     }
 }
 
-/// The numbers of a line.
-fn read_counts(alloc: Global, line: &str) -> Result<Vec<usize>> {
+/// Takes all numbers.
+fn read_counts(alloc: Global, words: &mut Words<'_>) -> Result<Vec<usize>> {
     let mut counts = Vec::new(alloc);
-    for word in line.split_whitespace() {
-        counts.push(number(word)? as usize)?;
+    for word in words.rest().split_whitespace() {
+        counts.push(word.parse::<usize>()?)?;
     }
     Ok(counts)
 }
@@ -127,7 +105,7 @@ impl Given {
             top: None,
             markers: Vec::new(alloc),
             original: None,
-            limit: None,
+            limit: usize::MAX,
             counts: None,
             notes: Vec::new(alloc),
             faults: Vec::new(alloc),
@@ -136,16 +114,20 @@ impl Given {
     }
 
     /// Takes what a line behind the name gives.
-    fn take_word(&mut self, alloc: Global, line: &str) -> Result<()> {
-        match line.split_once(" ").unwrap_or((line, "")) {
-            ("original", file) => self.original = Some(String::from_str(alloc, file)?),
-            ("limit", limit) => self.limit = Some(number(limit)? as usize),
-            ("counts", rest) => self.counts = Some(read_counts(alloc, rest)?),
-            ("note", rest) => self.notes.push(read_note(alloc, rest)?)?,
-            ("fault", rest) => self.faults.push(read_fault(alloc, rest)?)?,
-            _ => self.markers.push(marker(alloc, line)?)?,
+    fn take_line(&mut self, alloc: Global, line: &str) -> Result<()> {
+        let mut words = Words::of(line);
+        match words.next() {
+            "original" => self.original = Some(String::from_str(alloc, words.rest())?),
+            "limit" => self.limit = words.number() as usize,
+            "counts" => self.counts = Some(read_counts(alloc, &mut words)?),
+            "note" => self.notes.push(read_note(alloc, &mut words)?)?,
+            "fault" => self.faults.push(read_fault(alloc, &mut words)?)?,
+            _ => {
+                words = Words::of(line);
+                self.markers.push(marker_of(key(&mut words), Met::none()))?;
+            }
         }
-        Ok(())
+        words.end()
     }
 
     /// Takes what a line gives.
@@ -156,31 +138,20 @@ impl Given {
             self.deck.push_str(line)?;
             self.deck.push_str("\n")?;
         } else if self.top.is_none() {
-            self.top = Some(name(alloc, line)?);
+            self.top = Some(Name::read(alloc, line.as_bytes())?);
         } else {
-            self.take_word(alloc, line)?;
+            return self.take_line(alloc, line);
         }
         Ok(())
     }
 
     /// The deck.
     pub fn deck(&self, alloc: Global) -> Result<Deck> {
-        match read_deck(alloc, self.deck.as_bytes()) {
-            Ok(deck) => Ok(deck),
-            Err(_) => bail!("a deck"),
-        }
-    }
-
-    /// The name of the structure.
-    pub fn top(&self) -> Result<&Name> {
-        match &self.top {
-            Some(name) => Ok(name),
-            None => bail!("a name"),
-        }
+        Ok(read_deck(alloc, self.deck.as_bytes())?)
     }
 
     /// The notes.
-    pub fn notes(&self, alloc: Global) -> Result<Vec<Note<'_>>> {
+    pub fn notes(&self, alloc: Global) -> Result<Vec<Note<'_>>, AllocError> {
         let mut notes = Vec::new(alloc);
         for note in &self.notes {
             notes.push(match note {
@@ -194,7 +165,7 @@ impl Given {
     }
 
     /// The faults.
-    pub fn faults(&self, alloc: Global) -> Result<Vec<Fault<'_>>> {
+    pub fn faults(&self, alloc: Global) -> Result<Vec<Fault<'_>>, AllocError> {
         let mut faults = Vec::new(alloc);
         for seen in &self.faults {
             faults.push(Fault {
