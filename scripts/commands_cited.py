@@ -32,8 +32,8 @@ UNTESTED = {
     ("examples/README.md", ""): "examples/check.py runs the shuttle, and gate_desk/scripts the first session",
     ("docs/operating.md", ""): "needs root, or a shuttle with markers, which docs/tutorial-shuttle.md has: its console runs such lines",
 }
-PROGRAMS = ("mpw", "mpw-ask", "mpw-assemble", "mpw-report", "mpw-page", "check.sh")
-OURS = re.compile(r"(?:^|[\s;|(\"'/])(mpw|mpw-ask|mpw-assemble|mpw-report|mpw-page|check\.sh)(?=\s)(?!\s*=)(.*)")
+PROGRAMS = ("mpw", "mpw-ask", "mpw-assemble", "mpw-report", "mpw-page", "mpw-backup", "check.sh")
+OURS = re.compile(r"(?:^|[\s;|(\"'/])(mpw|mpw-ask|mpw-assemble|mpw-report|mpw-page|mpw-backup|check\.sh)(?=\s)(?!\s*=)(.*)")
 OPTION = re.compile(r"(?<![\w-])--[a-z][a-z-]*")
 # What other programs' options are called, between backquotes or in a block, and what has them.
 OTHERS = {

@@ -115,8 +115,8 @@ def made_pages(layout, paths, seconds):
 
 
 def service(layout):
-    """The unit with its variables, its user and folders, and the rotation of its log."""
-    names = {"@SYSCONFDIR@": layout.sysconfdir, "@LIBEXECDIR@": f"{layout.prefix}/libexec"}
+    """The units with their variables, the user and folders, and the rotation of the log."""
+    names = {"@SYSCONFDIR@": layout.sysconfdir, "@LIBEXECDIR@": f"{layout.prefix}/libexec", "@BINDIR@": f"{layout.prefix}/bin"}
 
     def text(name):
         found = read(f"{TOP}/packaging/{name}").decode()
@@ -124,7 +124,8 @@ def service(layout):
             found = found.replace(word, value)
         return found.encode()
 
-    yield File(f"{layout.prefix}/lib/systemd/system/mpw.service", text("mpw.service"))
+    for name in "mpw.service", "mpw-backup.service", "mpw-backup.timer":
+        yield File(f"{layout.prefix}/lib/systemd/system/{name}", text(name))
     yield File(f"{layout.prefix}/lib/sysusers.d/mpw.conf", text("sysusers.conf"))
     yield File(f"{layout.prefix}/lib/tmpfiles.d/mpw.conf", text("tmpfiles.conf"))
     yield File(layout.conf, text("mpw.conf"), is_edited=True)

@@ -20,11 +20,12 @@ SERVICE = (
 )
 SEE = {
     "mpw.1": "mpw-ask(1), mpw-check(1), mpw-serve(8)", "mpw-check.1": "mpw(1), mpw-page(1), mpw-report(1), klayout(1)",
-    "mpw-serve.8": "mpw(1), mpw-ask(1), systemd.service(5)",
+    "mpw-serve.8": "mpw(1), mpw-ask(1), mpw-backup(1), systemd.service(5)",
 }
 TOOLS = {
     "mpw-ask": "asks a sign-off desk, line by line", "mpw-page": "writes a page with the markers of a structure",
     "mpw-assemble": "writes the GDSII of a wafer as it was signed", "mpw-report": "writes a listing of markers for other tools",
+    "mpw-backup": "copies the store of a desk, also while the desk serves it",
 }
 
 

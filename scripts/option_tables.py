@@ -21,7 +21,7 @@ SOURCES = {
     "mpw trail": (f"{AUDITOR}/settings.rt", "trail_command"),
     "mpw store": (f"{AUDITOR}/settings.rt", "store_command"),
 }
-CLIENTS = ("mpw-ask", "mpw-assemble", "mpw-report", "mpw-page")
+CLIENTS = ("mpw-ask", "mpw-assemble", "mpw-report", "mpw-page", "mpw-backup")
 MUST, OFF, NO_FILE = "must be given", "off", "no file is written"
 HELP = ("-h, --help", "off", "Prints the options")
 VERSION = ("-V, --version", "off", "Prints the version of the command line")
@@ -48,6 +48,7 @@ DEFAULTS = {
                 "--page": NO_FILE, "--placements": "each cell is at its own origin", "--script": "HOST:PORT must be given"},
     "mpw-assemble": {"--manifest": "OUT.gds.json"},
     "mpw-report": {"--junit": NO_FILE, "--json": NO_FILE, "--markdown": NO_FILE},
+    "mpw-backup": {"--newest": "all copies stay"},
 }
 # What mpw-report says of these in its description.
 REPORTS = {"--junit": "JUnit XML: a test case for each rule", "--json": "JSON lines: an object for each marker",

@@ -29,6 +29,7 @@ from mpw_desk import BadDeck, deck_of  # noqa: E402
 from mpw_files import FileFault, end_cleanly, is_one_file, read_file  # noqa: E402
 from mpw_given import given_of  # noqa: E402
 from mpw_known import Known  # noqa: E402
+from mpw_left_out import LeftOut  # noqa: E402
 from mpw_relay import Names, relayed  # noqa: E402
 
 HERE = os.path.dirname(os.path.abspath(__file__))
@@ -80,6 +81,7 @@ class Check:
     def __init__(self, mpw, given, folder):
         self.mpw, self.given, self.folder = mpw, given, folder
         self.replaced, self.names, self.unpacker = {}, Names(), None
+        self.left_out = LeftOut() if given.has("--skip-faulty") else None
 
     def take_deck(self):
         """Writes the plain deck, if the given one isn't plain."""
@@ -118,7 +120,7 @@ class Check:
         """Runs the program; its exit status. Markers that are known don't count."""
         words = [*self.mpw, "--as-is", "check", *self.given.words(self.replaced)]
         given = self.unpacker.stdout if self.unpacker else None
-        status = relayed(words, self.names, given, known and known.see)
+        status = relayed(words, self.names, given, known and known.see, None if self.left_out is None else self.left_out.hear)
         if self.unpacker:
             self.unpacker.stdout.close()
             unpacked = self.unpacker.wait()
@@ -126,15 +128,29 @@ class Check:
                 self.test_unpacked(unpacked)
         if known and status <= 1:
             print("".join(f"mpw: {line}\n" for line in known.lines()), end="", file=sys.stderr)
-            return 1 if known.has_others else 0
+            return 1 if known.has_others or self.left_out else 0
         return status
 
     def write_page(self):
         """Writes the page; the exit status of mpw-page."""
         page = [f"--program={self.mpw[0]}"]
         page += [f"{name}={value}" for name, value in (("--deck", self.given.deck), ("--top", self.given.top)) if value is not None]
-        words = [sys.executable, os.path.join(HERE, "mpw-page"), *page, "--", self.replaced.get(None, self.given.file) or "-", self.given.page]
+        library = self.replaced.get(None, self.given.file) or "-"
+        if self.left_out:
+            library, lines = self.write_rest(library)
+            page.append(f"--left-out={lines}")
+        words = [sys.executable, os.path.join(HERE, "mpw-page"), *page, "--", library, self.given.page]
         return relayed(words, self.names)
+
+    def write_rest(self, library):
+        """Writes the library without the elements that the check left out, and their lines; both files."""
+        rest, lines = os.path.join(self.folder, "rest.gds"), os.path.join(self.folder, "left-out.txt")
+        with open(library, "rb") as file, open(rest, "wb") as out:
+            out.write(self.left_out.without(file.read()))
+        with open(lines, "w", encoding="ascii", errors="replace") as out:
+            out.writelines(f"{line}\n" for line in self.left_out.lines)
+        self.names.add(rest, self.given.file)
+        return rest, lines
 
     def end(self):
         if self.unpacker:

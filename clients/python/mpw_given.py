@@ -2,7 +2,7 @@
 from typing import List, NamedTuple, Optional
 
 # The options of a check that have no value.
-FLAGS = "--strict", "--faults", "--skip-unreached", "--summary", "--help", "--version", "--"
+FLAGS = "--strict", "--faults", "--skip-unreached", "--skip-faulty", "--summary", "--help", "--version", "--"
 # The options that aren't the program's.
 OURS = "--page", "--known"
 

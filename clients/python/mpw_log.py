@@ -56,7 +56,7 @@ class LogSummary:
     def __init__(self):
         self.verbs, self.denials, self.others = {}, Counter(), Counter()
         self.slowest, self.times = [], []
-        self.connections = self.bad = self.requests = 0
+        self.connections = self.bad = self.requests = self.dropped = 0
         self.calls, self.since, self.at = None, 0, None
 
     def add_line(self, text):
@@ -69,6 +69,8 @@ class LogSummary:
             elif event in ("begin", "end"):
                 self.connections += event == "begin"
                 self.calls, self.since, self.at = int(line["calls"]), 0, time
+            elif event == "dropped":
+                self.dropped += int(line["dropped"])
             else:
                 self.others[shown(event)] += 1
         except (ValueError, KeyError, TypeError, AttributeError):
@@ -118,6 +120,8 @@ class LogSummary:
         yield from section(("slowest ms", "time", "user", "verb", "reply"), self.slow_rows())
         yield ""
         yield self.calls_line()
+        if self.dropped:
+            yield f"{self.dropped} lines were dropped, since the log took none for a while: the numbers above lack them"
         for event, count in sorted(self.others.items()):
             yield f"other lines: {count} {event}"
         if self.bad:

@@ -34,15 +34,19 @@ class Names:
         return found[1] + name + (b": line %d" % number if number else b"") + b": " + line[found.end():]
 
 
-def copy_errors(source, names):
-    """Copies a standard error. A line that may name a file is held until it is whole, and all else goes on at once."""
+def copy_errors(source, names, hear=None):
+    """Copies a standard error. A line that may name a file is held until it is whole, and all else goes on at once. `hear` gets each line."""
     out, held = sys.stderr.buffer, b""
     with suppress(OSError):  # by which the end of a terminal shows
         while True:
             data = os.read(source, 1 << 16)
             held += data
             *lines, held = re.split(rb"(?<=[\r\n])", held)
-            out.write(b"".join(map(names.put_back, lines)))
+            lines = [names.put_back(line) for line in lines]
+            out.write(b"".join(lines))
+            if hear:
+                for line in lines:
+                    hear(line)
             if not data or not any(it.startswith(held[:7]) for it in (*ERRORS, b"mpw-page: ")):
                 out.write(names.put_back(held))
                 held = b""
@@ -61,16 +65,17 @@ def error_ends():
     return os.pipe()
 
 
-def relayed(words, names, given=None, see=None):
-    """Runs a program; its exit status, by a signal 128 and its number. `see` gets each line of its standard output."""
-    ends = error_ends() if names else None
+def relayed(words, names, given=None, see=None, hear=None):
+    """Runs a program; its exit status, by a signal 128 and its number. `see` gets each line of its standard output, and `hear` each of its
+    standard error."""
+    ends = error_ends() if names or hear else None
     how = {"stdin": given, "stdout": subprocess.PIPE if see else None, "stderr": ends[1] if ends else None}
     copying = None
     with subprocess.Popen(words, **how) as process:
         try:
             if ends:
                 os.close(ends[1])
-                copying = threading.Thread(target=copy_errors, args=(ends[0], names))
+                copying = threading.Thread(target=copy_errors, args=(ends[0], names, hear))
                 copying.start()
             for line in process.stdout or ():
                 sys.stdout.buffer.write(line)

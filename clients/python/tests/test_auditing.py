@@ -1,19 +1,28 @@
-"""`mpw trail` and `mpw store check` over files that are stores, damaged ones and none: what is printed, and the exit status. The program is MPW_AUDITOR, else
-the one that the gate built."""
+"""`mpw trail` and `mpw store check` over files that are stores, damaged ones and none: what is printed, and the exit status. Stores that the program made are
+damaged bit by bit, and what `mpw store check` says is compared with what the desk says that opens them. The programs are MPW_AUDITOR and MPW_PROGRAM, else those
+that the gate built."""
 import os
+import random
 import shutil
+import signal
 import sqlite3
 import subprocess
+import sys
 import tempfile
 import unittest
-from contextlib import closing
+from contextlib import closing, suppress
 
 from stored import TABLE, Recorder
-from test_serve import LIMIT, TOP
+from test_serve import DIGEST, LIMIT, MPW, TOP
+
+sys.path.append(os.path.join(os.path.dirname(os.path.abspath(__file__)), "stores"))
+
+from old_store import SCRIPTS  # noqa: E402
 
 AUDITOR = os.environ.get("MPW_AUDITOR", os.path.join(TOP, "crates", "mpw_auditor", "out", "mpw_auditor"))
 HEAD = "place,connection,kind,line\n"
 NO_DATABASE = "file is not a database that obeys its schema"
+UNSEEN = "not noticed: a change that became another valid one, the officer's token, and the loss of a whole log\n"
 # A session that leaves nine rows, and a tenth of its end.
 LINES = (
     b"open root abc\nactivate officer\nadduser ann abc\naddrole alpha\nassign ann alpha\ngrant read pad alpha\nclose\nopen ann abc\nactivate alpha\n")
@@ -48,13 +57,25 @@ class Folder(unittest.TestCase):
         """The status, and what was printed on the standard output and the standard error."""
         how = {"stdin": subprocess.DEVNULL, "stdout": subprocess.PIPE, "stderr": subprocess.PIPE, "timeout": LIMIT, "cwd": self.folder, **popen}
         ended = subprocess.run([AUDITOR, *words], check=False, **how)
-        return ended.returncode, (ended.stdout or b"").decode(), ended.stderr.decode()
+        return ended.returncode, (ended.stdout or b"").decode(), (ended.stderr or b"").decode()
+
+    def unsound(self, name, reason):
+        """The store isn't sound, and this is the beginning of the reason."""
+        status, printed, told = self.run_auditor("store", "check", name)
+        self.assertEqual((status, printed, told.count("\n")), (4, "", 1), told)
+        self.assertTrue(told.startswith(f"error: the store isn't sound: {reason}"), told)
 
 
 def listing(rows):
     """What `mpw trail` lists of rows whose lines have no comma and no quote."""
     kinds = {1: "request", 2: "gone", 3: "finished"}
     return HEAD + "".join(f"{place},{connection},{kinds[kind]},{line}\n" for place, connection, kind, line, _ in rows)
+
+
+def report(rows, frames=0, more=0):
+    """What `mpw store check` prints of a sound store."""
+    owner = "officer root\n" if rows else ""
+    return f"rows {rows}\n{owner}log frames {frames}\nframes after the last commit {more}\n{UNSEEN}"
 
 
 @unittest.skipUnless(os.access(AUDITOR, os.X_OK), f"{AUDITOR} isn't built")
@@ -123,7 +144,7 @@ class Files(Folder):
             with self.subTest(name):
                 self.assertEqual(self.run_auditor("trail", name), (0, HEAD, ""))
                 self.assertEqual(self.run_auditor("trail", "--payload", "1", name), (3, "", "error: no row 1 has a payload\n"))
-                self.assertEqual(self.run_auditor("store", "check", name), (0, "rows 0\n", ""))
+                self.assertEqual(self.run_auditor("store", "check", name), (0, report(0), ""))
 
     def test_no_file(self):
         """What isn't there, or is no regular file, is no store that could be unsound: both commands end with 3."""
@@ -153,7 +174,7 @@ class Rows(Folder):
                 reason = f"row {place} is no change that the desk accepts there\n"
                 self.assertEqual(self.run_auditor("trail", store), (3, listing(rows[:place - 1]), f"error: the store: {reason}"))
                 self.assertEqual(self.run_auditor("trail", "--payload", "1", store), (3, "", f"error: the store: {reason}"))
-                self.assertEqual(self.run_auditor("store", "check", store), (4, "", f"error: the store isn't sound: {reason}"))
+                self.unsound(store, reason)
 
     def test_payload(self):
         rows = [*self.store("whole.db"), (11, 1, 1, "deck 6", b"tile 9"), (12, 1, 1, "deck 0", b"")]
@@ -169,3 +190,164 @@ class Rows(Folder):
         for words in ["trail", "desk.db"], ["trail", "--payload", "11", "desk.db"], ["store", "check", "whole.db"], ["--help"]:
             with open("/dev/full", "wb") as full:
                 self.assertEqual(self.run_auditor(*words, stdout=full), (3, "", "error: the standard output failed\n"), words)
+
+
+@unittest.skipUnless(os.access(AUDITOR, os.X_OK), f"{AUDITOR} isn't built")
+class Desks(Folder):
+    def test_a_session(self):
+        rows = self.store("desk.db")
+        self.assertEqual(self.run_auditor("store", "check", "desk.db"), (0, report(len(rows)), ""))
+
+    def test_a_row_that_the_desk_refuses(self):
+        """A row that is a change, but none that the desk accepts there, is named."""
+        rows = self.store("whole.db")
+        for name, place, line in ("role", 4, "addrole officer"), ("user", 5, "assign bob alpha"), ("token", 8, f"open ann {'0' * 64}"), ("session", 11, "addrole beta"):
+            with self.subTest(name):
+                changed = [row[:3] + (line,) + row[4:] if row[0] == place else row for row in rows]
+                self.store(f"{name}.db", changed if place <= len(rows) else [*rows, (place, 1, 1, line, None)])
+                self.unsound(f"{name}.db", f"row {place} is no change that the desk accepts there")
+
+    def test_a_first_row_that_is_no_login(self):
+        for name, row in ("role", (1, 1, 1, "addrole alpha", None)), ("end", (1, 1, 2, "", None)), ("run", (1, 0, 3, "1", None)):
+            with self.subTest(name):
+                self.store(f"{name}.db", [row])
+                self.unsound(f"{name}.db", "row 1 is no change that the desk accepts there")
+
+    def test_no_number_is_left(self):
+        """A store with the greatest number of a connection can't be gone on from."""
+        self.store("desk.db", [(1, 2 ** 32 - 1, 1, f"open root {DIGEST}", None)])
+        self.unsound("desk.db", "no number is left for a connection")
+
+
+@unittest.skipUnless(os.access(AUDITOR, os.X_OK) and os.access(MPW, os.X_OK), f"{AUDITOR} or {MPW} isn't built")
+class Damaged(Folder):
+    """Stores that the program made."""
+
+    def words(self, name):
+        return [MPW, "script", "--officer", "root", "--digest", DIGEST, "--store", self.at(name)]
+
+    def served(self, name, script=b""):
+        """What the desk of a store that serves a script says: the status, and the standard error."""
+        ended = subprocess.run(self.words(name), input=script, stdout=subprocess.PIPE, stderr=subprocess.PIPE, timeout=LIMIT, check=False)
+        return ended.returncode, ended.stderr.decode()
+
+    def killed(self, name, lines):
+        """The log of a store whose desk was killed after it accepted these lines."""
+        with subprocess.Popen(self.words(name), stdin=subprocess.PIPE, stdout=subprocess.PIPE, stderr=subprocess.DEVNULL) as process:
+            for line in lines:
+                process.stdin.write(line)
+                process.stdin.flush()
+                self.assertEqual(process.stdout.readline(), b"OK 0\n", line)
+            process.send_signal(signal.SIGKILL)
+        with open(self.at(f"{name}-wal"), "rb") as log:
+            return log.read()
+
+    def test_single_bits(self):
+        """Of 200 wrong bits in a file with a finished run and its waivers none is passed that the desk refuses, but for the officer's name and token in the first row;
+        and none that the desk goes on from is refused."""
+        for script in SCRIPTS:
+            self.assertEqual(self.served("whole.db", script)[0], 0)
+        status, printed, told = self.run_auditor("store", "check", "whole.db")
+        self.assertEqual((status, told), (0, ""))
+        self.assertIn("\nofficer root\nlog frames 0\n", printed)
+        with open(self.at("whole.db"), "rb") as file:
+            whole = file.read()
+        chance, refused = random.Random(2026), 0
+        for bit in chance.sample(range(8 * len(whole)), 200):
+            damaged = bytearray(whole)
+            damaged[bit // 8] ^= 1 << bit % 8
+            self.write("damaged.db", damaged)
+            checked, _, why = self.run_auditor("store", "check", "damaged.db")
+            opened, told = self.served("damaged.db")
+            with self.subTest(bit=bit):
+                if "another officer or token" in told:
+                    self.assertIn(checked, (0, 4), why)
+                else:
+                    self.assertEqual((opened, checked), (3, 4) if opened else (0, 0), f"{told!r}, {why!r}")
+            refused += opened != 0
+            for name in "damaged.db", "damaged.db-wal":
+                os.unlink(self.at(name))
+        self.assertGreater(refused, 20)
+
+    def test_progress(self):
+        """On a terminal it is shown how many tiles of a finished run are checked again, up to all."""
+        for script in SCRIPTS:
+            self.assertEqual(self.served("whole.db", script)[0], 0)
+        try:
+            ours, its = os.openpty()
+        except OSError:
+            self.skipTest("no terminal can be made here")
+        with os.fdopen(ours, "rb", 0) as terminal:
+            status = self.run_auditor("store", "check", "whole.db", stderr=its)[0]
+            os.close(its)
+            self.assertEqual(status, 0)
+            shown = b""
+            with suppress(OSError):  # a terminal that nobody has open any more ends with an error
+                while more := terminal.read(4096):
+                    shown += more
+            self.assertRegex(shown, rb"\rmpw: ([1-9]\d*) of \1 tiles checked\r\n$")
+
+    def test_logs(self):
+        """A log that is cut off or has a wrong bit before its last commit is reported. One that was only longer is whole."""
+        log = self.killed("desk.db", LINES.splitlines(keepends=True))
+        status, printed, told = self.run_auditor("store", "check", "desk.db")
+        self.assertEqual((status, told), (0, ""))
+        frames = int(printed.split("log frames ")[1].split()[0])
+        self.assertEqual(printed, report(9, frames=frames))
+        last, chance = 32 + frames * (24 + 4096), random.Random(2026)
+        self.assertGreater(len(log), last + 8)
+        cuts = [log[:length] for length in (1, 31, 32, 40, 41, 56, 4151, 4152, 4161, last - 1, last, last + 8, *chance.sample(range(1, last), 30))]
+        # A frame's first byte of salt is 1, and the mark 0. So one bit of each frame goes unnoticed: the frame is then one of a commit that wasn't finished.
+        marks = range(8 * 40, 8 * last, 8 * (24 + 4096))
+        flips = []
+        for bit in [0, 8 * 16, 8 * 31, *chance.sample([it for it in range(8 * last) if it not in marks], 60)]:
+            flips.append(bytearray(log))
+            flips[-1][bit // 8] ^= 1 << bit % 8
+        for damaged in [*cuts, *flips]:
+            self.write("desk.db-wal", damaged)
+            with self.subTest(length=len(damaged)):
+                status, printed, told = self.run_auditor("store", "check", "desk.db")
+                self.assertEqual(status, 4, (printed, told))
+                self.assertTrue(told.startswith("error: the store isn't sound: "), told)
+        self.write("desk.db-wal", log[:last + 9])
+        self.assertEqual(self.run_auditor("store", "check", "desk.db"), (0, report(9, frames=frames), ""))
+
+    def test_frames_that_follow(self):
+        """How many frames follow the damage is reported, and the rows before it."""
+        log = bytearray(self.killed("desk.db", LINES.splitlines(keepends=True)))
+        frames = int(self.run_auditor("store", "check", "desk.db")[1].split("log frames ")[1].split()[0])
+        at = 32 + (frames - 3) * (24 + 4096)
+        log[at + 1000] ^= 1
+        self.write("desk.db-wal", log)
+        status, printed, told = self.run_auditor("store", "check", "desk.db")
+        self.assertEqual((status, printed), (4, report(6, frames=frames - 3, more=3)))
+        self.assertTrue(told.startswith(f"error: the store isn't sound: its log was cut off or is damaged after {frames - 3} frames. 3 further frames "), told)
+
+    def test_a_commit_that_was_not_finished(self):
+        """Frames behind the mark of the last commit belong to a change whose reply wasn't written. They are counted, and the store is sound."""
+        log = bytearray(self.killed("desk.db", LINES.splitlines(keepends=True)))
+        frames = int(self.run_auditor("store", "check", "desk.db")[1].split("log frames ")[1].split()[0])
+        log[32 + (frames - 1) * (24 + 4096) + 8] = 0
+        self.write("desk.db-wal", log)
+        self.assertEqual(self.run_auditor("store", "check", "desk.db"), (0, report(8, frames=frames - 1, more=1), ""))
+
+    def test_a_log_that_is_emptied(self):
+        """A log that is being emptied begins with 0. Its frames are in the file then."""
+        log = bytearray(self.killed("desk.db", LINES.splitlines(keepends=True)))
+        self.assertEqual(self.served("desk.db")[0], 0)
+        log[0] = 0
+        self.write("desk.db-wal", log)
+        self.assertEqual(self.run_auditor("store", "check", "desk.db"), (0, report(10), ""))
+        self.write("desk.db-wal", bytes(len(log)))
+        self.assertEqual(self.run_auditor("store", "check", "desk.db")[0], 4)
+
+    def test_a_desk_that_runs(self):
+        """While a desk has the store neither command reads it, and nothing is written."""
+        with subprocess.Popen(self.words("desk.db"), stdin=subprocess.PIPE, stdout=subprocess.PIPE, stderr=subprocess.DEVNULL) as process:
+            process.stdin.write(b"open root abc\n")
+            process.stdin.flush()
+            self.assertEqual(process.stdout.readline(), b"OK 0\n")
+            for words in ["trail", "desk.db"], ["store", "check", "desk.db"]:
+                self.assertEqual(self.run_auditor(*words), (3, "", "error: the store: database is locked\n"))
+            process.stdin.close()
+        self.assertEqual(self.run_auditor("store", "check", "desk.db"), (0, report(2), ""))

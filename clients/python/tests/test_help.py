@@ -11,7 +11,7 @@ sys.path.append(os.path.join(TOP, "scripts"))
 
 from cited import FORBIDDEN  # noqa: E402
 
-PROGRAMS = "mpw-ask", "mpw-assemble", "mpw-page", "mpw-report"
+PROGRAMS = "mpw-ask", "mpw-assemble", "mpw-backup", "mpw-page", "mpw-report"
 
 
 def ended(name, *words):

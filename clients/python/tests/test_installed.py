@@ -128,7 +128,7 @@ class Command(Installed):
 
     def test_tools(self):
         """The tools run, and find the command that is installed with them."""
-        for name in "mpw-ask", "mpw-page", "mpw-assemble", "mpw-report":
+        for name in "mpw-ask", "mpw-page", "mpw-assemble", "mpw-report", "mpw-backup":
             self.assertEqual(run(self.file("bin", name), "--help")[0], 0)
         words = [sys.executable, "-SB", "-c", "import mpw_program; print(mpw_program.program())"]
         self.assertEqual(run(*words, cwd=self.file("share", "mpw", "python"))[1].strip(), os.path.realpath(self.file("bin", "mpw")))
@@ -172,9 +172,18 @@ class Files(Installed):
             self.assertIn(f"\n{line}\n", text)
         self.assertIn(f"\nExecStart=@{self.prefix}/libexec/mpw/mpw-serve mpw serve ", text)
 
+    @unittest.skipUnless(shutil.which("systemd-analyze"), "systemd-analyze isn't installed")
+    def test_unit_of_copies(self):
+        units = [self.file("lib", "systemd", "system", f"mpw-backup.{kind}") for kind in ("service", "timer")]
+        self.assertEqual(run("systemd-analyze", "verify", "--man=no", *units)[::2], (0, ""))
+        status, printed, _ = run("systemd-analyze", "security", "--offline=true", "--threshold=30", units[0])
+        self.assertEqual(status, 0, printed)
+        self.assertIn(f"\nExecStart={self.prefix}/bin/mpw-backup --newest ", self.read("lib", "systemd", "system", "mpw-backup.service"))
+
     def test_variables(self):
-        """The configuration has each variable that the unit names."""
-        conf, unit = self.read("etc", "mpw", "mpw.conf"), self.read("lib", "systemd", "system", "mpw.service")
+        """The configuration has each variable that the units name."""
+        conf = self.read("etc", "mpw", "mpw.conf")
+        unit = "".join(self.read("lib", "systemd", "system", f"{name}.service") for name in ("mpw", "mpw-backup"))
         set_there = set(re.findall(r"^(MPW_\w+)=", conf, re.M)) | set(re.findall(r'^Environment="(MPW_\w+)=', unit, re.M))
         self.assertEqual(set(re.findall(r"\$\{?(MPW_\w+)", unit)), set_there)
 
@@ -187,21 +196,24 @@ class Files(Installed):
                 self.assertEqual(status, 0, told)
             with open(os.path.join(root, "etc", "passwd"), encoding="ascii") as file:
                 self.assertRegex(file.read(), "(?m)^mpw:.*:/var/lib/mpw:/usr/sbin/nologin$")
-            self.assertEqual(os.stat(os.path.join(root, "var", "lib", "mpw")).st_mode & 0o777, 0o700)
+            for folder in "lib", "backups":
+                self.assertEqual(os.stat(os.path.join(root, "var", folder, "mpw")).st_mode & 0o777, 0o700)
 
     @unittest.skipUnless(shutil.which("logrotate") and os.geteuid() == 0, "logrotate isn't installed, or the user isn't root")
     def test_rotation(self):
-        """The log is copied and cut, so the service goes on to write into the same file; the first copy isn't compressed."""
+        """The log is moved away, and a new one is made with its mode, which the service opens. The one before isn't compressed yet."""
         with tempfile.TemporaryDirectory() as folder:
             log, conf = os.path.join(folder, "desk.log"), os.path.join(folder, "conf")
             text = self.read("etc", "logrotate.d", "mpw")
             with open(conf, "w", encoding="ascii") as file:
                 file.write(text.replace("/var/log/mpw/desk.log", log).replace("su mpw mpw", "su root root"))
-            with open(log, "a", encoding="ascii") as file:
-                for number in 1, 2:
+            for number in 1, 2:
+                with open(log, "a", encoding="ascii") as file:
+                    os.chmod(log, 0o600)
                     print(number, file=file, flush=True)
                     status, _, told = run("logrotate", "--force", "--state", os.path.join(folder, "state"), conf)
-                    self.assertEqual((status, os.path.getsize(log)), (0, 0), told)
+                    self.assertEqual((status, os.path.getsize(log), os.stat(log).st_mode & 0o777), (0, 0, 0o600), told)
+                    self.assertFalse(os.path.samestat(os.stat(log), os.fstat(file.fileno())))
             self.assertEqual(sorted(os.listdir(folder)), ["conf", "desk.log", "desk.log.1", "desk.log.2.gz", "state"])
 
     def test_documents(self):

@@ -80,6 +80,13 @@ class Summaries(unittest.TestCase):
         self.assertEqual(blocks[0], ["mpw-ask --log-summary desk.log"])
         self.assertEqual([line for block in blocks[1:] for line in block], [line for line in EXPECTED.splitlines() if line])
 
+    def test_dropped_lines(self):
+        """Their numbers are added up. A line of them without a number is no line of a log."""
+        found = summary_of(LOG[0], line("dropped", dropped=40), LOG[3], line("dropped", dropped=2), line("dropped"))
+        self.assertEqual(found[-3:], [
+            "calls left: at most 1048565 of 1048576; 10 were answered at 2026-11-29T21:00:00Z, requests after that: 1",
+            "42 lines were dropped, since the log took none for a while: the numbers above lack them", "1 lines aren't lines of a log"])
+
     def test_other_lines(self):
         """Lines that are cut, that have other events or lack a member are counted, and nothing of them is printed that isn't visible."""
         found = summary_of("{}\n", LOG[3][:40], "[]", "7", line("dropped\x1b"), line("begin"), request("a\x1b[2Jb", "open", "DENIED login"))

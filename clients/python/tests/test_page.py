@@ -252,6 +252,22 @@ class InBrowser(unittest.TestCase):
         self.show(data())
         self.assertTrue(words.search(self.browser.run("document.body.innerText")))
 
+    def test_left_out_elements(self):
+        """A list of them, and where one lies in the structure that is checked, if that is known."""
+        lines = ["notmanhattan at byte 412 in ARM, layer 63/0, at 300,40, in TOP at 20300,40", "oddwidth at byte 9 in TOP, layer 1/0, at -100,50",
+                 f"mag at byte 7 in {HOSTILE}, at 5,6", "notmanhattan at byte 900 in ARM, layer 63/0, at 300,40"]
+        self.show(data(check="TOP", user="mpw check", waivers=[], markers=[f"{KEY} TOP"], left=lines))
+        self.assertEqual(self.text("#left button"), lines)
+        self.assertEqual(self.browser.run("[...document.querySelectorAll('#left button')].map(it => it.disabled)"), [False, False, True, True])
+        self.assertEqual(self.text("#figures li")[-1], "4 left out for faults")
+        for place, point in (0, [20300, 40]), (1, [-100, 50]):
+            self.browser.run(f"document.querySelectorAll('#left button')[{place}].click()")
+            self.assertEqual(self.settled_view()[:2], point)
+        self.assertEqual(self.text("img"), [])
+        self.is_calm()
+        self.show(data(check="TOP", waivers=[], markers=[f"{KEY} TOP"]))
+        self.assertTrue(self.browser.run("byId('left').hidden"))
+
     def test_without_placements(self):
         chip = ["chip 1 1/0 boundary 0 0 9 0 9 9 0 9", "pad 1 1/0 boundary 20 0 29 0 29 9 20 9"]
         self.show(data(placements=[], shapes=[["chip", chip], ["pad", ["pad 1 1/0 boundary 0 0 9 0 9 9 0 9"]]]))

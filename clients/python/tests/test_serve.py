@@ -5,6 +5,7 @@ import json
 import os
 import re
 import resource
+import shutil
 import socket
 import subprocess
 import sys
@@ -128,6 +129,53 @@ def ask_until_the_end(served):
                         if not found:
                             return
                         left -= len(found)
+
+
+def ask_whoami(end, count):
+    """Asks without a session, and reads the replies."""
+    end.sendall(b"whoami\n" * count)
+    left = count * len(b"DENIED session\n")
+    while left > 0:
+        found = end.recv(left)
+        assert found, "the service ended the connection"
+        left -= len(found)
+
+
+def events_of(path):
+    """The events of a log, each of whose lines is whole."""
+    with open(path, encoding="ascii") as file:
+        return [json.loads(line)["event"] for line in file]
+
+
+def await_file(path):
+    """Waits until there is a file."""
+    begun = time.monotonic()
+    while not os.path.exists(path):
+        assert time.monotonic() - begun < LIMIT, path
+        time.sleep(0.05)
+
+
+def await_events(path, count):
+    """Waits until a log has so many whole lines."""
+    begun = time.monotonic()
+    while True:
+        with open(path, "rb") as file:
+            if file.read().count(b"\n") >= count:
+                return
+        assert time.monotonic() - begun < LIMIT, path
+        time.sleep(0.05)
+
+
+@contextmanager
+def small_disk():
+    """A file system of a megabyte, where one can be made."""
+    with tempfile.TemporaryDirectory(prefix="mpw-disk-") as path:
+        if subprocess.run(["mount", "-t", "tmpfs", "-o", "size=1m", "none", path], stderr=subprocess.DEVNULL, check=False).returncode != 0:
+            raise unittest.SkipTest("no file system can be mounted here")
+        try:
+            yield lambda name: os.path.join(path, name)
+        finally:
+            subprocess.run(["umount", path], check=False)
 
 
 def grant_all(desk, *cells):
@@ -440,11 +488,141 @@ class Logs(Served):
         self.assertEqual((ended.returncode, ended.stdout), (3, b""))
 
     def test_log_that_fails(self):
+        """The service goes on, and at its end it waits for two seconds."""
         with service(1, 1, "--log", "/dev/full") as served:
             with served.desk() as desk:
                 self.assertEqual(desk.whoami().user, "root")
             status, _, told = served.end()
-        self.assertEqual((status, told), (0, "error: the log can't be written\n"))
+        self.assertEqual((status, told), (0, "error: the log can't be written\nwarning: the last lines of the log could not be written\n"))
+
+    def test_log_that_is_moved(self):
+        """The file is opened anew within a second or so. No line is lost or cut."""
+        with tempfile.TemporaryDirectory() as folder:
+            path, old = os.path.join(folder, "desk.log"), os.path.join(folder, "desk.log.1")
+            with service(1, 1, "--log", path) as served:
+                with served.connect() as end:
+                    ask_whoami(end, 10)
+                    await_events(path, 11)
+                    os.rename(path, old)
+                    ask_whoami(end, 10)
+                    await_file(path)
+                    ask_whoami(end, 10)
+                self.assertEqual(served.end()[::2], (0, ""))
+            first, second = events_of(old), events_of(path)
+        self.assertEqual((first[0], second[-1], sorted({*first[1:], *second[:-1]})), ("begin", "end", ["request"]))
+        self.assertEqual(len(first) + len(second), 32)
+        self.assertTrue(len(first) >= 11 and len(second) >= 11, (len(first), len(second)))
+
+    def test_log_that_is_removed(self):
+        """A file of another's that is moved to the path is gone on with, and it isn't emptied."""
+        with tempfile.TemporaryDirectory() as folder:
+            path, other = os.path.join(folder, "desk.log"), os.path.join(folder, "other.log")
+            with service(1, 1, "--log", path) as served:
+                with served.connect() as end:
+                    ask_whoami(end, 1)
+                    os.unlink(path)
+                    await_file(path)
+                    with open(other, "w", encoding="ascii") as file:
+                        file.write("{}\n")
+                    os.rename(other, path)
+                    time.sleep(2)
+                    ask_whoami(end, 1)
+                self.assertEqual(served.end()[::2], (0, ""))
+            with open(path, encoding="ascii") as file:
+                lines = [json.loads(line) for line in file]
+        self.assertEqual([line.get("event") for line in lines], [None, "request", "end"])
+
+    def test_log_that_is_cut(self):
+        """After a copy the file is emptied, as by logrotate's copytruncate. The service goes on at its new end."""
+        with tempfile.TemporaryDirectory() as folder:
+            path, old = os.path.join(folder, "desk.log"), os.path.join(folder, "desk.log.1")
+            with service(1, 1, "--log", path) as served:
+                with served.connect() as end:
+                    ask_whoami(end, 10)
+                    await_events(path, 11)
+                    shutil.copy(path, old)
+                    os.truncate(path, 0)
+                    ask_whoami(end, 10)
+                self.assertEqual(served.end()[::2], (0, ""))
+            self.assertEqual((events_of(old), events_of(path)), (["begin", *["request"] * 10], [*["request"] * 10, "end"]))
+
+    def test_log_without_a_reader(self):
+        """A pipe that nobody reads holds up neither the begin of a service nor its end."""
+        with tempfile.TemporaryDirectory() as folder:
+            path = os.path.join(folder, "desk.log")
+            os.mkfifo(path)
+            with service(1, 1, "--log", path) as served:
+                with served.desk() as desk:
+                    self.assertEqual(desk.whoami().user, "root")
+                self.assertEqual(served.end()[::2], (0, ""))
+
+    def test_log_with_a_late_reader(self):
+        """While nobody reads, lines are dropped and clients are answered. A reader that comes gets the first lines, and at their place how many were dropped."""
+        with tempfile.TemporaryDirectory() as folder:
+            path = os.path.join(folder, "desk.log")
+            os.mkfifo(path)
+            with service(8, 1, "--log", path) as served:
+                for _ in range(4):
+                    with served.connect() as end:
+                        ask_whoami(end, 4095)
+                with open(path, encoding="ascii") as file:
+                    lines = []
+                    while not lines or lines[-1]["event"] != "dropped":
+                        lines.append(json.loads(file.readline()))
+                    for _ in range(4):
+                        with served.connect() as end:
+                            ask_whoami(end, 1)
+                    lines += map(json.loads, file)
+                self.assertEqual(served.end()[::2], (0, ""))
+        dropped = [line["dropped"] for line in lines if line["event"] == "dropped"]
+        self.assertEqual((len(dropped), len(lines) - 1 + dropped[0]), (1, 4 * 4097 + 4 * 3))
+        self.assertTrue(1000 < dropped[0] < 12000, dropped)
+
+    def test_log_that_nobody_reads_at_the_end(self):
+        """With more lines than a pipe and the queue have room for, the service still ends, two seconds later."""
+        with tempfile.TemporaryDirectory() as folder:
+            path = os.path.join(folder, "desk.log")
+            os.mkfifo(path)
+            with service(4, 1, "--log", path) as served:
+                for _ in range(4):
+                    with served.connect() as end:
+                        ask_whoami(end, 4095)
+                begun = time.monotonic()
+                self.assertEqual(served.end()[::2], (0, "warning: the last lines of the log could not be written\n"))
+                self.assertTrue(1 < time.monotonic() - begun < 20)
+
+    def test_standard_error_that_nobody_reads(self):
+        with service(8, 1, "--log", "-") as served:
+            for _ in range(4):
+                with served.connect() as end:
+                    ask_whoami(end, 4095)
+            lines = []
+            while not lines or lines[-1]["event"] != "dropped":
+                lines.append(json.loads(served.process.stderr.readline()))
+            for _ in range(4):
+                with served.connect() as end:
+                    ask_whoami(end, 1)
+            lines += map(json.loads, served.process.stderr)
+            status = served.process.wait(LIMIT)
+        dropped = sum(line["dropped"] for line in lines if line["event"] == "dropped")
+        self.assertEqual((status, len(lines) - 1 + dropped), (0, 4 * 4097 + 4 * 3))
+
+    def test_log_on_a_full_disk(self):
+        """When the disk has room again, the lines are written that waited, whole and in order."""
+        with small_disk() as at:
+            with open(at("ballast"), "wb", buffering=0) as file, suppress(OSError):
+                while True:
+                    file.write(bytes(4096))
+            with service(2, 1, "--log", at("desk.log")) as served:
+                with served.connect() as end:
+                    ask_whoami(end, 1000)
+                self.assertLess(os.path.getsize(at("desk.log")), 8192)
+                os.unlink(at("ballast"))
+                await_events(at("desk.log"), 1002)
+                with served.connect() as end:
+                    ask_whoami(end, 1)
+                self.assertEqual(served.end()[::2], (0, "error: the log can't be written\n"))
+            self.assertEqual(events_of(at("desk.log")), ["begin", *["request"] * 1000, "end", "begin", "request", "end"])
 
 
 class Limits(Served):

@@ -6,6 +6,7 @@ import signal
 import socket
 import sqlite3
 import subprocess
+import sys
 import tempfile
 import threading
 import time
@@ -15,7 +16,8 @@ from contextlib import closing, contextmanager, suppress
 import layouts
 import test_serve as serving
 from mpw_desk import Denied, Desk, Lost, Refused, State
-from test_serve import DECK, DIGEST, LIMIT, MPW
+from test_auditing import AUDITOR
+from test_serve import DECK, DIGEST, LIMIT, MPW, TOP, small_disk
 
 REQUEST, GONE, FINISHED = 1, 2, 3
 # Bytes that a file may have where it takes no more than some hundred changes.
@@ -67,18 +69,6 @@ def limited():
     """Lets the files of a program grow so far alone; a write beyond it fails."""
     signal.signal(signal.SIGXFSZ, signal.SIG_IGN)
     resource.setrlimit(resource.RLIMIT_FSIZE, (SMALL, SMALL))
-
-
-@contextmanager
-def small_disk():
-    """A file system of a megabyte, where one can be made."""
-    with tempfile.TemporaryDirectory(prefix="mpw-stored-") as path:
-        if subprocess.run(["mount", "-t", "tmpfs", "-o", "size=1m", "none", path], stderr=subprocess.DEVNULL, check=False).returncode != 0:
-            raise unittest.SkipTest("no file system can be mounted here")
-        try:
-            yield lambda name: os.path.join(path, name)
-        finally:
-            subprocess.run(["umount", path], check=False)
 
 
 class Asking(threading.Thread):
@@ -142,6 +132,31 @@ class Kept(unittest.TestCase):
             old = {row[0] for row in rows[:before]}
             self.assertEqual((len(old), rows[before:before + len(old)]), (len(asking), [(number, GONE, "") for number in sorted(old)]))
             self.assertTrue(all(number > max(old) for number, *_ in rows[before + len(old):]))
+
+    def test_copied_while_clients_ask(self):
+        """Each copy has the changes that were answered before it began, and a desk can be made of it."""
+        with folder() as at:
+            program, backup = at("mpw"), [sys.executable, "-SB", os.path.join(TOP, "clients", "python", "mpw-backup"), "--program", at("mpw")]
+            with open(os.open(program, os.O_WRONLY | os.O_CREAT, 0o755), "w", encoding="ascii") as file:
+                file.write(f'#!/bin/sh\nexec -a mpw {AUDITOR} "$@"\n'.replace("#!/bin/sh", "#!/usr/bin/env bash"))
+            with service(at("desk.db"), 4, "--ongoing") as served:
+                asking = [Asking(served, f"role{number}") for number in range(3)]
+                for client in asking:
+                    client.start()
+                copies = []
+                while len(copies) < 4:
+                    told = sum(len(client.accepted) for client in asking)
+                    status, said, error = ended([*backup, at("desk.db"), at("copies")])
+                    self.assertEqual((status, error), (0, ""))
+                    copies.append((told, said.partition(": rows ")))
+                for client in asking:
+                    client.join()
+                served.process.send_signal(signal.SIGKILL)
+            for told, (copied, _, rows) in copies:
+                self.assertGreaterEqual(int(rows), told)
+                self.assertEqual(ended([AUDITOR, "trail", os.path.join(copied, "desk.db")])[1].count("\n"), int(rows) + 1)
+            with service(os.path.join(copies[-1][1][0], "desk.db"), 4, "--ongoing") as served, served.desk() as desk:
+                self.assertTrue(is_there(desk, asking[0].accepted[0]))
 
     def test_first_session(self):
         """What the first session changes, in order, and the end of its connection."""

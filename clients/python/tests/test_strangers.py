@@ -12,6 +12,7 @@ from mpw_desk import Desk
 from test_serve import LIMIT, MPW, Served, grant_all, read_all, service, words
 
 DENIED = b"DENIED session\n"
+NO_PERMISSION = b"DENIED permission submit pad\n"
 
 
 def asked(end, line=b"whoami\n", count=1, reply=DENIED):
@@ -31,6 +32,12 @@ def is_ended(end):
     with suppress(ConnectionResetError):
         return read_all(end) == b""
     return True
+
+
+def memory_of(process):
+    """The memory of a program in kilobytes."""
+    with open(f"/proc/{process.pid}/status", encoding="ascii") as file:
+        return next(int(line.split()[1]) for line in file if line.startswith("VmRSS:"))
 
 
 @unittest.skipUnless(os.access(MPW, os.X_OK), f"{MPW} isn't built")
@@ -83,6 +90,41 @@ class Strangers(Served):
             with open(path, encoding="ascii") as file:
                 lines = [json.loads(line) for line in file]
         self.assertEqual([line["limit"] for line in lines if line["event"] == "limit"], ["memory"])
+
+    def test_denied_payloads(self):
+        """Equal payloads of a user that are denied take their memory once. After 256 MB of them no payload of that user is read, on any connection; other
+        requests are answered, and other users go on."""
+        payload = b"submit pad PAD 16777216\n" + bytes(1 << 24)
+        with tempfile.TemporaryDirectory() as folder:
+            path = os.path.join(folder, "desk.log")
+            with service(8, 1, "--ongoing", "--log", path) as served, served.desk() as officer:
+                officer.adduser("ann", "ann-token")
+                before = memory_of(served.process)
+                with served.connect() as first, served.connect() as second:
+                    for end in first, second:
+                        self.assertEqual(asked(end, b"open ann ann-token\n", reply=b"OK 0\n"), b"OK 0\n")
+                    for _ in range(16):
+                        self.assertEqual(asked(first, payload, reply=NO_PERMISSION), NO_PERMISSION)
+                    self.assertLess(memory_of(served.process) - before, 128 << 10)
+                    self.assertTrue(asked(first, reply=b"OK").startswith(b"OK"))
+                    for end in first, second:
+                        with suppress(ConnectionError):
+                            end.sendall(payload)
+                    self.assertTrue(is_ended(first))
+                    self.assertEqual(asked(second, b"", reply=NO_PERMISSION), NO_PERMISSION)
+                    with suppress(ConnectionError):
+                        second.sendall(payload)
+                    self.assertTrue(is_ended(second))
+                with served.connect() as end:
+                    self.assertEqual(asked(end, b"open ann ann-token\n", reply=b"OK 0\n"), b"OK 0\n")
+                    with suppress(ConnectionError):
+                        end.sendall(payload)
+                    self.assertTrue(is_ended(end))
+                grant_all(officer, "pad")
+                self.assertEqual(officer.submit("pad", "PAD", layouts.pad()), 1)
+            with open(path, encoding="ascii") as file:
+                lines = [json.loads(line) for line in file]
+        self.assertEqual([line["limit"] for line in lines if line["event"] == "limit"], ["memory"] * 3)
 
     def test_probe_is_no_call(self):
         """A client that connects and sends nothing makes no call."""

@@ -59,7 +59,8 @@ class OldStores(unittest.TestCase):
                 for script in LOOKS, CHANGES:
                     words = [MPW, "script", "--officer", "root", "--digest", DIGEST, "--store", store]
                     ended = subprocess.run(words, input=script, stdout=subprocess.PIPE, stderr=subprocess.PIPE, timeout=LIMIT)
-                    self.assertEqual((ended.returncode, ended.stderr), (0, b""))
+                    self.assertEqual(ended.returncode, 0, ended.stderr)
+                    self.assertRegex(ended.stderr.decode(), f"^mpw: {re.escape(store)} has [0-9]+ rows and [0-9]+ finished runs?\n$")
                     found += ended.stdout.decode().splitlines()
                 self.assertEqual(found, expected)
                 rows = rows_of(store)
