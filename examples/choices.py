@@ -69,6 +69,16 @@ def is_only_top():
         return differing(found, {"status": 1, "printed": LISTING, "told": []})
 
 
+def is_only_top_misnamed():
+    """The only structure has a blank in its name. That is the library's fault, and memory didn't run out for the name."""
+    with Folder() as folder:
+        text, name = folder.read("two-bars.gds"), record(6, 6, b"TOP\0")
+        folder.write("two-bars.gds", text.replace(name, record(6, 6, b"T P\0")))
+        status, printed, told = folder.run("check", *UNNAMED)
+        found = {"status": status, "printed": printed, "told": [line.partition(": a name is")[0] for line in told]}
+        return differing(found, {"status": 4, "printed": b"", "told": [f"error: two-bars.gds: badname at byte {text.index(name)}"]})
+
+
 def are_names_inside():
     """Names in a text and a node are those of no structure and no reference, so TOP is the only structure."""
     with Folder() as folder:
@@ -377,6 +387,7 @@ CASES = {
         ["--skip-layers", "5/0"], "error: a part is of the whole library: --skip-layers is for a check of all"
     ),
     "a structure that isn't named": is_only_top,
+    "a structure whose name isn't one": is_only_top_misnamed,
     "a structure that isn't named, with names in a text and a node": are_names_inside,
     "structures of which none is named": are_several_tops,
     "the times of a check's parts": has_times,

@@ -25,8 +25,22 @@ def rows_of(connection):
 
 
 *ROWS, GONE = rows_of(1)
+
+
+def report(rows, frames=0):
+    """What `mpw store check` prints of a sound store."""
+    owner = ["officer root"] if rows else []
+    return [f"rows {rows}", *owner, f"log frames {frames}", "frames after the last commit 0",
+            "not noticed: a change that became another valid one, the officer's token, and the loss of a whole log"]
+
+
 # What the standard error has when a store is made.
 NEW = ["mpw: desk.db is new"]
+
+
+def has(rows):
+    """What it has when a script goes on from a store of so many rows without a run."""
+    return [f"mpw: desk.db has {rows} rows and 0 finished runs"]
 
 
 class Folder:
@@ -78,7 +92,7 @@ def kept():
         found += differing("its soundness", folder.run("store", "check", "desk.db")[0], 0)
         again = ["whoami", "open ann abc", "whoami"]
         replies = ["DENIED session", "OK 0", "OK 2", "user ann", "authorized alpha"]
-        found += differing("the desk that goes on", folder.run(*SCRIPT, "desk.db", lines=again), (0, replies, []))
+        found += differing("the desk that goes on", folder.run(*SCRIPT, "desk.db", lines=again), (0, replies, has(10)))
         more = [f"11,2,request,open ann {DIGEST}", "12,2,gone,"]
         return found + differing("the rows then", folder.run("trail", "desk.db"), (0, [*ROWS, GONE, *more], []))
 
@@ -90,8 +104,8 @@ def killed():
         found = differing("a second process", folder.run(*SCRIPT, "desk.db")[0], 3)
         process.send_signal(signal.SIGKILL)
         process.communicate()
-        for what in ("the desk that goes on", "the same again"):
-            found += differing(what, folder.run(*SCRIPT, "desk.db"), (0, [], []))
+        for what, rows in ("the desk that goes on", 9), ("the same again", 10):
+            found += differing(what, folder.run(*SCRIPT, "desk.db"), (0, [], has(rows)))
             found += differing(f"its rows, {what}", folder.run("trail", "desk.db"), (0, [*ROWS, GONE], []))
         return found
 
@@ -117,20 +131,20 @@ def served():
         more = [f"11,{second},request,open ann {DIGEST}", f"12,{second},request,activate alpha", f"13,{second},gone,"]
         found += differing("the rows of two services", rows, [*rows_of(first), *more])
         found += differing("whether the second has a greater number", int(first) < int(second), True)
-        return found + differing("a script that goes on", folder.run(*SCRIPT, "desk.db", lines=["open ann abc"]), (0, ["OK 0"], []))
+        return found + differing("a script that goes on", folder.run(*SCRIPT, "desk.db", lines=["open ann abc"]), (0, ["OK 0"], has(13)))
 
 
-def refused(what, folder, words, name="desk.db", more=()):
-    """The file is refused with status 3 and a sentence that has the words; nothing is answered, and no file but a database's log is another than
-    before."""
+def refused(what, folder, words, name="desk.db", more=(), head=()):
+    """The file is refused with status 3 and a sentence that has the words, after the lines of a head; nothing is answered, and no file but a database's
+    log is another than before."""
     def sums():
         files = [file for file in folder.names() if os.path.isfile(folder.file(file)) and not file.endswith("-wal")]
         return {file: hashlib.sha256(open(folder.file(file), "rb").read()).hexdigest() for file in files}
 
     before = sums()
     status, printed, told = folder.run(*SCRIPT, name, *more, lines=["open root abc"])
-    found = differing(what, (status, printed, len(told)), (3, [], 1))
-    found += [f"{what}: told {line!r}, which has no {words!r}" for line in told if not (line.startswith("error: the store: ") and words in line)]
+    found = differing(what, (status, printed, told[:-1]), (3, [], list(head)))
+    found += [f"{what}: told {line!r}, which has no {words!r}" for line in told[-1:] if not (line.startswith("error: the store: ") and words in line)]
     return found + differing(f"{what}: the files", sums(), before)
 
 
@@ -158,11 +172,11 @@ def conditions():
         os.unlink(folder.file("desk.db"))
         found += differing("a new store", folder.run(*SCRIPT, "desk.db", "--new", lines=ASKED), (0, ["OK 0"] * 9, NEW))
         found += refused("a second new store", folder, "already", more=["--new"])
-        found += differing("an existing store", folder.run(*SCRIPT, "desk.db", "--existing", "--private"), (0, [], []))
+        found += differing("an existing store", folder.run(*SCRIPT, "desk.db", "--existing", "--private"), (0, [], has(10)))
         os.chmod(folder.file("desk.db"), 0o640)
         found += refused("a file that its group may read", folder, "chmod go-rw", more=["--private"])
         status, _, told = folder.run(*SCRIPT, "desk.db")
-        found += differing("it without --private", (status, [line.split(":")[0] for line in told]), (0, ["warning"]))
+        found += differing("it without --private", (status, [line.split(":")[0] for line in told]), (0, ["warning", "mpw"]))
         status, _, told = folder.run(*SCRIPT, "desk.db", "--new", "--existing")
         return found + differing("both", (status, [line.split(" exclude")[0] for line in told]), (2, ["error: --existing and --new"]))
 
@@ -204,7 +218,7 @@ def only_read():
             os.chmod(folder.file(name), 0o400)
         os.chmod(folder.path, 0o500)
         found = differing("its rows", folder.run("trail", "desk.db"), (0, ROWS, []))
-        found += differing("its soundness", folder.run("store", "check", "desk.db"), (0, ["rows 9"], []))
+        found += differing("its soundness", folder.run("store", "check", "desk.db"), (0, report(9, 12), []))
         os.chmod(folder.path, 0o700)
         return found + differing("its files", files(), before)
 
@@ -224,18 +238,18 @@ def bad_rows():
         with sqlite3.connect(folder.file("desk.db")) as store:
             store.execute("insert into changes values (11, 2, 1, 'addrole x', null)")
         store.close()
-        found = refused("a bad row", folder, "row 11 is no change")
+        found = refused("a bad row", folder, "row 11 is no change", head=has(11))
         another = [word.replace("root", "ann") for word in SCRIPT]
         status, printed, told = folder.run(*another, "desk.db")
-        found += differing("another officer", (status, printed, len(told)), (3, [], 1))
-        return found + [line for line in told if "another officer or token" not in line]
+        found += differing("another officer", (status, printed, told[:-1]), (3, [], has(11)))
+        return found + [line for line in told[-1:] if "another officer or token" not in line]
 
 
 def audited():
     """What is reported of a row with a payload, which is no change; and of rows without one."""
     with Folder() as folder:
         folder.run(*SCRIPT, "desk.db", lines=ASKED)
-        found = differing("a sound store", folder.run("store", "check", "desk.db"), (0, ["rows 10"], []))
+        found = differing("a sound store", folder.run("store", "check", "desk.db"), (0, report(10), []))
         with sqlite3.connect(folder.file("desk.db")) as store:
             store.execute("insert into changes values (11, 2, 1, 'frob', x'616263')")
         store.close()
@@ -258,7 +272,7 @@ def without_a_table():
     with Folder() as folder:
         open(folder.file("new.db"), "wb").close()
         found = differing("its listing", folder.run("trail", "new.db"), (0, ["place,connection,kind,line"], []))
-        found += differing("its soundness", folder.run("store", "check", "new.db"), (0, ["rows 0"], []))
+        found += differing("its soundness", folder.run("store", "check", "new.db"), (0, report(0), []))
         told = ["error: no row 1 has a payload"]
         found += differing("its payloads", folder.run("trail", "--payload", "1", "new.db"), (3, [], told))
         with sqlite3.connect(folder.file("other.db")) as other:
