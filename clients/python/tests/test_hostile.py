@@ -43,7 +43,8 @@ class Devices(unittest.TestCase):
             for closed in (">&-", ">&- 2>&-", "<&- >&- 2>&-"):
                 ended(["bash", "-c", f"{words} {closed}"], input=script)
             told, status, faults = ended(memory.script_words(path), input=b"open root abc\nactivate officer\naddrole beta\n")
-            self.assertEqual((told, status, faults), (b"OK 0\nOK 0\nOK 0\n", 0, ""))
+            # Each program whose input was open left the login and the end of its session.
+            self.assertEqual((told, status, faults), (b"OK 0\nOK 0\nOK 0\n", 0, f"mpw: {path} has 4 rows and 0 finished runs\n"))
 
 
 @unittest.skipUnless(os.access(memory.store.MPW, os.X_OK), f"{memory.store.MPW} isn't built")

@@ -109,7 +109,8 @@ pub fn picture<O: Outputs>(
     checked: &Checked<'_>,
 ) -> Result<(), FirmFault>
     requires { IsBoxInPlane view.window }
-    ensures kept { IfOk result (λ _. (drawn : Picture) × IsDrawnWith checked.now.layout.now (markers_of checked.now.found.now.held) (areas_of (map fault_of checked.now.faults.now)) (length (map fault_of checked.now.faults.now)) view drawn × Grows (O.kept outputs.old) (O.kept outputs.new) (in_file file.now (picture_text checked.now.layout.now.deck.rules checked.now.top.now drawn) ∷ [])) }
+    ensures kept { IfOk result (λ _. (drawn : Picture) × IsDrawnWith checked.now.layout.now (markers_of checked.now.found.now.held) (areas_of (map fault_of checked.now.faults.now)) (length (map fault_of checked.now.faults.now)) view drawn
+        × Grows (O.kept outputs.old) (O.kept outputs.new) (in_file file.now (picture_text checked.now.layout.now.deck.rules checked.now.top.now drawn) ∷ [])) }
     ensures refused { IfErr result (CannotBeWritten file.now) }
 {
     let areas = areas_of(alloc, checked.faults)?;
