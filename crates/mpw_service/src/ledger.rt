@@ -164,7 +164,7 @@ impl Payer {
         ledger.find(rt, text)
     }
 
-    /// Notes what came of the request. It returns whether the user may send no more payloads, if that may be another answer than before.
+    /// Notes what came of the request. It returns whether the user may send no more payloads, and `None` if that is as before.
     pub(crate) fn answer<R: Wait>(&mut self, rt: &R, ledger: &Ledger, fate: Fate) -> Option<bool> {
         if fate == Fate::Accepted {
             self.user = Some(self.opened.take()?);
