@@ -1,1 +1,2 @@
 pub mod DigestLemmas
+pub mod PartLemmas

@@ -1,2 +1,4 @@
 pub mod Digest
+pub mod Parts
+pub mod Table
 pub mod Words

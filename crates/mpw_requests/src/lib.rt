@@ -4,18 +4,26 @@
 
 mod digest;
 mod layouts;
+mod parts;
 mod policy;
 mod request;
 mod run;
 mod sign_off;
+mod table;
 mod wafer;
 mod words;
 
 pub use digest::{digest_of, read_digest};
 pub use layouts::LayoutRequest;
+pub use parts::{
+    Operands, Parts, Upload, parts_of, payload_of, request_of, requests_have_their_parts, upload_of,
+};
 pub use policy::{Digest, PolicyRequest};
 pub use request::{Request, SharedRequest, kept_request};
 pub use run::RunRequest;
 pub use sign_off::{MarkerName, SignOffRequest};
+pub use table::{ALL, Form, Shape, Verb, form_of, verb_of};
 pub use wafer::WaferRequest;
-pub use words::{axis_letter, is_on_cells};
+pub use words::{
+    axis_letter, axis_of, is_on_cells, operation_of, operation_word, orient_of, orient_word,
+};
