@@ -1,5 +1,4 @@
-pub mod WordLemmas
 pub mod ReadingLemmas
 pub mod PlacementLemmas
 pub mod KeyLemmas
-mod FormLemmas
+mod LastWord

@@ -4,12 +4,12 @@ use Rattle.std.proofs.lemmas.List.{at_drop_more}
 use Rattle.std.proofs.lemmas.List.Elements.{All-push}
 use Rattle.std.specs.Prelude.{IfErr}
 use Rattle.std.specs.Result.{IsErrAnd}
-use Rattle.mpw_wire.specs.declared.device.DeviceFault.{DeviceFault}
+use Rattle.mpw_devices.specs.declared.device.DeviceFault.{DeviceFault}
 use Rattle.mpw_wire.specs.declared.fault.WireFault.{WireFault}
 use Rattle.mpw_wire.specs.declared.fault.WireFault.TheVariants.{Read, Write, Memory}
 use Rattle.mpw_wire.specs.declared.request.LineAsk.{LineAsk}
 use Rattle.mpw_wire.specs.Reading.{IsUnbroken, Breaks, TakesTooFew, TakesUpTo, TakesOffer, TakesCut, TakesOfferFront, following}
-use Rattle.mpw_wire.specs.Device.{GivesByte}
+use Rattle.mpw_devices.specs.Device.{GivesByte}
 use Rattle.mpw_wire.specs.Internal.Reading.{BreaksBytes}
 use Rattle.mpw_wire.specs.declared.operand.Origin.{Origin}
 use Rattle.mpw_wire.specs.Names.{name_of, ◌>>=◌}

@@ -1,13 +1,11 @@
 -- The key of a marker, as a word of a line: the name of its rule, its axis, its side and four coordinates in
 -- nm, with colons between them. It is read from its end, since a name may have colons.
-use Rattle.std.specs.Prelude.{ℕ, ℤ, List, [], ◌∷◌, codes, Option, Some, None, ◌==◌, if◌then◌else◌}
-use Rattle.mpw_geom.specs.Names.{name_eq}
+use Rattle.std.specs.Prelude.{ℕ, ℤ, List, [], ◌∷◌, Option, Some, None, ◌==◌, if◌then◌else◌}
 use Rattle.mpw_text.specs.Text.{number_of}
 use Rattle.mpw_edges.specs.declared.run.Axis.{Axis}
-use Rattle.mpw_edges.specs.declared.run.Axis.TheVariants.{V, H}
 use Rattle.mpw_markers.specs.declared.marker.Key.{Key}
 use Rattle.mpw_requests.specs.declared.sign_off.MarkerName.{MarkerName}
-use Rattle.mpw_requests.specs.Words.{marker_key}
+use Rattle.mpw_requests.specs.Words.{marker_key, axis_of}
 use Rattle.mpw_wire.specs.declared.key.Spot.{Spot}
 use Rattle.mpw_wire.specs.declared.operand.Origin.{Origin}
 use Rattle.mpw_wire.specs.declared.operand.Origin.TheVariants.{Connection, Store}
@@ -51,13 +49,6 @@ cut_last (byte ∷ bytes) = behind (cut_last bytes)
     behind : Option (List ℕ × List ℕ) → Option (List ℕ × List ℕ)
     behind (Some parts) = Some (byte ∷ parts.0, parts.1)
     behind None = if byte == 0x3A then Some ([], bytes) else None
-
--- the axis of a letter
-unfoldable pub axis_of : List ℕ → Option Axis
-axis_of word =
-    if name_eq word (codes "V") then Some V
-    else if name_eq word (codes "H") then Some H
-    else None
 
 -- the greatest side: 1 on a connection, and in a store the greatest value of a byte
 unfoldable pub greatest_side : Origin → ℕ

@@ -1,4 +1,3 @@
-pub mod Device
 pub mod Keys
 pub mod Names
 pub mod Placement

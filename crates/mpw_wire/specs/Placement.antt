@@ -1,25 +1,9 @@
--- The words of a placing: an orientation, and coordinates in nm.
-use Rattle.std.specs.Prelude.{FitsSigned, ℕ, ℤ, pos, neg_ℤ, List, [], ◌∷◌, codes, Option, Some, None, option_map, ◌==◌, if◌then◌else◌}
+-- The coordinates of a line, in nm.
+use Rattle.std.specs.Prelude.{FitsSigned, ℕ, ℤ, pos, neg_ℤ, List, [], ◌∷◌, Option, None, option_map, ◌==◌, if◌then◌else◌}
 use Rattle.std.specs.Int.{w64}
 use Rattle.mpw_text.specs.Text.{number_of}
-use Rattle.mpw_geom.specs.Names.{name_eq}
-use Rattle.mpw_geom.specs.declared.plane.Orient.{Orient}
-use Rattle.mpw_geom.specs.declared.plane.Orient.TheVariants.{R0, R90, R180, R270, M0, M90, M180, M270}
 use Rattle.mpw_wire.specs.declared.operand.Origin.{Origin}
 use Rattle.mpw_wire.specs.declared.operand.Origin.TheVariants.{Connection, Store}
-
--- the orientation that a word names
-unfoldable pub orient_of : List ℕ → Option Orient
-orient_of word =
-    if name_eq word (codes "R0") then Some R0
-    else if name_eq word (codes "R90") then Some R90
-    else if name_eq word (codes "R180") then Some R180
-    else if name_eq word (codes "R270") then Some R270
-    else if name_eq word (codes "M0") then Some M0
-    else if name_eq word (codes "M90") then Some M90
-    else if name_eq word (codes "M180") then Some M180
-    else if name_eq word (codes "M270") then Some M270
-    else None
 
 -- how far below 0 a coordinate may be: 2^30 nm on a connection, and in a store as far as 64 bits allow
 unfoldable pub farthest_below : Origin → ℕ

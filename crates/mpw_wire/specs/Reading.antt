@@ -8,9 +8,8 @@ use Rattle.mpw_wire.specs.declared.fault.WireFault.TheVariants.{Read, Write, Mem
 use Rattle.mpw_wire.specs.declared.read.Asked.{Asked}
 use Rattle.mpw_wire.specs.declared.read.Asked.TheVariants as asked
 use Rattle.mpw_requests.specs.declared.request.Request.{Request}
-use Rattle.mpw_requests.specs.declared.request.Request.TheVariants.{Layout, Wafer}
-use Rattle.mpw_requests.specs.declared.layouts.LayoutRequest.TheVariants.{Submit}
-use Rattle.mpw_requests.specs.declared.wafer.WaferRequest.TheVariants.{Deck}
+use Rattle.mpw_requests.specs.declared.parts.Upload.{Upload}
+use Rattle.mpw_requests.specs.Parts.{uploaded}
 use Rattle.mpw_wire.specs.declared.request.LineAsk.{LineAsk}
 use Rattle.mpw_wire.specs.declared.request.LineAsk.TheVariants as ask
 use Rattle.mpw_wire.specs.Request.{ask_of}
@@ -63,8 +62,7 @@ TakesUpTo old new length_asked =
 -- the length of the payload of a line that asks for this
 abbrev pub following : LineAsk → Option ℕ
 following (ask.Request request) = None
-following (ask.Submission cell top length_asked) = Some length_asked
-following (ask.Deck length_asked) = Some length_asked
+following (ask.Upload upload length_asked) = Some length_asked
 following ask.Long = None
 following ask.Form = None
 
@@ -75,18 +73,13 @@ pub record TakesOffer (old new : Option (List ℕ)) (line : List ℕ) (asked : L
 
 -- ---- requests
 
--- the text of a request: its line, or the line that asks to submit or to upload a deck, with the payload
--- after it
+-- the text of a request: its line, or the line of an upload with the payload after it
 pub data IsText (old new : Option (List ℕ)) (line : List ℕ) : Request → Type 0 where
   alone : {request : Request} → TakesLine old new line → ask_of line ≡ ask.Request request
       → IsText old new line request
-  followed : {cell top payload : List ℕ} (mid : Option (List ℕ))
-      → TakesOffer old mid line (ask.Submission cell top (length payload))
-      → Consumes mid new payload
-      → IsText old new line (Layout (Submit cell top payload))
-  deck : {payload : List ℕ} (mid : Option (List ℕ))
-      → TakesOffer old mid line (ask.Deck (length payload)) → Consumes mid new payload
-      → IsText old new line (Wafer (Deck payload))
+  followed : (upload : Upload) (payload : List ℕ) (mid : Option (List ℕ))
+      → TakesOffer old mid line (ask.Upload upload (length payload)) → Consumes mid new payload
+      → IsText old new line (uploaded upload payload)
 
 -- a line that is too long, or whose payload would be
 abbrev pub TakesTooLong : Option (List ℕ) → Option (List ℕ) → Type 0
@@ -135,7 +128,5 @@ Breaks old new Memory = BreaksMemory old new
 
 -- how many failures the source has after a call with this fault: a fault of reading counts as one
 abbrev pub read_failures : Option WireFault → ℕ → ℕ
-read_failures None failures = failures
 read_failures (Some Read) failures = u64_saturate (failures + 1)
-read_failures (Some Write) failures = failures
-read_failures (Some Memory) failures = failures
+read_failures _ failures = failures

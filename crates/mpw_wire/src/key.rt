@@ -3,12 +3,12 @@
 //! A name may have colons, so a key is read from its end.
 ghost use Rattle.std.specs.Prelude.{◌≡◌, Some, None, IfOk, IfSome, IfNone};
 ghost use Rattle.mpw_text.specs.Text.{number_of};
-ghost use Rattle.mpw_wire.specs.Keys.{cut_last, axis_of, greatest_side, last_coordinate, last_side, last_axis, last_spot, key_of};
+ghost use Rattle.mpw_wire.specs.Keys.{cut_last, greatest_side, last_coordinate, last_side, last_axis, last_spot, key_of};
 
-use crate::operand::{Origin, is, name};
+use crate::operand::{Origin, name};
 use crate::placement::coordinate;
 use mpw_edges::Axis;
-use mpw_requests::MarkerName;
+use mpw_requests::{MarkerName, axis_of};
 use mpw_text::read_number;
 use std::alloc::{AllocError, Global};
 
@@ -42,20 +42,6 @@ fn cut_last(word: &[u8]) -> Option<(&[u8], &[u8])>
         }
     }
     None
-}
-
-/// The axis of a letter.
-#[tactic(auto, unfolding(crate::specs::Keys::axis_of))]
-fn axis(word: &[u8]) -> Option<Axis>
-    ensures { result ≡ axis_of word.now }
-{
-    if is(word, "V") {
-        Some(Axis::V)
-    } else if is(word, "H") {
-        Some(Axis::H)
-    } else {
-        None
-    }
 }
 
 /// The side that a word spells: 0 or 1 on a connection, and in a store any value of a byte.
@@ -102,7 +88,7 @@ fn last_axis(word: &[u8]) -> Option<(&[u8], Axis)>
     ensures none { IfNone result (last_axis word.now ≡ None) }
 {
     let (rest, field) = cut_last(word)?;
-    let axis = axis(field)?;
+    let axis = axis_of(field)?;
     Some((rest, axis))
 }
 

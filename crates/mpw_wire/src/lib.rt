@@ -1,22 +1,18 @@
-//! Reads requests from lines of text, and has the devices that the lines come from.
+//! Reads requests from lines of text.
 //!
 //! A request is a line of words with one space between them. After some lines comes a payload, whose number of bytes the line gives.
 //! [`parse_line`] reads such a line. [`read_request`] takes a line with its payload off a source. A token is turned into its SHA-256 digest
 //! at once, and is stored nowhere.
 #![tactic(auto)]
 
-mod device;
 mod fault;
-mod form;
 mod key;
 mod line;
 mod operand;
 mod placement;
 mod read;
 mod request;
-mod words;
 
-pub use device::{Counted, DeviceFault, Sink, Source};
 pub use fault::WireFault;
 pub use key::Spot;
 pub use line::MAX_LINE;

@@ -4,7 +4,8 @@ ghost use Rattle.mpw_wire.specs.Reading.{read_failures};
 ghost use Rattle.mpw_wire.specs.Internal.Reading.{Takes, BreaksLine, TakesBytes, BreaksBytes};
 ghost use Rattle.mpw_wire.specs.Writing.{fault_of};
 
-use crate::{Source, WireFault};
+use crate::WireFault;
+use mpw_devices::Source;
 use std::alloc::Global;
 
 /// The greatest number of bytes before a line feed.

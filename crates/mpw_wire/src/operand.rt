@@ -2,18 +2,17 @@
 //!
 //! A line comes from a connection or from a store. Both have the same forms, but they read some words differently: a connection has a token
 //! where a store has the digits of its digest.
-ghost use Rattle.std.specs.Prelude.{◌≡◌, IfOk};
+ghost use Rattle.std.specs.Prelude.{◌≡◌, map, IfOk};
 ghost use Rattle.mpw_geom.specs.Names.{name_eq};
-ghost use Rattle.mpw_wire.specs.Request.{token_of, digest_of, operation_of, object_by, object_of, grant_of, login_of, pair_of, names_of, set_of};
+ghost use Rattle.mpw_wire.specs.Request.{token_of, digest_of, object_by, object_of, grant_of, login_of, pair_of, names_of, set_of};
 ghost use Rattle.mpw_wire.specs.Names.{visible_of, name_of};
-ghost use Rattle.mpw_wire.specs.Words.{words};
 
 use hex::FromHex;
 use mpw_geom::{Name, NameFault, Names, is_name};
 use mpw_permissions::{Grant, Object, Operation};
-use mpw_requests::{Digest, digest_of, is_on_cells};
+use mpw_requests::{Digest, Operands, digest_of, is_on_cells, operation_of};
 use mpw_separation::SeparationSet;
-use mpw_text::{parts, read_count};
+use mpw_text::read_count;
 use std::alloc::{AllocError, Global};
 
 /// Where a line comes from.
@@ -83,38 +82,6 @@ fn digest(origin: Origin, word: &[u8]) -> Option<Digest>
     }
 }
 
-/// The operation that a word names.
-#[tactic(auto, unfolding(crate::specs::Request::operation_of))]
-fn operation(word: &[u8]) -> Option<Operation>
-    ensures { result ≡ operation_of word.now }
-{
-    if is(word, "submit") {
-        Some(Operation::Submit)
-    } else if is(word, "use") {
-        Some(Operation::Use)
-    } else if is(word, "read") {
-        Some(Operation::Read)
-    } else if is(word, "place") {
-        Some(Operation::Place)
-    } else if is(word, "admin") {
-        Some(Operation::Admin)
-    } else if is(word, "deck") {
-        Some(Operation::Deck)
-    } else if is(word, "run") {
-        Some(Operation::Run)
-    } else if is(word, "waive") {
-        Some(Operation::Waive)
-    } else if is(word, "sign") {
-        Some(Operation::Sign)
-    } else if is(word, "verdict") {
-        Some(Operation::Verdict)
-    } else if is(word, "audit") {
-        Some(Operation::Audit)
-    } else {
-        None
-    }
-}
-
 /// The cell of a name, or the desk, by a word.
 #[tactic(auto, unfolding(crate::specs::Request::object_by))]
 fn object_by(
@@ -162,10 +129,10 @@ pub(crate) fn grant(
     operation_word: &[u8],
     object_word: &[u8],
     role_word: &[u8],
-) -> Result<Option<Grant>, AllocError>
-    ensures { IfOk result (λ grant. grant ≡ grant_of origin operation_word.now object_word.now role_word.now) }
+) -> Result<Option<Operands>, AllocError>
+    ensures { IfOk result (λ operands. operands ≡ grant_of origin operation_word.now object_word.now role_word.now) }
 {
-    let Some(operation) = operation(operation_word) else {
+    let Some(operation) = operation_of(operation_word) else {
         return Ok(None);
     };
     let Some(object) = object(alloc, origin, operation, object_word)? else {
@@ -174,11 +141,11 @@ pub(crate) fn grant(
     let Some(role) = name(alloc, origin, role_word)? else {
         return Ok(None);
     };
-    Ok(Some(Grant {
+    Ok(Some(Operands::Grant(Grant {
         operation,
         object,
         role,
-    }))
+    })))
 }
 
 /// The user and the digest that two words give.
@@ -188,8 +155,8 @@ pub(crate) fn login(
     origin: Origin,
     user_word: &[u8],
     digest_word: &[u8],
-) -> Result<Option<(Name, Digest)>, AllocError>
-    ensures { IfOk result (λ login. login ≡ login_of origin user_word.now digest_word.now) }
+) -> Result<Option<Operands>, AllocError>
+    ensures { IfOk result (λ operands. operands ≡ login_of origin user_word.now digest_word.now) }
 {
     let Some(user) = name(alloc, origin, user_word)? else {
         return Ok(None);
@@ -197,7 +164,7 @@ pub(crate) fn login(
     let Some(digest) = digest(origin, digest_word) else {
         return Ok(None);
     };
-    Ok(Some((user, digest)))
+    Ok(Some(Operands::Login(user, digest)))
 }
 
 /// The two names that two words are.
@@ -207,8 +174,8 @@ pub(crate) fn pair(
     origin: Origin,
     first: &[u8],
     second: &[u8],
-) -> Result<Option<(Name, Name)>, AllocError>
-    ensures { IfOk result (λ pair. pair ≡ pair_of origin first.now second.now) }
+) -> Result<Option<Operands>, AllocError>
+    ensures { IfOk result (λ operands. operands ≡ pair_of origin first.now second.now) }
 {
     let Some(first) = name(alloc, origin, first)? else {
         return Ok(None);
@@ -216,16 +183,15 @@ pub(crate) fn pair(
     let Some(second) = name(alloc, origin, second)? else {
         return Ok(None);
     };
-    Ok(Some((first, second)))
+    Ok(Some(Operands::Pair(first, second)))
 }
 
-/// The names that the words of a text are.
-fn names(alloc: Global, origin: Origin, text: &[u8]) -> Result<Option<Names>, AllocError>
-    ensures { IfOk result (λ names. names ≡ names_of origin (words text.now)) }
+/// The names that the words are.
+fn names(alloc: Global, origin: Origin, words: &[&[u8]]) -> Result<Option<Names>, AllocError>
+    ensures { IfOk result (λ names. names ≡ names_of origin (map (λ word. word.now) words.now)) }
 {
-    let words = parts(alloc, text, b' ')?;
     let mut names = Names::new(alloc);
-    for word in &words {
+    for word in words {
         match name(alloc, origin, word)? {
             Some(name) => names.push(name)?,
             None => return Ok(None),
@@ -234,25 +200,28 @@ fn names(alloc: Global, origin: Origin, text: &[u8]) -> Result<Option<Names>, Al
     Ok(Some(names))
 }
 
-/// The set of roles that a name, a cardinality and the words of a text give.
+/// The set of roles that a name, a cardinality and roles give.
 #[tactic(auto, unfolding(crate::specs::Request::set_of))]
 pub(crate) fn set(
     alloc: Global,
     origin: Origin,
     name_word: &[u8],
     cardinality_word: &[u8],
-    roles_text: &[u8],
-) -> Result<Option<SeparationSet>, AllocError>
-    ensures { IfOk result (λ set. set ≡ set_of origin name_word.now cardinality_word.now (words roles_text.now)) }
+    role_words: &[&[u8]],
+) -> Result<Option<Operands>, AllocError>
+    ensures { IfOk result (λ operands. operands ≡ set_of origin name_word.now cardinality_word.now (map (λ word. word.now) role_words.now)) }
 {
     let Some(name) = name(alloc, origin, name_word)? else {
         return Ok(None);
     };
-    let Some(roles) = names(alloc, origin, roles_text)? else {
+    let Some(roles) = names(alloc, origin, role_words)? else {
         return Ok(None);
     };
     let Some(cardinality) = read_count(cardinality_word, 0, roles.as_slice().len()) else {
         return Ok(None);
     };
-    SeparationSet::new(name, cardinality, roles)
+    match SeparationSet::new(name, cardinality, roles)? {
+        Some(set) => Ok(Some(Operands::Set(set))),
+        None => Ok(None),
+    }
 }

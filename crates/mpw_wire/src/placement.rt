@@ -1,45 +1,17 @@
 //! Placings, from the words of a line: an orientation, and coordinates in nm.
 ghost use Rattle.std.specs.Prelude.{◌≡◌, pos, IfOk, option_map};
-ghost use Rattle.mpw_wire.specs.Placement.{orient_of, farthest_below, farthest_above, negative, coordinate_of};
+ghost use Rattle.mpw_wire.specs.Placement.{farthest_below, farthest_above, negative, coordinate_of};
 ghost use Rattle.mpw_text.specs.Text.{number_of};
-ghost use Rattle.mpw_wire.specs.Request.{placing_by, placing_of, placement_of};
-ghost use Rattle.mpw_wire.specs.Words.{words};
+ghost use Rattle.mpw_wire.specs.Request.{placing_of, placement_of};
 
-use crate::operand::{Origin, is, pair};
-use crate::words::{Arguments, read_arguments};
-use mpw_geom::{Orient, Placing, Point};
-use mpw_requests::WaferRequest;
+use crate::operand::{Origin, name};
+use mpw_geom::{Placing, Point};
+use mpw_requests::{Operands, orient_of};
 use mpw_text::read_count;
 use std::alloc::{AllocError, Global};
 
 /// The largest distance of a connection's coordinate from 0, in nm.
 const MAX_COORDINATE: usize = 1 << 30;
-
-/// The orientation that a word names.
-#[tactic(auto, unfolding(crate::specs::Placement::orient_of))]
-fn orient(word: &[u8]) -> Option<Orient>
-    ensures { result ≡ orient_of word.now }
-{
-    if is(word, "R0") {
-        Some(Orient::R0)
-    } else if is(word, "R90") {
-        Some(Orient::R90)
-    } else if is(word, "R180") {
-        Some(Orient::R180)
-    } else if is(word, "R270") {
-        Some(Orient::R270)
-    } else if is(word, "M0") {
-        Some(Orient::M0)
-    } else if is(word, "M90") {
-        Some(Orient::M90)
-    } else if is(word, "M180") {
-        Some(Orient::M180)
-    } else if is(word, "M270") {
-        Some(Orient::M270)
-    } else {
-        None
-    }
-}
 
 /// The number below 0 with these digits, at most as far from 0 as a line of that origin allows.
 #[tactic(auto, using(crate::proofs::PlacementLemmas::within), unfolding(crate::specs::Placement::farthest_below))]
@@ -83,11 +55,11 @@ pub(crate) fn coordinate(origin: Origin, word: &[u8]) -> Option<i64>
 }
 
 /// The placing that an orientation and two coordinates give.
-#[tactic(auto, unfolding(crate::specs::Request::placing_by))]
-fn placing_by(origin: Origin, orient_word: &[u8], x: &[u8], y: &[u8]) -> Option<Placing>
-    ensures { result ≡ placing_by origin orient_word.now x.now y.now }
+#[tactic(auto, unfolding(crate::specs::Request::placing_of))]
+pub(crate) fn placing(origin: Origin, orient_word: &[u8], x: &[u8], y: &[u8]) -> Option<Placing>
+    ensures { result ≡ placing_of origin orient_word.now x.now y.now }
 {
-    let orient = orient(orient_word)?;
+    let orient = orient_of(orient_word)?;
     let x = coordinate(origin, x)?;
     let y = coordinate(origin, y)?;
     Some(Placing {
@@ -96,38 +68,25 @@ fn placing_by(origin: Origin, orient_word: &[u8], x: &[u8], y: &[u8]) -> Option<
     })
 }
 
-/// The placing of the words of a text.
-fn placing(origin: Origin, text: &[u8]) -> Option<Placing>
-    ensures { result ≡ placing_of origin (words text.now) }
-{
-    match read_arguments(Some(text)) {
-        Arguments::Three(orient, x, y) => placing_by(origin, orient, x, y),
-        Arguments::Zero | Arguments::One(_) | Arguments::Two(_, _) | Arguments::More(_, _, _) => {
-            None
-        }
-    }
-}
-
-/// The placement of a cell under a label, by two words and those of a text.
+/// The placement of a cell under a label, by the words of these names and those of a placing.
 #[tactic(auto, unfolding(crate::specs::Request::placement_of))]
 pub(crate) fn placement(
     alloc: Global,
     origin: Origin,
     cell_word: &[u8],
     label_word: &[u8],
-    text: &[u8],
-) -> Result<Option<WaferRequest>, AllocError>
-    ensures { IfOk result (λ request. request ≡ placement_of origin cell_word.now label_word.now (words text.now)) }
+    placing: Option<Placing>,
+) -> Result<Option<Operands>, AllocError>
+    ensures { IfOk result (λ operands. operands ≡ placement_of origin cell_word.now label_word.now placing) }
 {
-    let Some((cell, label)) = pair(alloc, origin, cell_word, label_word)? else {
+    let Some(cell) = name(alloc, origin, cell_word)? else {
         return Ok(None);
     };
-    let Some(placing) = placing(origin, text) else {
+    let Some(label) = name(alloc, origin, label_word)? else {
         return Ok(None);
     };
-    Ok(Some(WaferRequest::Place {
-        cell,
-        label,
-        placing,
-    }))
+    match placing {
+        Some(placing) => Ok(Some(Operands::Placement(cell, label, placing))),
+        None => Ok(None),
+    }
 }

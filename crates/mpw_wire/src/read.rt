@@ -2,15 +2,13 @@
 ghost use Rattle.std.specs.Prelude.{◌≡◌, ℕ, List, Option, IfOk, IfErr};
 ghost use Rattle.mpw_wire.specs.Reading.{Reads, Breaks, TakesOffer, read_failures};
 ghost use Rattle.mpw_wire.specs.Writing.{fault_of};
-ghost use Rattle.mpw_wire.specs.declared.request.LineAsk.TheVariants.{Submission, Deck};
+ghost use Rattle.mpw_wire.specs.declared.request.LineAsk.TheVariants as ask;
 
+use crate::WireFault;
 use crate::line::{Taken, take_bytes, take_line};
 use crate::request::{LineAsk, parse_line};
-use crate::{Source, WireFault};
-use mpw_deck::DeckText;
-use mpw_geom::Name;
-use mpw_library::LibraryText;
-use mpw_requests::{LayoutRequest, Request, SharedRequest, WaferRequest};
+use mpw_devices::Source;
+use mpw_requests::{SharedRequest, Upload};
 use std::alloc::Global;
 
 /// What the next line of the input asks for.
@@ -28,39 +26,20 @@ pub enum Asked {
     End,
 }
 
-/// Reads the payload of a submission.
-fn read_submission<R: Source>(
+/// Reads the payload of an upload.
+fn read_upload<R: Source>(
     alloc: Global,
     reader: &mut R,
-    cell: Name,
-    top: Name,
+    upload: Upload,
     length: usize,
 ) -> Result<Asked, WireFault>
-    ensures asked { (old : Option (List ℕ)) (line : List ℕ) → TakesOffer old (R.remaining reader.old) line (Submission cell top length) → IfOk result (Reads old (R.remaining reader.new)) }
-    ensures fault { (old : Option (List ℕ)) (line : List ℕ) → TakesOffer old (R.remaining reader.old) line (Submission cell top length) → IfErr result (Breaks old (R.remaining reader.new)) }
+    ensures asked { (old : Option (List ℕ)) (line : List ℕ) → TakesOffer old (R.remaining reader.old) line (ask.Upload upload length) → IfOk result (Reads old (R.remaining reader.new)) }
+    ensures fault { (old : Option (List ℕ)) (line : List ℕ) → TakesOffer old (R.remaining reader.old) line (ask.Upload upload length) → IfErr result (Breaks old (R.remaining reader.new)) }
     ensures failures { R.failures reader.new ≡ read_failures (fault_of result) (R.failures reader.old) }
 {
     match take_bytes(alloc, reader, length)? {
         Some(bytes) => {
-            let text = LibraryText::read(alloc, bytes)?;
-            let request = Request::Layout(LayoutRequest::Submit { cell, top, text });
-            let shared = SharedRequest::new(alloc, request)?;
-            Ok(Asked::Request(shared))
-        }
-        None => Ok(Asked::Cut),
-    }
-}
-
-/// Reads the payload of a deck.
-fn read_deck<R: Source>(alloc: Global, reader: &mut R, length: usize) -> Result<Asked, WireFault>
-    ensures asked { (old : Option (List ℕ)) (line : List ℕ) → TakesOffer old (R.remaining reader.old) line (Deck length) → IfOk result (Reads old (R.remaining reader.new)) }
-    ensures fault { (old : Option (List ℕ)) (line : List ℕ) → TakesOffer old (R.remaining reader.old) line (Deck length) → IfErr result (Breaks old (R.remaining reader.new)) }
-    ensures failures { R.failures reader.new ≡ read_failures (fault_of result) (R.failures reader.old) }
-{
-    match take_bytes(alloc, reader, length)? {
-        Some(bytes) => {
-            let text = DeckText::read(alloc, bytes)?;
-            let request = Request::Wafer(WaferRequest::Deck { text });
+            let request = upload.with(alloc, bytes)?;
             let shared = SharedRequest::new(alloc, request)?;
             Ok(Asked::Request(shared))
         }
@@ -81,10 +60,7 @@ pub fn read_request<R: Source>(alloc: Global, reader: &mut R) -> Result<Asked, W
     match take_line(alloc, reader)? {
         Taken::Line(line) => match parse_line(alloc, line.as_slice())? {
             LineAsk::Request(request) => Ok(Asked::Request(request)),
-            LineAsk::Submission { cell, top, length } => {
-                read_submission(alloc, reader, cell, top, length)
-            }
-            LineAsk::Deck { length } => read_deck(alloc, reader, length),
+            LineAsk::Upload { upload, length } => read_upload(alloc, reader, upload, length),
             LineAsk::Long => Ok(Asked::Long),
             LineAsk::Form => Ok(Asked::Form),
         },

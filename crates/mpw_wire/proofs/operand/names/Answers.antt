@@ -1,23 +1,18 @@
-use Rattle.std.proofs.Common.{rules, ◌≡◌, ◌∙◌, sym, ap, map, length, append-nil, drop, ◌≤◌, subst, [], Some, ◌<◌, ◌+◌}
+use Rattle.std.proofs.Common.{rules, ◌∙◌, sym, ap, map, length, append-nil, drop, ◌≤◌, subst, [], Some, ◌<◌, ◌+◌}
 use Rattle.std.proofs.lemmas.List.{get_or-map, length-map}
 use Rattle.std.proofs.Math.ListN.{drop_of_length-le}
 use Rattle.mpw_wire.specs.Request.{names_of}
-use Rattle.mpw_wire.specs.Words.{words}
 use Rattle.mpw_wire.proofs.ReadingLemmas.{with_names, with_no_names, names_next, names_none}
 use Rattle.mpw_wire.proofs.operand.names.Goals as goal
 
 pub loop-word-init : goal.loop-word-init
-unfolding words
 loop-word-init c =
-    let items = c.deref-word-items.result.now in
-    let words_are : map (λ word. word.now) items ≡ words c.args.text.now =
-    ap (map (λ word. word.now)) c.deref-word-items.ensures.value ∙ c.in_ok-words.ensures in
-    ap (λ n. with_names n (names_of c.args.origin (map (λ word. word.now) items)))
-    c.new-names.ensures ∙ with_no_names _ ∙ ap (names_of c.args.origin) words_are
+    let ws = map (λ word. word.now) c.args.words.now in
+    ap (λ n. with_names n (names_of c.args.origin ws)) c.new-names.ensures ∙ with_no_names _
 
 pub returns-in-None : goal.returns-in-None
 returns-in-None c =
-    let items = c.deref-word-items.result.now in
+    let items = c.args.words.now in
     let ws = map (λ word. word.now) items in
     let within : c.loop-word.word-index < length ws = subst (λ n. c.loop-word.word-index < n)
     (sym (length-map items (λ word. word.now))) (search rules) in
@@ -28,7 +23,7 @@ returns-in-None c =
 
 pub loop-word-preserved : goal.loop-word-preserved
 loop-word-preserved c =
-    let items = c.deref-word-items.result.now in
+    let items = c.args.words.now in
     let ws = map (λ word. word.now) items in
     let within : c.loop-word.word-index < length ws = subst (λ n. c.loop-word.word-index < n)
     (sym (length-map items (λ word. word.now))) (search rules) in
@@ -41,7 +36,7 @@ loop-word-preserved c =
 pub returns : goal.returns
 unfolding names_of
 returns c =
-    let items = c.deref-word-items.result.now in
+    let items = c.args.words.now in
     let ws = map (λ word. word.now) items in
     let past : length ws ≤ c.loop-word.word-index = subst (λ n. n ≤ c.loop-word.word-index)
     (sym (length-map items (λ word. word.now))) (search rules) in
