@@ -1,12 +1,15 @@
 -- Decision tables of requests: the tests in order. The first that fails decides the reply.
-use Rattle.std.specs.Prelude.{◌≡◌, List, Option, None, Some, Result, Ok, Err}
+use Rattle.std.specs.Prelude.{◌≡◌, List, map, Option, None, Some, Result, Ok, Err}
 use Rattle.mpw_permissions.specs.declared.permission.Operation.{Operation}
 use Rattle.mpw_permissions.specs.declared.permission.Object.{Object}
-use Rattle.mpw_replies.specs.Listing.{Listed}
+use Rattle.mpw_replies.specs.Listing.{Listed, stored}
+use Rattle.mpw_replies.specs.declared.reply.Line.{Line}
 use Rattle.mpw_replies.specs.declared.reply.Code.{Code}
 use Rattle.mpw_replies.specs.declared.reply.Denial.TheVariants as denial
 use Rattle.mpw_replies.specs.declared.reply.Reply.{Reply}
 use Rattle.mpw_replies.specs.declared.reply.Reply.TheVariants as reply
+use Rattle.mpw_replies.specs.declared.row.Done.{Done}
+use Rattle.mpw_replies.specs.declared.row.Done.TheVariants.{Lists, Changes}
 use Rattle.mpw_replies.specs.declared.row.Ending.{Ending}
 use Rattle.mpw_replies.specs.declared.row.Ending.TheVariants as ending
 use Rattle.mpw_replies.specs.declared.row.Fault.{Fault}
@@ -14,19 +17,24 @@ use Rattle.mpw_replies.specs.declared.row.Fault.TheVariants as fault
 
 -- One part of a decision table after another: a failed test takes the place of a value.
 infixl 10 ◌>>=◌
-abbrev pub ◌>>=◌ : {A B : Type 0} → Result A Ending → (A → Result B Ending) → Result B Ending
+abbrev pub ◌>>=◌ : {A B E : Type 0} → Result A E → (A → Result B E) → Result B E
 (Ok x) >>= f = f x
-(Err ending) >>= f = Err ending
+(Err e) >>= f = Err e
+
+-- A decision table that lists: its lines, by what passed.
+abbrev pub listing : {A E P : Type 0} → (A → List Listed) → Result A E → Result (Done P) E
+listing lines (Ok x) = Ok (Lists (lines x))
+listing lines (Err e) = Err e
+
+-- A decision table that changes a part of the desk: the changed part and the lines, by what passed.
+abbrev pub changing : {A E P : Type 0} → (A → P) → (A → List Line) → Result A E → Result (Done P) E
+changing part lines (Ok x) = Ok (Changes (part x) (map stored (lines x)))
+changing part lines (Err e) = Err e
 
 -- The reply of the test that failed.
 abbrev pub ended_by : Ending → Reply
 ended_by (ending.Denied why) = reply.Denied why
 ended_by (ending.Refused why) = reply.Refused why
-
--- The reply of a decision table that lists.
-abbrev pub listing_reply : Result (List Listed) Ending → Reply
-listing_reply (Ok lines) = reply.Ok lines
-listing_reply (Err ending) = ended_by ending
 
 abbrev pub denied : Operation → Object → Ending
 denied operation object = ending.Denied (denial.Permission operation object)
@@ -46,10 +54,14 @@ abbrev pub Answers : {A B : Type 0} → (A → B) → Result A Fault → Result 
 Answers view (Ok x) row = row ≡ Ok (view x)
 Answers view (Err e) row = Told e row
 
--- The reply is that of the failed test. Out of memory has no reply.
-abbrev pub IsToldBy : Fault → Reply → Type 0
-IsToldBy fault.Memory r = ⊥
-IsToldBy (fault.Told ending) r = r ≡ ended_by ending
+-- The answer of a function of a whole decision table, where the part that the code made stands for the
+-- table's.
+abbrev pub AnswersBy : {P Q : Type 0} → (P → Q → Type 0) → Result (Done P) Fault
+    → Result (Done Q) Ending → Type 0
+AnswersBy stands (Ok (Lists lines)) row = row ≡ Ok (Lists lines)
+AnswersBy {Q = Q} stands (Ok (Changes part lines)) row =
+    (q : Q) × (stands part q × (row ≡ Ok (Changes q lines)))
+AnswersBy stands (Err e) row = Told e row
 
 -- A reply that denies or refuses.
 abbrev pub IsNegative : Reply → Type 0

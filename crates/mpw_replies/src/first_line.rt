@@ -3,32 +3,13 @@
 //! The trail has the same words for each request, so they are defined here. They take no memory.
 ghost use Rattle.std.specs.Prelude.{◌≡◌};
 ghost use Rattle.std.specs.List.{flat_map};
-ghost use Rattle.mpw_replies.specs.FirstLineText.{operation_text, object_text, denial_word, denial_text, fault_text, deck_text, code_text};
+ghost use Rattle.mpw_replies.specs.FirstLineText.{object_text, denial_word, denial_text, fault_text, deck_text, code_text};
 
 use crate::reply::{Code, Denial};
 use mpw_deck::DeckKind;
-use mpw_permissions::{Object, Operation};
+use mpw_permissions::Object;
 use mpw_records::Code as TextFault;
-
-/// The word of an operation. It takes no memory.
-#[tactic(auto, unfolding(crate::specs::FirstLineText::operation_text))]
-pub fn operation_word(operation: &Operation) -> &str
-    ensures { result.now ≡ operation_text operation.now }
-{
-    match operation {
-        Operation::Submit => "submit",
-        Operation::Use => "use",
-        Operation::Read => "read",
-        Operation::Place => "place",
-        Operation::Admin => "admin",
-        Operation::Deck => "deck",
-        Operation::Run => "run",
-        Operation::Waive => "waive",
-        Operation::Sign => "sign",
-        Operation::Verdict => "verdict",
-        Operation::Audit => "audit",
-    }
-}
+use mpw_requests::operation_word;
 
 /// The word of an object.
 #[tactic(auto, unfolding(crate::specs::FirstLineText::object_text))]

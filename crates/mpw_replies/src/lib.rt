@@ -18,13 +18,12 @@ mod sight;
 mod trail;
 
 pub use entry::{Entry, FirstLine};
-pub use first_line::{code_words, denial_parts, operation_word};
+pub use first_line::{code_words, denial_parts};
 pub use lines::{Kept, Lines};
 pub use listing::{ShapeListing, ShapeView, ShapeViews};
 pub use markers::{MarkerLines, MarkerListing, MarkerView, MarkerViews};
 pub use masked::{MaskedView, MaskedViews};
 pub use met::MetCells;
 pub use reply::{Code, Denial, Line, Reply};
-pub use request_words::run_word;
-pub use row::{Ending, Fault, listing_reply, need};
+pub use row::{Done, Ending, Fault, need};
 pub use trail::{Trail, TrailBlock, TrailListing};

@@ -1,12 +1,19 @@
-//! The result of a request's decision table: a value, or the denial or refusal of the first test that fails.
-ghost use Rattle.std.specs.Prelude.{◌≡◌, IfOk, IfErr, OnErr, List, Result, Err, option_map};
-ghost use Rattle.mpw_replies.specs.Rows.{Answers, IsToldBy, ended_by, listing_reply, needed};
-ghost use Rattle.mpw_replies.specs.Listing.{Listed};
-ghost use Rattle.mpw_replies.specs.declared.row.Ending.{Ending as AnyEnding};
+//! The result of a request's decision table: what it lists or changes, or the denial or refusal of the first test that fails.
+ghost use Rattle.std.specs.Prelude.{◌≡◌, IfErr, option_map};
+ghost use Rattle.mpw_replies.specs.Rows.{Answers, ended_by, needed};
 ghost use Rattle.mpw_replies.specs.declared.row.Fault.TheVariants.{Memory};
 
 use crate::{Code, Denial, Lines, Reply};
 use std::alloc::AllocError;
+
+/// What the decision table of a request gives if all its tests pass.
+#[derive(Drop)]
+pub enum Done<P> {
+    /// The reply has these lines, and nothing changes.
+    Lists(Lines),
+    /// This part of the desk changes, and the reply has these lines.
+    Changes { part: P, lines: Lines },
+}
 
 /// The first test that fails ends the table: with a denial or a refusal.
 #[derive(Drop)]
@@ -45,20 +52,6 @@ impl Fault {
     {
         Fault::Told(Ending::Refused(code))
     }
-
-    /// The reply of the test that failed.
-    ///
-    /// # Errors
-    /// Out of memory, which has no reply.
-    pub fn reply(self) -> Result<Reply, AllocError>
-        ensures told { IfOk result (IsToldBy self) }
-        ensures memory { OnErr result (self ≡ Memory) }
-    {
-        match self {
-            Fault::Told(ending) => Ok(ending.reply()),
-            Fault::Memory => Err(AllocError),
-        }
-    }
 }
 
 impl From<AllocError> for Fault {
@@ -66,20 +59,6 @@ impl From<AllocError> for Fault {
 
     fn from(_error: AllocError) -> Fault {
         Fault::Memory
-    }
-}
-
-/// The reply of a request that lists: its lines, or the test that failed.
-///
-/// # Errors
-/// Out of memory, which has no reply.
-pub fn listing_reply(made: Result<Lines, Fault>) -> Result<Reply, AllocError>
-    ensures told { (row : Result (List Listed) AnyEnding) → Answers (λ lines. lines) made row → IfOk result (λ reply. reply ≡ listing_reply row) }
-    ensures memory { OnErr result (made ≡ Err Memory) }
-{
-    match made {
-        Ok(lines) => Ok(Reply::Ok(lines)),
-        Err(fault) => fault.reply(),
     }
 }
 

@@ -6,8 +6,9 @@ ghost use Rattle.mpw_wire.specs.Writing.{Writes};
 
 use crate::write::write_whole_line;
 use itoa::Buffer;
+use mpw_devices::Sink;
 use mpw_replies::{Code, Denial, code_words, denial_parts};
-use mpw_wire::{Sink, WireFault};
+use mpw_wire::WireFault;
 
 /// Writes how many lines follow.
 pub(crate) fn write_count<W: Sink>(writer: &mut W, count: usize) -> Result<(), WireFault>

@@ -6,11 +6,12 @@ ghost use Rattle.mpw_wire.specs.Writing.{Writes};
 
 use crate::write::write_parts;
 use itoa::Buffer;
+use mpw_devices::Sink;
 use mpw_geom::Name;
 use mpw_markers::Key;
 use mpw_requests::{MarkerName, axis_letter};
 use mpw_text::with_colons;
-use mpw_wire::{Sink, Spot, WireFault};
+use mpw_wire::{Spot, WireFault};
 
 /// The place of a key's marker.
 pub(crate) fn spot_of(key: Key) -> Spot

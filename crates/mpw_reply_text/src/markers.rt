@@ -10,9 +10,10 @@ ghost use Rattle.mpw_wire.specs.Writing.{Writes};
 use crate::key::{spot_of, write_key};
 use crate::write::write_parts;
 use itoa::Buffer;
+use mpw_devices::Sink;
 use mpw_geom::Name;
 use mpw_replies::{MarkerListing, MarkerView, MarkerViews, MaskedViews, MetCells};
-use mpw_wire::{Sink, WireFault};
+use mpw_wire::WireFault;
 
 /// Writes a cell, after a space.
 fn write_met_cell<W: Sink>(writer: &mut W, cell: &Name) -> Result<(), WireFault>

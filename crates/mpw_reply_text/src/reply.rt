@@ -10,8 +10,9 @@ use crate::reply_line::write_line;
 use crate::shape::write_shapes;
 use crate::trail::write_trail;
 use crate::write::{flush, write_whole_line};
+use mpw_devices::Sink;
 use mpw_replies::{Kept, Line, Lines, Reply};
-use mpw_wire::{Sink, WireFault};
+use mpw_wire::WireFault;
 
 /// Writes stored lines.
 fn write_stored<W: Sink>(writer: &mut W, lines: &[Line]) -> Result<(), WireFault>

@@ -6,10 +6,11 @@ ghost use Rattle.mpw_wire.specs.Writing.{Writes};
 use crate::key::write_marker_key;
 use crate::write::write_parts;
 use itoa::Buffer;
+use mpw_devices::Sink;
 use mpw_geom::Name;
 use mpw_replies::Line;
 use mpw_requests::MarkerName;
-use mpw_wire::{Sink, WireFault};
+use mpw_wire::WireFault;
 
 /// Writes a line of a word and a number.
 fn write_numbered<W: Sink>(writer: &mut W, word: &str, number: u32) -> Result<(), WireFault>

@@ -12,10 +12,11 @@ ghost use Rattle.mpw_wire.specs.Writing.{Writes};
 
 use crate::write::write_parts;
 use itoa::Buffer;
+use mpw_devices::Sink;
 use mpw_geom::{Layer, Name, Placing, Point};
 use mpw_replies::{ShapeListing, ShapeView};
 use mpw_structures::{Boundary, Element, Path, Points};
-use mpw_wire::{Sink, WireFault};
+use mpw_wire::WireFault;
 
 /// Writes a point, after a space.
 fn write_point<W: Sink>(writer: &mut W, point: Point) -> Result<(), WireFault>

@@ -4,7 +4,8 @@ ghost use Rattle.std.specs.List.{flat_map};
 ghost use Rattle.mpw_reply_text.specs.Lines.{line_feed};
 ghost use Rattle.mpw_wire.specs.Writing.{Writes};
 
-use mpw_wire::{Sink, WireFault};
+use mpw_devices::Sink;
+use mpw_wire::WireFault;
 
 /// Writes the bytes, in as many calls as the sink takes.
 ///
@@ -24,7 +25,10 @@ pub fn write_bytes<W: Sink>(writer: &mut W, bytes: &[u8]) -> Result<(), WireFaul
 }
 
 /// Writes the texts in their order.
-pub(crate) fn write_parts<W: Sink>(writer: &mut W, parts: &[&str]) -> Result<(), WireFault>
+///
+/// # Errors
+/// `Write` if the sink failed. It then has a part of the bytes.
+pub fn write_parts<W: Sink>(writer: &mut W, parts: &[&str]) -> Result<(), WireFault>
     ensures { Writes W.contents W.failures writer.old writer.new result (flat_map (λ part. part.now) parts.now) }
 {
     for part in parts {
