@@ -1,5 +1,5 @@
 -- The requests of the layouts: each with its tests in order, and its result if all pass.
-use Rattle.std.specs.Prelude.{ℕ, ◌^◌, Bool, true, false, not, List, [], ◌∷◌, ◌++◌, map, is_some, slice_get, Option, None, Some, Result, Ok, Err, if◌then◌else◌}
+use Rattle.std.specs.Prelude.{ℕ, ◌^◌, Bool, not, List, [], ◌∷◌, ◌++◌, map, is_some, slice_get, Option, None, Some, Result, Ok, Err, if◌then◌else◌}
 use Rattle.std.specs.List.{flat_map}
 use Rattle.mpw_geom.specs.Names.{by_name}
 use Rattle.mpw_records.specs.declared.fault.ReadFault.{ReadFault}
@@ -23,13 +23,12 @@ use Rattle.mpw_requests.specs.declared.layouts.LayoutRequest.{LayoutRequest}
 use Rattle.mpw_requests.specs.declared.layouts.LayoutRequest.TheVariants as ask
 use Rattle.mpw_replies.specs.Listing.{Listed, stored, line_if}
 use Rattle.mpw_access.specs.Seen.{may_read}
-use Rattle.mpw_replies.specs.Rows.{◌>>=◌, denied, ended_by, listing_reply}
+use Rattle.mpw_replies.specs.Rows.{◌>>=◌, changing, denied, listing}
 use Rattle.mpw_access.specs.Permitted.{in_session, permitted}
 use Rattle.mpw_replies.specs.declared.reply.Line.{Line}
 use Rattle.mpw_replies.specs.declared.reply.Line.TheVariants as line
 use Rattle.mpw_replies.specs.declared.reply.Code.TheVariants as code
-use Rattle.mpw_replies.specs.declared.reply.Reply.{Reply}
-use Rattle.mpw_replies.specs.declared.reply.Reply.TheVariants as reply
+use Rattle.mpw_replies.specs.declared.row.Done.{Done}
 use Rattle.mpw_replies.specs.declared.row.Ending.{Ending}
 use Rattle.mpw_replies.specs.declared.row.Ending.TheVariants as ending
 
@@ -152,33 +151,15 @@ shapes policy shelf connection cell = do
   number ← present_number (present shelf cell)
   Ok (flat_map (readable_shape policy shelf connection) (flat shelf number))
 
--- ---- the outcome of a request
+-- ---- each request
 
--- A reply with the shelf after it, and whether that is a change, which must be stored.
-pub record Outcome : Type 0 where
-  pub reply : Reply
-  pub shelf : List Submission
-  pub changes : Bool
-
-abbrev pub no_change : Reply → List Submission → Outcome
-no_change told shelf = record { reply = told; shelf = shelf; changes = false }
-
--- A submission is added at the end of the shelf, and the reply has its version.
-abbrev pub submit_outcome : List Submission → Result Submission Ending → Outcome
-submit_outcome shelf (Ok s) = record {
-  reply = reply.Ok (stored (line.Version s.version) ∷ []);
-  shelf = shelf ++ s ∷ [];
-  changes = true;
-}
-submit_outcome shelf (Err ending) = no_change (ended_by ending) shelf
-
-abbrev pub listing_outcome : List Submission → Result (List Listed) Ending → Outcome
-listing_outcome shelf row = no_change (listing_reply row) shelf
-
--- Each request by its decision table.
-abbrev pub outcome_of : Policy → List Submission → ℕ → LayoutRequest → Outcome
-outcome_of policy shelf connection (ask.Submit cell top text) =
-    submit_outcome shelf (submit_row policy shelf connection cell top text)
-outcome_of policy shelf connection ask.Cells = listing_outcome shelf (cells policy shelf connection)
-outcome_of policy shelf connection (ask.Shapes cell) =
-    listing_outcome shelf (shapes policy shelf connection cell)
+-- The decision table of each request. An accepted submission is added at the end of the shelf, and the reply
+-- has its version.
+abbrev pub row_of : Policy → List Submission → ℕ → LayoutRequest
+    → Result (Done (List Submission)) Ending
+row_of policy shelf connection (ask.Submit cell top text) =
+    changing (λ s. shelf ++ s ∷ []) (λ s. line.Version s.version ∷ [])
+    (submit_row policy shelf connection cell top text)
+row_of policy shelf connection ask.Cells = listing (λ lines. lines) (cells policy shelf connection)
+row_of policy shelf connection (ask.Shapes cell) =
+    listing (λ lines. lines) (shapes policy shelf connection cell)

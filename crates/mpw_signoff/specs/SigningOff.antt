@@ -1,5 +1,5 @@
 -- The sign-off requests for a finished run: each with its tests in order, and its result if all pass.
-use Rattle.std.specs.Prelude.{ℕ, ◌==◌, Bool, true, false, List, [], ◌∷◌, map, Option, None, Some, Result, Ok, Err, if◌then◌else◌}
+use Rattle.std.specs.Prelude.{ℕ, ◌==◌, Bool, false, List, [], ◌∷◌, map, Option, None, Some, Result, Ok, Err, if◌then◌else◌}
 use Rattle.mpw_deck.specs.Decks.{Deck}
 use Rattle.mpw_placings.specs.declared.placement.Placement.{Placement}
 use Rattle.mpw_placings.specs.Placements.{roots_of}
@@ -12,7 +12,7 @@ use Rattle.mpw_requests.specs.declared.sign_off.MarkerName.{MarkerName}
 use Rattle.mpw_requests.specs.declared.sign_off.SignOffRequest.{SignOffRequest}
 use Rattle.mpw_requests.specs.declared.sign_off.SignOffRequest.TheVariants as ask
 use Rattle.mpw_replies.specs.Listing.{Listed, stored}
-use Rattle.mpw_replies.specs.Rows.{◌>>=◌, needed, ended_by}
+use Rattle.mpw_replies.specs.Rows.{◌>>=◌, changing, listing, needed}
 use Rattle.mpw_access.specs.Permitted.{session_test, permitted}
 use Rattle.mpw_replies.specs.Sight.{is_full}
 use Rattle.mpw_access.specs.Seen.{seen_by}
@@ -20,8 +20,7 @@ use Rattle.mpw_replies.specs.declared.reply.Line.{Line}
 use Rattle.mpw_replies.specs.declared.reply.Line.TheVariants as line
 use Rattle.mpw_replies.specs.declared.reply.Code.TheVariants as code
 use Rattle.mpw_replies.specs.declared.reply.Denial.TheVariants as denial
-use Rattle.mpw_replies.specs.declared.reply.Reply.{Reply}
-use Rattle.mpw_replies.specs.declared.reply.Reply.TheVariants as reply
+use Rattle.mpw_replies.specs.declared.row.Done.{Done}
 use Rattle.mpw_replies.specs.declared.row.Ending.{Ending}
 use Rattle.mpw_replies.specs.declared.row.Ending.TheVariants as ending
 use Rattle.mpw_run.specs.declared.phase.Checked.{Checked}
@@ -34,6 +33,8 @@ use Rattle.mpw_waiver.specs.declared.waiver.Waiver.{Waiver}
 use Rattle.mpw_waiver.specs.Signing.{ask_test, sign_test}
 use Rattle.mpw_waiver.specs.Waivers.{waiver_at, with_asker, with_signer, unsigned}
 use Rattle.mpw_signoff.specs.declared.rows.ByUser.{ByUser}
+use Rattle.mpw_signoff.specs.declared.rows.WaiverChange.{WaiverChange}
+use Rattle.mpw_signoff.specs.declared.rows.WaiverChange.TheVariants.{Asked, Signed}
 use Rattle.mpw_signoff.specs.Named.{Named, named_in}
 use Rattle.mpw_signoff.specs.WaiverLines.{lines_from}
 
@@ -135,39 +136,21 @@ verdict_row policy wafer run waivers connection = do
   f ← needed code.NotFinished (findings run.phase)
   Ok (stored (verdict_line (is_present wafer f.planned.snapshot) (unsigned waivers)) ∷ [])
 
--- ---- the outcome of a request
+-- ---- each request
 
--- A reply with the waivers after it, and whether that is a change, which must be stored.
-pub record Outcome : Type 0 where
-  pub reply : Reply
-  pub waivers : List (Option Waiver)
-  pub changes : Bool
+-- The waivers after a request that asks for one or signs one.
+abbrev pub waivers_after : List (Option Waiver) → WaiverChange → List (Option Waiver)
+waivers_after waivers (Asked by) = with_asker waivers by.place by.user
+waivers_after waivers (Signed by) = with_signer waivers by.place by.user
 
-abbrev pub no_change : Reply → List (Option Waiver) → Outcome
-no_change told waivers = record { reply = told; waivers = waivers; changes = false }
-
-abbrev pub acceptance : List (Option Waiver) → Outcome
-acceptance waivers = record { reply = reply.Ok []; waivers = waivers; changes = true }
-
-abbrev pub waived_outcome : List (Option Waiver) → Result ByUser Ending → Outcome
-waived_outcome waivers (Ok by) = acceptance (with_asker waivers by.place by.user)
-waived_outcome waivers (Err ending) = no_change (ended_by ending) waivers
-
-abbrev pub signed_outcome : List (Option Waiver) → Result ByUser Ending → Outcome
-signed_outcome waivers (Ok by) = acceptance (with_signer waivers by.place by.user)
-signed_outcome waivers (Err ending) = no_change (ended_by ending) waivers
-
-abbrev pub listing_outcome : List (Option Waiver) → Result (List Listed) Ending → Outcome
-listing_outcome waivers (Ok lines) = no_change (reply.Ok lines) waivers
-listing_outcome waivers (Err ending) = no_change (ended_by ending) waivers
-
--- Each request by its decision table.
-abbrev pub outcome_of : Policy → Wafer → Run → List (Option Waiver) → ℕ → SignOffRequest → Outcome
-outcome_of policy wafer run waivers connection (ask.Waive marker) =
-    waived_outcome waivers (waive_row policy run waivers connection marker)
-outcome_of policy wafer run waivers connection (ask.Sign marker) =
-    signed_outcome waivers (sign_row policy run waivers connection marker)
-outcome_of policy wafer run waivers connection ask.Waivers =
-    listing_outcome waivers (waivers_row policy run waivers connection)
-outcome_of policy wafer run waivers connection ask.Verdict =
-    listing_outcome waivers (verdict_row policy wafer run waivers connection)
+-- The decision table of each request.
+abbrev pub row_of : Policy → Wafer → Run → List (Option Waiver) → ℕ → SignOffRequest
+    → Result (Done WaiverChange) Ending
+row_of policy wafer run waivers connection (ask.Waive marker) =
+    changing Asked (λ by. []) (waive_row policy run waivers connection marker)
+row_of policy wafer run waivers connection (ask.Sign marker) =
+    changing Signed (λ by. []) (sign_row policy run waivers connection marker)
+row_of policy wafer run waivers connection ask.Waivers =
+    listing (λ lines. lines) (waivers_row policy run waivers connection)
+row_of policy wafer run waivers connection ask.Verdict =
+    listing (λ lines. lines) (verdict_row policy wafer run waivers connection)

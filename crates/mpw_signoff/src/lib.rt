@@ -1,7 +1,7 @@
 //! The sign-off requests for a finished run: `waive`, `sign`, `waivers` and `verdict`.
 //!
-//! [`answer_request`] gives the reply to such a request, and the change of the waivers: the session's user asked for one, or signed one. It
-//! changes nothing itself.
+//! [`answer_request`] gives the lines of such a request, and the change of the waivers, if there is one: the session's user asked for one, or
+//! signed one. It changes nothing itself.
 #![tactic(auto)]
 
 mod answer;
@@ -11,5 +11,5 @@ mod present;
 mod rows;
 mod sight;
 
-pub use answer::{NextWaivers, SignOffAnswer, answer_request};
-pub use rows::ByUser;
+pub use answer::answer_request;
+pub use rows::{ByUser, WaiverChange};

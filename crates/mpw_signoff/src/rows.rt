@@ -32,6 +32,15 @@ pub struct ByUser {
     pub user: Name,
 }
 
+/// The change of the waivers by a request.
+#[derive(Drop)]
+pub enum WaiverChange {
+    /// The user asked for a waiver of the marker.
+    Asked(ByUser),
+    /// The user signed the waiver of the marker.
+    Signed(ByUser),
+}
+
 /// The named marker, if it is full. Cost: a look-up for each submission that it touches.
 #[tactic(auto, unfolding(crate::specs::SigningOff::full_marker))]
 fn full_marker<'a>(

@@ -1,3 +1,2 @@
 pub mod Leaving
 pub mod Parts
-pub mod RunLeaving

@@ -1,4 +1,3 @@
-pub mod Answers
 pub mod Laws
 pub mod Run
 pub mod Wafers

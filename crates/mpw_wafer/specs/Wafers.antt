@@ -1,5 +1,5 @@
 -- The requests of the wafer: each with its tests in order, and its result if all pass.
-use Rattle.std.specs.Prelude.{ℕ, Bool, true, false, List, [], ◌∷◌, map, Option, None, Some, Result, Ok, Err}
+use Rattle.std.specs.Prelude.{ℕ, List, [], ◌∷◌, Option, None, Some, Result, Ok, Err}
 use Rattle.mpw_geom.specs.declared.placing.Placing.{Placing}
 use Rattle.mpw_deck.specs.Decks.{Deck}
 use Rattle.mpw_deck.specs.Reading.{deck_of}
@@ -16,15 +16,13 @@ use Rattle.mpw_permissions.specs.declared.permission.Object.TheVariants as objec
 use Rattle.mpw_rbac.specs.Policy.{Policy}
 use Rattle.mpw_requests.specs.declared.wafer.WaferRequest.{WaferRequest}
 use Rattle.mpw_requests.specs.declared.wafer.WaferRequest.TheVariants as ask
-use Rattle.mpw_replies.specs.Listing.{stored}
-use Rattle.mpw_replies.specs.Rows.{◌>>=◌, ended_by}
+use Rattle.mpw_replies.specs.Rows.{◌>>=◌, changing}
 use Rattle.mpw_access.specs.Permitted.{permitted}
 use Rattle.mpw_replies.specs.declared.reply.Line.{Line}
 use Rattle.mpw_replies.specs.declared.reply.Line.TheVariants as line
 use Rattle.mpw_replies.specs.declared.reply.Code.{Code}
 use Rattle.mpw_replies.specs.declared.reply.Code.TheVariants as code
-use Rattle.mpw_replies.specs.declared.reply.Reply.{Reply}
-use Rattle.mpw_replies.specs.declared.reply.Reply.TheVariants as reply
+use Rattle.mpw_replies.specs.declared.row.Done.{Done}
 use Rattle.mpw_replies.specs.declared.row.Ending.{Ending}
 use Rattle.mpw_replies.specs.declared.row.Ending.TheVariants as ending
 use Rattle.mpw_placings.specs.declared.wafer.Wafer.{Wafer}
@@ -70,47 +68,23 @@ deck_row policy connection text = do
   entered ← permitted policy connection operation.Deck object.Desk
   by_text (deck_of text)
 
--- ---- the outcome of a request
+-- ---- each request
 
--- A reply with the wafer after it, and whether that is a change, which must be stored.
-pub record Outcome : Type 0 where
-  pub reply : Reply
-  pub wafer : Wafer
-  pub changes : Bool
-
-abbrev pub no_change : Ending → Wafer → Outcome
-no_change ending wafer = record { reply = ended_by ending; wafer = wafer; changes = false }
-
-abbrev pub acceptance : List Line → Wafer → Outcome
-acceptance lines wafer =
-    record { reply = reply.Ok (map stored lines); wafer = wafer; changes = true }
-
+-- The version of a placement. An accepted one has its version.
 abbrev pub version_lines : Option ℕ → List Line
 version_lines None = []
 version_lines (Some version) = line.Version version ∷ []
 
--- A placement is added at the end, and the reply has its version.
-abbrev pub placed_outcome : List Submission → Wafer → Name → Name → Result (List Placement) Ending
-    → Outcome
-placed_outcome shelf wafer cell label (Ok ps) =
-    acceptance (version_lines (version_at shelf ps cell label)) (record wafer { placings = ps })
-placed_outcome shelf wafer cell label (Err ending) = no_change ending wafer
-
-abbrev pub unplaced_outcome : Wafer → Result (List Placement) Ending → Outcome
-unplaced_outcome wafer (Ok ps) = acceptance [] (record wafer { placings = ps })
-unplaced_outcome wafer (Err ending) = no_change ending wafer
-
--- A deck replaces the one before.
-abbrev pub decked_outcome : Wafer → Result Deck Ending → Outcome
-decked_outcome wafer (Ok deck) = acceptance [] (record wafer { deck = Some deck })
-decked_outcome wafer (Err ending) = no_change ending wafer
-
--- Each request by its decision table.
-abbrev pub outcome_of : Policy → List Submission → Wafer → ℕ → WaferRequest → Outcome
-outcome_of policy shelf wafer connection (ask.Place cell label placing) =
-    placed_outcome shelf wafer cell label
+-- The decision table of each request. A placement is added at the end, and the reply has its version. A deck
+-- replaces the one before.
+abbrev pub row_of : Policy → List Submission → Wafer → ℕ → WaferRequest → Result (Done Wafer) Ending
+row_of policy shelf wafer connection (ask.Place cell label placing) =
+    changing (λ ps. record wafer { placings = ps })
+    (λ ps. version_lines (version_at shelf ps cell label))
     (place_row policy shelf wafer.placings connection cell label placing)
-outcome_of policy shelf wafer connection (ask.Unplace cell label) =
-    unplaced_outcome wafer (unplace_row policy wafer.placings connection cell label)
-outcome_of policy shelf wafer connection (ask.Deck text) =
-    decked_outcome wafer (deck_row policy connection text)
+row_of policy shelf wafer connection (ask.Unplace cell label) =
+    changing (λ ps. record wafer { placings = ps }) (λ ps. [])
+    (unplace_row policy wafer.placings connection cell label)
+row_of policy shelf wafer connection (ask.Deck text) =
+    changing (λ deck. record wafer { deck = Some deck }) (λ deck. [])
+    (deck_row policy connection text)

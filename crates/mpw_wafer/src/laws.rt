@@ -3,7 +3,7 @@ ghost use Rattle.mpw_wafer.specs.Laws.{ChangesKeepPlacings};
 
 use mpw_placings::each_change_keeps;
 
-/// After a request, the placements fit the shelf if they did before.
+/// If the placements fit the shelf, then so do those of each wafer that a request gives.
 pub fn changes_of_the_wafer_keep_its_placings()
     ensures { ChangesKeepPlacings }
 {

@@ -1,32 +1,21 @@
 -- The answers to requests of the checking run.
-use Rattle.std.specs.Prelude.{◌≡◌, ⊤, Bool, true, false}
+use Rattle.std.specs.Prelude.{◌≡◌, ⊤}
 use Rattle.mpw_run.specs.Prepared.{applied, IsFitting}
 use Rattle.mpw_run.specs.Step.{Run, cancelled}
 use Rattle.mpw_wafer.specs.declared.run.answer.NextRun.{NextRun}
-use Rattle.mpw_wafer.specs.declared.run.answer.NextRun.TheVariants.{Same, Start, Cancel}
-use Rattle.mpw_wafer.specs.declared.run.answer.RunAnswer.{RunAnswer}
-use Rattle.mpw_wafer.specs.Run.Checking.{Outcome}
+use Rattle.mpw_wafer.specs.declared.run.answer.NextRun.TheVariants.{Start, Cancel}
+use Rattle.mpw_wafer.specs.Run.Checking.{RunChange, run_after}
 
--- The run after an answer.
-abbrev pub run_after : Run → NextRun → Run
-run_after run Same = run
-run_after run (Start prepared) = applied prepared.change run
-run_after run Cancel = cancelled run
-
-abbrev pub is_change : NextRun → Bool
-is_change Same = false
-is_change (Start prepared) = true
-is_change Cancel = true
+-- The run after a prepared change.
+abbrev pub code_after : Run → NextRun → Run
+code_after run (Start prepared) = applied prepared.change run
+code_after run Cancel = cancelled run
 
 -- The run can make the prepared change.
 abbrev pub Fits : Run → NextRun → Type 0
-Fits run Same = ⊤
 Fits run (Start prepared) = IsFitting prepared.change run
 Fits run Cancel = ⊤
 
--- The answer gives the outcome: its reply, its run, and whether that is a change.
-pub record Gives (run : Run) (outcome : Outcome) (answer : RunAnswer) : Type 0 where
-  pub told : answer.reply ≡ outcome.reply
-  pub left : run_after run answer.next ≡ outcome.run
-  pub changes : is_change answer.next ≡ outcome.changes
-  pub fits : Fits run answer.next
+-- The prepared change stands for the decision table's: it leaves the same run, and the run can make it.
+abbrev pub Stands : Run → NextRun → RunChange → Type 0
+Stands run next change = (code_after run next ≡ run_after run change) × Fits run next

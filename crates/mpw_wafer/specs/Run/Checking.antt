@@ -1,5 +1,5 @@
 -- The requests of the checking run: each with its tests in order, and its result if all pass.
-use Rattle.std.specs.Prelude.{ℕ, ◌+◌, Bool, true, false, List, [], ◌∷◌, map, Option, None, Some, Result, Ok, Err}
+use Rattle.std.specs.Prelude.{ℕ, ◌+◌, List, [], ◌∷◌, Option, None, Some, Result, Ok, Err}
 use Rattle.mpw_deck.specs.Decks.{Deck}
 use Rattle.mpw_hier.specs.declared.submission.Submission.{Submission}
 use Rattle.mpw_hier.specs.Items.{Item}
@@ -13,15 +13,14 @@ use Rattle.mpw_rbac.specs.Policy.{Policy}
 use Rattle.mpw_requests.specs.declared.run.RunRequest.{RunRequest}
 use Rattle.mpw_requests.specs.declared.run.RunRequest.TheVariants as ask
 use Rattle.mpw_replies.specs.Listing.{Listed, stored}
-use Rattle.mpw_replies.specs.Rows.{◌>>=◌, needed, ended_by}
+use Rattle.mpw_replies.specs.Rows.{◌>>=◌, changing, listing, needed}
 use Rattle.mpw_access.specs.Permitted.{session_test, permitted}
 use Rattle.mpw_replies.specs.Sight.{book_lines}
 use Rattle.mpw_access.specs.Seen.{seen_by}
 use Rattle.mpw_replies.specs.declared.reply.Line.{Line}
 use Rattle.mpw_replies.specs.declared.reply.Line.TheVariants as line
 use Rattle.mpw_replies.specs.declared.reply.Code.TheVariants as code
-use Rattle.mpw_replies.specs.declared.reply.Reply.{Reply}
-use Rattle.mpw_replies.specs.declared.reply.Reply.TheVariants as reply
+use Rattle.mpw_replies.specs.declared.row.Done.{Done}
 use Rattle.mpw_replies.specs.declared.row.Ending.{Ending}
 use Rattle.mpw_replies.specs.declared.row.Ending.TheVariants as ending
 use Rattle.mpw_run.specs.declared.phase.Checked.{Checked}
@@ -105,40 +104,26 @@ markers policy run connection = do
   f ← needed code.NotFinished (findings run.phase)
   Ok (checked_lines policy connection f)
 
--- ---- the outcome of a request
+-- ---- each request
 
--- A reply with the run after it, and whether that is a change, which must be stored.
-pub record Outcome : Type 0 where
-  pub reply : Reply
-  pub run : Run
-  pub changes : Bool
+-- How a request changes the run: a new one begins over what was planned, or it is cancelled.
+pub data RunChange : Type 0 where
+  begun : Planned → RunChange
+  left_off : RunChange
 
-abbrev pub no_change : Reply → Run → Outcome
-no_change told run = record { reply = told; run = run; changes = false }
+abbrev pub run_after : Run → RunChange → Run
+run_after run (begun planned) = started run planned
+run_after run left_off = cancelled run
 
-abbrev pub acceptance : List Line → Run → Outcome
-acceptance lines run = record { reply = reply.Ok (map stored lines); run = run; changes = true }
-
--- The reply to an accepted `run` has the run's number.
-abbrev pub begun_outcome : Run → Result Planned Ending → Outcome
-begun_outcome run (Ok planned) = acceptance (line.Run (run.number + 1) ∷ []) (started run planned)
-begun_outcome run (Err ending) = no_change (ended_by ending) run
-
-abbrev pub left_off_outcome : Run → Result (Unit {0}) Ending → Outcome
-left_off_outcome run (Ok x) = acceptance [] (cancelled run)
-left_off_outcome run (Err ending) = no_change (ended_by ending) run
-
-abbrev pub listing_outcome : Run → Result (List Listed) Ending → Outcome
-listing_outcome run (Ok lines) = no_change (reply.Ok lines) run
-listing_outcome run (Err ending) = no_change (ended_by ending) run
-
--- Each request by its decision table.
-abbrev pub outcome_of : Policy → List Submission → Wafer → Run → ℕ → RunRequest → Outcome
-outcome_of policy shelf wafer run connection ask.Run =
-    begun_outcome run (run_row policy shelf wafer run connection)
-outcome_of policy shelf wafer run connection ask.Cancel =
-    left_off_outcome run (cancel_row policy run connection)
-outcome_of policy shelf wafer run connection ask.Status =
-    listing_outcome run (status policy run connection)
-outcome_of policy shelf wafer run connection ask.Markers =
-    listing_outcome run (markers policy run connection)
+-- The decision table of each request. The reply to an accepted `run` has the run's number.
+abbrev pub row_of : Policy → List Submission → Wafer → Run → ℕ → RunRequest
+    → Result (Done RunChange) Ending
+row_of policy shelf wafer run connection ask.Run =
+    changing begun (λ planned. line.Run (run.number + 1) ∷ [])
+    (run_row policy shelf wafer run connection)
+row_of policy shelf wafer run connection ask.Cancel =
+    changing (λ x. left_off) (λ x. []) (cancel_row policy run connection)
+row_of policy shelf wafer run connection ask.Status =
+    listing (λ lines. lines) (status policy run connection)
+row_of policy shelf wafer run connection ask.Markers =
+    listing (λ lines. lines) (markers policy run connection)
