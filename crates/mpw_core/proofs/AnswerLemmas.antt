@@ -1,25 +1,35 @@
--- Prepared answers give the outcome of their decision table.
-use Rattle.std.proofs.Common.{Result, Ok, Err, IfOk, sym, ap, subst}
-use Rattle.std.specs.declared.alloc.AllocError.{AllocError}
+-- What a group of requests made of its decision table gives the table's outcome.
+use Rattle.std.proofs.Common.{◌≡◌, Result, Ok, Err, refl, ap, subst}
+use Rattle.std.specs.Prelude.{⊤}
 use Rattle.mpw_rbac.specs.declared.refusal.Refusal.{Refusal}
-use Rattle.mpw_rbac.specs.declared.refusal.PolicyFault.{PolicyFault}
-use Rattle.mpw_rbac.specs.declared.refusal.PolicyFault.TheVariants.{Refused, Memory}
-use Rattle.mpw_rbac.specs.Policy.{Policy}
-use Rattle.mpw_rbac.specs.Rows.{IsFaultOf}
-use Rattle.mpw_core.specs.declared.answer.Answer.{Answer}
-use Rattle.mpw_core.specs.Internal.Answer.{IsRefusal, Fits, Gives, state_with, is_change}
-use Rattle.mpw_events.specs.Step.{State, policy_outcome}
+use Rattle.mpw_replies.specs.Rows.{Answers}
+use Rattle.mpw_replies.specs.declared.row.Done.{Done}
+use Rattle.mpw_replies.specs.declared.row.Done.TheVariants.{Lists, Changes}
+use Rattle.mpw_replies.specs.declared.row.Ending.{Ending}
+use Rattle.mpw_replies.specs.declared.row.Fault.{Fault}
+use Rattle.mpw_replies.specs.declared.row.Fault.TheVariants as fault
+use Rattle.mpw_core.specs.Internal.Answer.{ComesTo, ended}
+use Rattle.mpw_events.specs.Step.{State, ending_of, outcome_by}
 
-pub refused-gives : (state : State) (row : Result Policy Refusal) (fault : PolicyFault)
-    (result : Result Answer AllocError) → IsFaultOf row fault
-    → IfOk result (λ a. IsRefusal fault a.response a.next)
-    → IfOk result (λ a. Gives state (policy_outcome state row) a.response a.next)
-refused-gives state row fault (Err e) is answer = tt
-refused-gives state row Memory (Ok a) is answer = absurd answer
-refused-gives state row (Refused refusal) (Ok a) is answer =
-    rw is (record {
-      told = answer.0;
-      left = ap (state_with state) answer.1;
-      changes = ap is_change answer.1;
-      fits = subst (Fits state.run) (sym answer.1) tt;
-    })
+-- if what was made is the table's part
+comes : {P : Type 0} (over : P → State) (s : State) (made : Result (Done P) Fault)
+    (row : Result (Done P) Ending) → Answers (λ done. done) made row
+    → ComesTo over (λ part. ⊤) s made (outcome_by (λ e. e) over s row)
+comes over s (Ok (Lists lines)) row is = ap (outcome_by (λ e. e) over s) is
+comes over s (Ok (Changes part lines)) row is = (ap (outcome_by (λ e. e) over s) is, tt)
+comes over s (Err (fault.Told e)) row is = ap (outcome_by (λ e. e) over s) is
+comes over s (Err fault.Memory) row is = tt
+
+-- the same of a table of the policy, which ends with a refusal
+ended-same : {P : Type 0} (over : P → State) (s : State) (row : Result (Done P) Refusal)
+    → outcome_by (λ e. e) over s (ended row) ≡ outcome_by ending_of over s row
+ended-same over s (Ok (Lists lines)) = refl
+ended-same over s (Ok (Changes part lines)) = refl
+ended-same over s (Err refusal) = refl
+
+pub comes_ended : {P : Type 0} (over : P → State) (s : State) (made : Result (Done P) Fault)
+    (row : Result (Done P) Refusal) → Answers (λ done. done) made (ended row)
+    → ComesTo over (λ part. ⊤) s made (outcome_by ending_of over s row)
+comes_ended over s made row is =
+    subst (ComesTo over (λ part. ⊤) s made) (ended-same over s row)
+    (comes over s made (ended row) is)

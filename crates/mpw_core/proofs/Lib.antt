@@ -2,8 +2,7 @@ pub mod AnswerLemmas
 pub mod HistoryLemmas
 pub mod RefusalLemmas
 pub mod KeepingLemmas
-mod RunLemmas
-mod TakenLemmas
+mod CountLemmas
 pub mod OutcomeLemmas
 mod PlacingLemmas
 mod ReadyLemmas

@@ -1,32 +1,75 @@
 -- What holds of a state, whatever its policy and its trail are and whether it is closed, and how steps
 -- preserve it.
-use Rattle.std.proofs.Common.{Bool, true, false, cond, List, [], ◌∷◌, Result, Ok, Err}
+use Rattle.std.proofs.Common.{◌≡◌, ℕ, Bool, true, false, cond, List, [], ◌∷◌, Result, Ok, Err, refl}
 use Rattle.std.specs.Prelude.{◌&&◌, not}
-use Rattle.mpw_rbac.specs.declared.refusal.Refusal.{Refusal}
-use Rattle.mpw_rbac.specs.declared.session.Identity.{Identity}
+use Rattle.mpw_hier.specs.declared.submission.Submission.{Submission}
+use Rattle.mpw_layouts.specs.Layouts as layouts
+use Rattle.mpw_placings.specs.declared.wafer.Wafer.{Wafer}
 use Rattle.mpw_rbac.specs.Policy.{Policy}
+use Rattle.mpw_replies.specs.Listing.{Listed}
 use Rattle.mpw_replies.specs.declared.entry.Entry.{Entry}
+use Rattle.mpw_replies.specs.declared.row.Done.{Done}
+use Rattle.mpw_replies.specs.declared.row.Done.TheVariants.{Lists, Changes}
 use Rattle.mpw_replies.specs.declared.row.Ending.{Ending}
+use Rattle.mpw_requests.specs.declared.layouts.LayoutRequest.{LayoutRequest}
+use Rattle.mpw_requests.specs.declared.wafer.WaferRequest.{WaferRequest}
+use Rattle.mpw_requests.specs.declared.request.Request.{Request}
+use Rattle.mpw_requests.specs.declared.request.Request.TheVariants as ask
+use Rattle.mpw_signoff.specs.SigningOff as signing
+use Rattle.mpw_signoff.specs.declared.rows.WaiverChange.{WaiverChange}
+use Rattle.mpw_wafer.specs.Run.Checking as checking
+use Rattle.mpw_wafer.specs.Wafers as wafers
 use Rattle.mpw_events.specs.declared.event.Call.{Call}
 use Rattle.mpw_events.specs.declared.event.Event.{Event}
 use Rattle.mpw_events.specs.History.{state_after}
-use Rattle.mpw_events.specs.Step.{State, Outcome, no_change, policy_outcome, query_outcome, trail_outcome, identity_lines, event_outcome, not_kept_response, settlement, step, trail_behind, after}
+use Rattle.mpw_events.specs.Step.{State, Outcome, no_change, ending_of, outcome_by, over_policy, over_shelf, over_wafer, over_run, over_waivers, policy_row, whoami_row, trail_row, outcome_of, event_outcome, not_kept_response, settlement, step, trail_behind, after}
 
-pub holds-policy : (P : State → Type 0)
-    → ((s : State) (policy : Policy) → P s → P (record s { policy = policy }))
-    → (s : State) (row : Result Policy Refusal) → P s → P (policy_outcome s row).state
-holds-policy P free s (Ok policy) held = free s policy held
-holds-policy P free s (Err refusal) held = held
+-- ---- requests
 
-pub holds-query : (P : State → Type 0) (s : State) (row : Result Identity Refusal) → P s
-    → P (query_outcome s identity_lines row).state
-holds-query P s (Ok who) held = held
-holds-query P s (Err refusal) held = held
+-- what holds of the state, and with the part that a decision table changes
+pub holds-row : {E Q : Type 0} (P : State → Type 0) (ending : E → Ending) (over : Q → State)
+    (s : State) (row : Result (Done Q) E) → P s
+    → ((part : Q) (lines : List Listed) → row ≡ Ok (Changes part lines) → P (over part))
+    → P (outcome_by ending over s row).state
+holds-row P ending over s (Ok (Lists lines)) held changed = held
+holds-row P ending over s (Ok (Changes part lines)) held changed = changed part lines refl
+holds-row P ending over s (Err e) held changed = held
 
-pub holds-trail : (P : State → Type 0) (s : State) (row : Result (Unit {0}) Ending) → P s
-    → P (trail_outcome s row).state
-holds-trail P s (Ok allowed) held = held
-holds-trail P s (Err ending) held = held
+-- what holds of the state, and with the part that each group of requests changes
+pub holds-request : (P : State → Type 0) (s : State) (connection : ℕ) (request : Request) → P s
+    → ((policy : Policy) → P (over_policy s policy))
+    → ((asked : LayoutRequest) (shelf : List Submission) (lines : List Listed)
+    → layouts.row_of s.policy s.shelf connection asked ≡ Ok (Changes shelf lines)
+    → P (over_shelf s shelf))
+    → ((asked : WaferRequest) (wafer : Wafer) (lines : List Listed)
+    → wafers.row_of s.policy s.shelf s.wafer connection asked ≡ Ok (Changes wafer lines)
+    → P (over_wafer s wafer))
+    → ((change : checking.RunChange) → P (over_run s change))
+    → ((change : WaiverChange) → P (over_waivers s change))
+    → P (outcome_of s connection request).state
+holds-request P s connection (ask.Policy asked) held policies shelves wafer_changes runs waivers =
+    holds-row P ending_of (over_policy s) s (policy_row s.policy connection asked) held
+    (λ part lines is. policies part)
+holds-request P s connection ask.Whoami held policies shelves wafer_changes runs waivers =
+    holds-row P ending_of (over_policy s) s (whoami_row s.policy connection) held
+    (λ part lines is. policies part)
+holds-request P s connection (ask.Layout asked) held policies shelves wafer_changes runs waivers =
+    holds-row P (λ e. e) (over_shelf s) s (layouts.row_of s.policy s.shelf connection asked) held
+    (shelves asked)
+holds-request P s connection (ask.Wafer asked) held policies shelves wafer_changes runs waivers =
+    holds-row P (λ e. e) (over_wafer s) s (wafers.row_of s.policy s.shelf s.wafer connection asked)
+    held (wafer_changes asked)
+holds-request P s connection (ask.Run asked) held policies shelves wafer_changes runs waivers =
+    holds-row P (λ e. e) (over_run s) s
+    (checking.row_of s.policy s.shelf s.wafer s.run connection asked) held
+    (λ change lines is. runs change)
+holds-request P s connection (ask.SignOff asked) held policies shelves wafer_changes runs waivers =
+    holds-row P (λ e. e) (over_waivers s) s
+    (signing.row_of s.policy s.wafer s.run s.waivers connection asked) held
+    (λ change lines is. waivers change)
+holds-request P s connection ask.Trail held policies shelves wafer_changes runs waivers =
+    holds-row P (λ e. e) (over_policy s) s (trail_row s.policy connection s.trail) held
+    (λ part lines is. policies part)
 
 -- ---- steps
 

@@ -1,67 +1,54 @@
 -- The placements fit the shelf, in every state.
-use Rattle.std.proofs.Common.{ℕ, Bool, List, [], ◌∷◌, Result, Ok, Err}
-use Rattle.mpw_rbac.specs.Rows as rows
+use Rattle.std.proofs.Common.{◌≡◌, ℕ, Bool, List, [], ◌∷◌, ◌++◌, Ok, subst}
 use Rattle.mpw_hier.specs.declared.submission.Submission.{Submission}
 use Rattle.mpw_placings.specs.Laws.{NoneArePlacings, LaterShelvesKeep}
 use Rattle.mpw_placings.specs.Placements.{ArePlacings}
 use Rattle.mpw_requests.specs.declared.layouts.LayoutRequest.{LayoutRequest}
 use Rattle.mpw_requests.specs.declared.layouts.LayoutRequest.TheVariants.{Submit, Cells, Shapes}
 use Rattle.mpw_requests.specs.declared.request.Request.{Request}
-use Rattle.mpw_requests.specs.declared.request.Request.TheVariants as ask
-use Rattle.mpw_permissions.specs.declared.permission.Object.TheVariants as object
-use Rattle.mpw_permissions.specs.declared.permission.Operation.TheVariants as operation
+use Rattle.mpw_replies.proofs.RowParts.{changed, listing_changes_nothing}
 use Rattle.mpw_replies.specs.Listing.{Listed}
-use Rattle.mpw_access.specs.Permitted.{permitted}
-use Rattle.mpw_replies.specs.declared.row.Ending.{Ending}
+use Rattle.mpw_replies.specs.declared.reply.Line.TheVariants.{Version}
+use Rattle.mpw_replies.specs.declared.row.Done.TheVariants.{Changes}
 use Rattle.mpw_layouts.specs.Layouts as layouts
 use Rattle.mpw_wafer.specs.Laws.{ChangesKeepPlacings}
-use Rattle.mpw_events.specs.PolicyRows.{row_of}
 use Rattle.mpw_events.specs.declared.event.Call.{Call}
 use Rattle.mpw_events.specs.declared.event.Event.{Event}
 use Rattle.mpw_events.specs.declared.event.Event.TheVariants as event
 use Rattle.mpw_events.specs.History.{state_after}
 use Rattle.mpw_events.specs.Step.{State, new_state, outcome_of, event_outcome, after}
-use Rattle.mpw_core.proofs.OutcomeLemmas.{holds-policy, holds-query, holds-trail, holds-step, holds-calls}
+use Rattle.mpw_core.proofs.OutcomeLemmas.{holds-request, holds-step, holds-calls}
 
 abbrev Placed : State → Type 0
 Placed s = ArePlacings s.shelf s.wafer.placings
 
 module _ (none_are : NoneArePlacings) (later_keep : LaterShelvesKeep)
     (changes_keep : ChangesKeepPlacings) where
-  placed-shelved : (s : State) (row : Result Submission Ending) → Placed s
-      → ArePlacings (layouts.submit_outcome s.shelf row).shelf s.wafer.placings
-  placed-shelved s (Ok new) placed = later_keep s.shelf (new ∷ []) s.wafer.placings placed
-  placed-shelved s (Err ending) placed = placed
-
-  placed-listed : (s : State) (row : Result (List Listed) Ending) → Placed s
-      → ArePlacings (layouts.listing_outcome s.shelf row).shelf s.wafer.placings
-  placed-listed s (Ok lines) placed = placed
-  placed-listed s (Err ending) placed = placed
-
-  placed-layout : (s : State) (connection : ℕ) (request : LayoutRequest) → Placed s
-      → ArePlacings (layouts.outcome_of s.policy s.shelf connection request).shelf s.wafer.placings
-  placed-layout s connection (Submit cell top text) placed =
-      placed-shelved s (layouts.submit_row s.policy s.shelf connection cell top text) placed
-  placed-layout s connection Cells placed =
-      placed-listed s (layouts.cells s.policy s.shelf connection) placed
-  placed-layout s connection (Shapes cell) placed =
-      placed-listed s (layouts.shapes s.policy s.shelf connection cell) placed
+  placed-layout : (s : State) (connection : ℕ) (request : LayoutRequest)
+      (shelf : List Submission) (lines : List Listed)
+      → layouts.row_of s.policy s.shelf connection request ≡ Ok (Changes shelf lines)
+      → Placed s → ArePlacings shelf s.wafer.placings
+  placed-layout s connection (Submit cell top text) shelf lines is placed =
+      let row = layouts.submit_row s.policy s.shelf connection cell top text in
+      let new = changed (λ (x : Submission). s.shelf ++ x ∷ [])
+      (λ (x : Submission). Version x.version ∷ []) row shelf lines is in
+      subst (λ l. ArePlacings l s.wafer.placings) new.2
+      (later_keep s.shelf (new.0 ∷ []) s.wafer.placings placed)
+  placed-layout s connection Cells shelf lines is placed =
+      absurd (listing_changes_nothing (λ l. l) (layouts.cells s.policy s.shelf connection) shelf
+      lines is)
+  placed-layout s connection (Shapes cell) shelf lines is placed =
+      absurd (listing_changes_nothing (λ l. l) (layouts.shapes s.policy s.shelf connection cell)
+      shelf lines is)
 
   placed-request : (s : State) (connection : ℕ) (request : Request) → Placed s
       → Placed (outcome_of s connection request).state
-  placed-request s connection (ask.Policy request) placed =
-      holds-policy Placed (λ t policy held. held) s (row_of s.policy connection request) placed
-  placed-request s connection ask.Whoami placed =
-      holds-query Placed s (rows.whoami s.policy connection) placed
-  placed-request s connection (ask.Layout request) placed = placed-layout s connection request
-      placed
-  placed-request s connection (ask.Wafer request) placed = changes_keep s.policy s.shelf s.wafer
-      connection
-      request placed
-  placed-request s connection (ask.Run request) placed = placed
-  placed-request s connection (ask.SignOff request) placed = placed
-  placed-request s connection ask.Trail placed =
-      holds-trail Placed s (permitted s.policy connection operation.Audit object.Desk) placed
+  placed-request s connection request placed =
+      holds-request Placed s connection request placed (λ policy. placed)
+      (λ asked shelf lines is. placed-layout s connection asked shelf lines is placed)
+      (λ asked wafer lines is.
+      changes_keep s.policy s.shelf s.wafer connection asked wafer lines placed is)
+      (λ change. placed) (λ change. placed)
 
   placed-event_outcome : (s : State) (event : Event) → Placed s
       → Placed (event_outcome s event).state

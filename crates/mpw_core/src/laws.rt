@@ -29,11 +29,13 @@ pub fn every_state_counts_its_runs()
     ensures { (officer digest : List ℕ) (calls : List Call) → (state_after (new_state officer digest) calls).run.number ≤ length calls }
 {
     a_request_counts_one_run_at_most();
+    a_request_hands_nothing_out();
 }
 
 /// In every state that calls lead to, each tile was handed out at most as often as calls were made.
 pub fn every_state_counts_its_hand_outs()
     ensures { (officer digest : List ℕ) (calls : List Call) → TakenAtMost (length calls) (state_after (new_state officer digest) calls).run.phase }
 {
+    a_request_counts_one_run_at_most();
     a_request_hands_nothing_out();
 }

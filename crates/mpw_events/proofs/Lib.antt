@@ -1,2 +1,3 @@
 pub mod AddingLemmas
 pub mod GoingOnLemmas
+pub mod OutcomeLemmas

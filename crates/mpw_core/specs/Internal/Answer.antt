@@ -1,76 +1,87 @@
 -- Definitions for private functions and proofs: what a prepared answer must be.
-use Rattle.std.specs.Prelude.{◌≡◌, ◌<◌, ◌+◌, ◌^◌, ⊤, ℕ, Bool, true, false, List, [], Option, None, Some, if◌then◌else◌}
+use Rattle.std.specs.Prelude.{◌≡◌, ◌<◌, ◌+◌, ◌^◌, ⊤, ℕ, Bool, true, false, List, [], Option, None, Some, Result, Ok, Err, if◌then◌else◌}
 use Rattle.mpw_rbac.specs.declared.refusal.PolicyFault.{PolicyFault}
-use Rattle.mpw_rbac.specs.declared.refusal.PolicyFault.TheVariants.{Refused, Memory}
+use Rattle.mpw_rbac.specs.declared.refusal.PolicyFault.TheVariants as policy_fault
+use Rattle.mpw_rbac.specs.declared.refusal.Refusal.{Refusal}
 use Rattle.mpw_rbac.specs.Rows.{end_sessions}
 use Rattle.mpw_hier.specs.declared.submission.Submission.{Submission}
 use Rattle.mpw_placings.specs.Placements.{ArePlacings}
 use Rattle.mpw_placings.specs.declared.placement.Placement.{Placement}
+use Rattle.mpw_replies.specs.Rows.{ended_by}
+use Rattle.mpw_replies.specs.declared.reply.Reply.TheVariants as reply
+use Rattle.mpw_replies.specs.declared.row.Done.{Done}
+use Rattle.mpw_replies.specs.declared.row.Done.TheVariants.{Lists, Changes}
+use Rattle.mpw_replies.specs.declared.row.Ending.{Ending}
+use Rattle.mpw_replies.specs.declared.row.Fault.{Fault}
+use Rattle.mpw_replies.specs.declared.row.Fault.TheVariants as fault
 use Rattle.mpw_run.specs.declared.prepare.Prepared.{Prepared}
 use Rattle.mpw_run.specs.Prepared.{applied, IsFitting}
-use Rattle.mpw_run.specs.Step.{Run, TakenAtMost, book_size, cancelled, restarted}
-use Rattle.mpw_waiver.specs.Waivers.{none_asked, with_asker, with_signer}
+use Rattle.mpw_run.specs.Step.{Run, TakenAtMost, book_size, restarted}
+use Rattle.mpw_waiver.specs.Waivers.{none_asked}
 use Rattle.mpw_waiver.specs.declared.waiver.Waiver.{Waiver}
+use Rattle.mpw_wafer.specs.Run.Answers as made
+use Rattle.mpw_wafer.specs.declared.run.answer.NextRun.{NextRun as RunPart}
 use Rattle.mpw_core.specs.declared.answer.Next.{Next}
-use Rattle.mpw_core.specs.declared.answer.Next.TheVariants.{Nothing, NextPolicy, NextShelf, NextWafer, Start, Finish, Move, Cancel, Ask, Sign, Restart}
+use Rattle.mpw_core.specs.declared.answer.Next.TheVariants.{Nothing, NextPolicy, NextShelf, NextWafer, NextRun, NextWaivers, Finish, Move, Restart}
 use Rattle.mpw_events.specs.declared.event.Response.{Response}
 use Rattle.mpw_events.specs.declared.event.Response.TheVariants as response
 use Rattle.mpw_core.specs.declared.tables.Tables.{Tables}
 use Rattle.mpw_run.specs.Laws.{finishes}
-use Rattle.mpw_events.specs.Step.{State, Outcome, reply_of}
+use Rattle.mpw_events.specs.Step.{State, Outcome, acceptance, ending_of, no_change, over_policy, over_shelf, over_wafer, over_waivers}
 use Rattle.mpw_core.specs.Answer.{state_of_tables}
 
--- the response is the refusal, and nothing changes; out of memory gives no answer
-abbrev pub IsRefusal : PolicyFault → Response → Next → Type 0
-IsRefusal (Refused refusal) answered next =
-    (answered ≡ response.Told (reply_of refusal)) × (next ≡ Nothing)
-IsRefusal Memory answered next = ⊥
+-- a decision table of the policy, with the denial or refusal of its test that failed
+abbrev pub ended : {A : Type 0} → Result A Refusal → Result A Ending
+ended (Ok x) = Ok x
+ended (Err refusal) = Err (ending_of refusal)
+
+abbrev pub fault_of : PolicyFault → Fault
+fault_of (policy_fault.Refused refusal) = fault.Told (ending_of refusal)
+fault_of policy_fault.Memory = fault.Memory
+
+-- what a group of requests made of its decision table gives the outcome, if its changed part goes where
+-- `over` says, and the part fits
+abbrev pub ComesTo : {P : Type 0} → (P → State) → (P → Type 0) → State → Result (Done P) Fault
+    → Outcome → Type 0
+ComesTo over fits state (Ok (Lists lines)) outcome =
+    outcome ≡ no_change (response.Told (reply.Ok lines)) state
+ComesTo over fits state (Ok (Changes part lines)) outcome =
+    (outcome ≡ acceptance lines (over part)) × fits part
+ComesTo over fits state (Err (fault.Told ending)) outcome =
+    outcome ≡ no_change (response.Told (ended_by ending)) state
+ComesTo over fits state (Err fault.Memory) outcome = ⊤
+
+-- the state with a prepared change of the run, which removes the waivers
+abbrev pub with_run : State → RunPart → State
+with_run state next = record state { run = made.code_after state.run next; waivers = [] }
 
 -- the state after an answer
 abbrev pub state_with : State → Next → State
 state_with state Nothing = state
-state_with state (NextPolicy policy) = record state { policy = policy }
-state_with state (NextShelf shelf) = record state { shelf = shelf }
-state_with state (NextWafer wafer) = record state { wafer = wafer }
-state_with state (Start prepared) =
-    record state { run = applied prepared.change state.run; waivers = [] }
+state_with state (NextPolicy policy) = over_policy state policy
+state_with state (NextShelf shelf) = over_shelf state shelf
+state_with state (NextWafer wafer) = over_wafer state wafer
+state_with state (NextRun next) = with_run state next
+state_with state (NextWaivers change) = over_waivers state change
 state_with state (Finish prepared waivers) =
     record state { run = applied prepared.change state.run; waivers = waivers }
 state_with state (Move prepared) = record state { run = applied prepared.change state.run }
-state_with state Cancel = record state { run = cancelled state.run; waivers = [] }
-state_with state (Ask place asker) = record state { waivers = with_asker state.waivers place asker }
-state_with state (Sign place signer) =
-    record state { waivers = with_signer state.waivers place signer }
 state_with state Restart =
     record state { policy = end_sessions state.policy; run = restarted state.run }
 
 -- whether the change that is moved in must be stored
 abbrev pub is_change : Next → Bool
 is_change Nothing = false
-is_change (NextPolicy policy) = true
-is_change (NextShelf shelf) = true
-is_change (NextWafer wafer) = true
-is_change (Start prepared) = true
-is_change (Finish prepared waivers) = true
 is_change (Move prepared) = false
-is_change Cancel = true
-is_change (Ask place asker) = true
-is_change (Sign place signer) = true
 is_change Restart = false
+is_change _ = true
 
 -- the run can make the prepared change
 abbrev pub Fits : Run → Next → Type 0
-Fits run Nothing = ⊤
-Fits run (NextPolicy policy) = ⊤
-Fits run (NextShelf shelf) = ⊤
-Fits run (NextWafer wafer) = ⊤
-Fits run (Start prepared) = IsFitting prepared.change run
+Fits run (NextRun next) = made.Fits run next
 Fits run (Finish prepared waivers) = IsFitting prepared.change run
 Fits run (Move prepared) = IsFitting prepared.change run
-Fits run Cancel = ⊤
-Fits run (Ask place asker) = ⊤
-Fits run (Sign place signer) = ⊤
-Fits run Restart = ⊤
+Fits run _ = ⊤
 
 -- the answer gives the outcome: its response, its state, and whether that is a change
 pub record Gives (state : State) (outcome : Outcome) (answered : Response) (next : Next) :

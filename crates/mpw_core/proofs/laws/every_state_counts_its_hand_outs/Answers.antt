@@ -1,5 +1,6 @@
-use Rattle.mpw_core.proofs.TakenLemmas.{few-history}
+use Rattle.mpw_core.proofs.CountLemmas.{few-history}
 use Rattle.mpw_core.proofs.laws.every_state_counts_its_hand_outs.Goals as goal
 
 pub returns : goal.returns
-returns c = few-history c.a_request_hands_nothing_out.ensures
+returns c = λ officer digest calls. (few-history c.a_request_counts_one_run_at_most.ensures
+    c.a_request_hands_nothing_out.ensures officer digest calls).1

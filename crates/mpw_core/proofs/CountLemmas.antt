@@ -1,15 +1,11 @@
--- How often tiles were handed out.
-use Rattle.std.proofs.Common.{[], ◌≡◌, ℕ, zero, suc, Bool, true, false, cond, List, ◌∷◌, length, Option, Some, None, Result, Ok, Err, refl, sym, subst, ap, ◌∙◌, inl, inr, arith}
-use Rattle.std.specs.Prelude.{◌==◌, ◌≤◌, ◌+◌, ◌&&◌, not, slice_get, slice_set, if◌then◌else◌, nat_lt}
+-- How many runs were accepted, and how often tiles were handed out.
+use Rattle.std.proofs.Common.{[], ◌≡◌, ℕ, zero, suc, Bool, true, false, List, ◌∷◌, length, Option, Some, None, refl, sym, subst, ap, ◌∙◌, inl, inr, arith}
+use Rattle.std.specs.Prelude.{◌==◌, ◌≤◌, ◌+◌, slice_get, slice_set, if◌then◌else◌, nat_lt}
 use Rattle.std.proofs.lemmas.Option.{slice_get_past, slice_get_within, same_Some, none-some}
 use Rattle.std.proofs.lemmas.Bool.{cases_eq}
 use Rattle.mpw_tiles.specs.Plan.{tiles}
 use Rattle.mpw_markers.specs.declared.marker.Marker.{Marker}
 use Rattle.mpw_job.specs.Jobs.{CutWindows, FoundMarkers}
-use Rattle.mpw_rbac.specs.declared.refusal.Refusal.{Refusal}
-use Rattle.mpw_rbac.specs.declared.session.Identity.{Identity}
-use Rattle.mpw_rbac.specs.Policy.{Policy}
-use Rattle.mpw_rbac.specs.Rows as rows
 use Rattle.mpw_run.specs.declared.phase.Phase.{Phase}
 use Rattle.mpw_run.specs.declared.phase.Phase.TheVariants.{Idle, Cutting, Checking, Finished}
 use Rattle.mpw_run.specs.Run.{Tile, Checks, answered}
@@ -17,19 +13,14 @@ use Rattle.mpw_run.specs.Same.{same_snapshot, same_tile_job}
 use Rattle.mpw_run.specs.Step.{Run, Offer, Outcome as RunOutcome, TakenAtMost, answered_by, raised, new_tiles, next_from, handed, taken_in, cut_in, kept, job_of_tile, tile_compared, tile_checked, tile_in, restarted_phase}
 use Rattle.mpw_run.proofs.Next.{next_is}
 use Rattle.mpw_run.proofs.TileLists.{same_tile, other_tile}
-use Rattle.mpw_wafer.specs.Run.Laws.{NothingIsHandedOut}
-use Rattle.mpw_permissions.specs.declared.permission.Object.TheVariants as object
-use Rattle.mpw_permissions.specs.declared.permission.Operation.TheVariants as operation
-use Rattle.mpw_access.specs.Permitted.{permitted}
-use Rattle.mpw_replies.specs.declared.row.Ending.{Ending}
-use Rattle.mpw_requests.specs.declared.request.Request.{Request}
-use Rattle.mpw_requests.specs.declared.request.Request.TheVariants as ask
-use Rattle.mpw_events.specs.PolicyRows.{row_of}
+use Rattle.mpw_wafer.specs.Run.Checking.{RunChange, run_after}
+use Rattle.mpw_wafer.specs.Run.Laws.{NothingIsHandedOut, NumbersAreCounted}
 use Rattle.mpw_events.specs.declared.event.Call.{Call}
 use Rattle.mpw_events.specs.declared.event.Event.{Event}
 use Rattle.mpw_events.specs.declared.event.Event.TheVariants as event
 use Rattle.mpw_events.specs.History.{state_after}
-use Rattle.mpw_events.specs.Step.{State, Outcome, new_state, no_change, policy_outcome, query_outcome, trail_outcome, identity_lines, outcome_of, event_outcome, not_kept_response, settlement, step, after}
+use Rattle.mpw_events.specs.Step.{State, new_state, event_outcome, after}
+use Rattle.mpw_core.proofs.OutcomeLemmas.{holds-request, holds-step}
 
 -- ---- tiles of a list
 
@@ -56,10 +47,14 @@ new_at_most most (suc n) zero x at =
     let none : 0 ≡ x.taken = ap (λ (t : Tile). t.taken) (same_Some _ x at) in omega (arith, none)
 new_at_most most (suc n) (suc k) x at = new_at_most most n k x at
 
--- ---- the run's own events hand out at most one more
+-- ---- the run's own events accept no run, and hand out at most one more tile
+
+-- the number of runs and the hand-outs of each tile are at most that many
+abbrev Counted : ℕ → Run → Type 0
+Counted most run = (run.number ≤ most) × TakenAtMost most run.phase
 
 abbrev Counts : ℕ → RunOutcome → Type 0
-Counts most o = TakenAtMost (most + 1) o.run.phase
+Counts most o = Counted (most + 1) o.run
 
 one_of : (most : ℕ) (b : Bool) (x y : RunOutcome) → Counts most x → Counts most y
     → Counts most (if b then x else y)
@@ -72,19 +67,27 @@ phase_more most (Cutting planned) few = tt
 phase_more most (Checking c) few = all_more most c.tiles few
 phase_more most (Finished f) few = tt
 
+one_more : (n most : ℕ) → n ≤ most → n ≤ most + 1
+one_more n most few = omega (arith, few)
+
+counted_more : (most : ℕ) (run : Run) → Counted most run → Counted (most + 1) run
+counted_more most run few = (one_more run.number most few.0, phase_more most run.phase few.1)
+
 handed_counts : (most : ℕ) (run : Run) (c : Checks) (o : Option Offer) → next_from 0 c.tiles ≡ o
-    → TakenAtMost (most + 1) run.phase → AllAtMost most c.tiles → Counts most (handed run c o)
+    → Counted (most + 1) run → AllAtMost most c.tiles → Counts most (handed run c o)
 handed_counts most run c None next now few = now
 handed_counts most run c (Some o) next now few =
     let is = next_is 0 c.tiles o next in
     let number = is.number in
     let at : slice_get c.tiles o.number ≡ Some o.tile =
     ap (slice_get c.tiles) (omega (arith, number)) ∙ is.at in
-    let less = few o.number o.tile at in
-    set_at_most (most + 1) c.tiles o.number o.tile (raised o.tile) at (omega (arith, less))
-    (all_more most c.tiles few)
+    let less = few o.number o.tile at in (
+      now.0,
+      set_at_most (most + 1) c.tiles o.number o.tile (raised o.tile) at (omega (arith, less))
+          (all_more most c.tiles few),
+    )
 
-take_counts : (most : ℕ) (run : Run) (phase : Phase) → TakenAtMost (most + 1) run.phase
+take_counts : (most : ℕ) (run : Run) (phase : Phase) → Counted (most + 1) run
     → TakenAtMost most phase → Counts most (taken_in run phase)
 take_counts most run Idle now few = now
 take_counts most run (Cutting planned) now few = now
@@ -93,38 +96,40 @@ take_counts most run (Checking c) now few =
 take_counts most run (Finished f) now few = now
 
 cut_counts : (most : ℕ) (run : Run) (answer : CutWindows) (phase : Phase)
-    → TakenAtMost (most + 1) run.phase → Counts most (cut_in run answer phase)
+    → Counted (most + 1) run → Counts most (cut_in run answer phase)
 cut_counts most run answer Idle now = now
 cut_counts most run answer (Cutting planned) now =
     one_of most (same_snapshot answer.job.snapshot planned.snapshot) _ _
-    (new_at_most (most + 1) (tiles planned.plan)) now
+    (now.0, new_at_most (most + 1) (tiles planned.plan)) now
 cut_counts most run answer (Checking c) now = now
 cut_counts most run answer (Finished f) now = now
 
-kept_counts : (most : ℕ) (run : Run) (c : Checks) (xs : List Tile) → AllAtMost (most + 1) xs
-    → Counts most (kept run c xs)
-kept_counts most run c xs few = one_of most (answered xs == tiles c.planned.plan) _ _ tt few
+kept_counts : (most : ℕ) (run : Run) (c : Checks) (xs : List Tile) → Counted (most + 1) run
+    → AllAtMost (most + 1) xs → Counts most (kept run c xs)
+kept_counts most run c xs now few =
+    one_of most (answered xs == tiles c.planned.plan) _ _ (now.0, tt) (now.0, few)
 
 compared_counts : (most : ℕ) (run : Run) (c : Checks) (answer : FoundMarkers) (tile : Tile)
     (a : Option (List Marker)) → slice_get c.tiles answer.job.tile ≡ Some tile
-    → TakenAtMost (most + 1) run.phase → AllAtMost (most + 1) c.tiles
+    → Counted (most + 1) run → AllAtMost (most + 1) c.tiles
     → Counts most (tile_compared run c answer tile a)
 compared_counts most run c answer tile (Some m) at now few = now
 compared_counts most run c answer tile None at now few =
     one_of most (same_tile_job answer.job (job_of_tile run.number c answer.job.tile)) _ _
     (kept_counts most run c (slice_set c.tiles answer.job.tile (answered_by answer.markers tile))
+    now
     (set_at_most (most + 1) c.tiles answer.job.tile tile (answered_by answer.markers tile) at
     (few answer.job.tile tile at) few)) now
 
 checked_counts : (most : ℕ) (run : Run) (c : Checks) (answer : FoundMarkers) (tile : Option Tile)
-    → slice_get c.tiles answer.job.tile ≡ tile → TakenAtMost (most + 1) run.phase
+    → slice_get c.tiles answer.job.tile ≡ tile → Counted (most + 1) run
     → AllAtMost (most + 1) c.tiles → Counts most (tile_checked run c answer tile)
 checked_counts most run c answer None at now few = now
 checked_counts most run c answer (Some tile) at now few =
     compared_counts most run c answer tile tile.answer at now few
 
 tile_counts : (most : ℕ) (run : Run) (answer : FoundMarkers) (phase : Phase)
-    → TakenAtMost (most + 1) run.phase → TakenAtMost (most + 1) phase
+    → Counted (most + 1) run → TakenAtMost (most + 1) phase
     → Counts most (tile_in run answer phase)
 tile_counts most run answer Idle now few = now
 tile_counts most run answer (Cutting planned) now few = now
@@ -139,88 +144,60 @@ restarted_counts most (Cutting planned) = tt
 restarted_counts most (Checking c) = tt
 restarted_counts most (Finished f) = tt
 
--- ---- a call hands out at most one tile
+-- ---- a call accepts at most one run, and hands out at most one tile
 
 abbrev Few : ℕ → State → Type 0
-Few most s = TakenAtMost most s.run.phase
+Few most s = Counted most s.run
 
-module _ (nothing : NothingIsHandedOut) where
-  few-policy_outcome : (most : ℕ) (s : State) (row : Result Policy Refusal) → Few most s
-      → Few most (policy_outcome s row).state
-  few-policy_outcome most s (Ok q) few = few
-  few-policy_outcome most s (Err r) few = few
-
-  few-query_outcome : (most : ℕ) (s : State) (row : Result Identity Refusal) → Few most s
-      → Few most (query_outcome s identity_lines row).state
-  few-query_outcome most s (Ok q) few = few
-  few-query_outcome most s (Err r) few = few
-
-  few-trail_outcome : (most : ℕ) (s : State) (row : Result (Unit {0}) Ending) → Few most s
-      → Few most (trail_outcome s row).state
-  few-trail_outcome most s (Ok allowed) few = few
-  few-trail_outcome most s (Err ending) few = few
-
-  few-request : (most : ℕ) (s : State) (connection : ℕ) (request : Request) → Few most s
-      → Few most (outcome_of s connection request).state
-  few-request most s connection (ask.Policy request) few =
-      few-policy_outcome most s (row_of s.policy connection request) few
-  few-request most s connection ask.Whoami few =
-      few-query_outcome most s (rows.whoami s.policy connection) few
-  few-request most s connection (ask.Layout request) few = few
-  few-request most s connection (ask.Wafer request) few = few
-  few-request most s connection (ask.Run request) few =
-      nothing s.policy s.shelf s.wafer s.run connection request most few
-  few-request most s connection (ask.SignOff request) few = few
-  few-request most s connection ask.Trail few = few-trail_outcome most s
-      (permitted s.policy connection operation.Audit object.Desk) few
+module _ (counted : NumbersAreCounted) (nothing : NothingIsHandedOut) where
+  changed_counts : (most : ℕ) (run : Run) (change : RunChange) → Counted most run
+      → Counted (most + 1) (run_after run change)
+  changed_counts most run change few =
+      let number = counted run change in
+      let before = few.0 in (omega (arith, number, before), nothing run change (most + 1))
 
   few-event_outcome : (most : ℕ) (s : State) (event : Event) → Few most s
       → Few (most + 1) (event_outcome s event).state
   unfolding event_outcome
   few-event_outcome most s (event.Ask connection request) few =
-      phase_more most (outcome_of s connection request).state.run.phase
-      (few-request most s connection request few)
-  few-event_outcome most s (event.Gone connection) few = phase_more most s.run.phase few
+      let now = counted_more most s.run few in
+      holds-request (Few (most + 1)) s connection request now (λ policy. now)
+      (λ asked shelf lines is. now) (λ asked wafer lines is. now)
+      (λ change. changed_counts most s.run change few) (λ change. now)
+  few-event_outcome most s (event.Gone connection) few = counted_more most s.run few
   few-event_outcome most s (event.Take worker) few =
-      take_counts most s.run s.run.phase (phase_more most s.run.phase few) few
+      take_counts most s.run s.run.phase (counted_more most s.run few) few.1
   few-event_outcome most s (event.Cut answer) few =
-      let now = phase_more most s.run.phase few in
+      let now = counted_more most s.run few in
       one_of most (s.run.number == answer.job.run) _ _
       (cut_counts most s.run answer s.run.phase now) now
   few-event_outcome most s (event.Tile answer) few =
-      let now = phase_more most s.run.phase few in
+      let now = counted_more most s.run few in
       one_of most (s.run.number == answer.job.run) _ _
-      (tile_counts most s.run answer s.run.phase now now) now
-  few-event_outcome most s event.Restart few = restarted_counts (most + 1) s.run.phase
-
-  few-settlement : (most : ℕ) (s : State) (event : Event) (was : Bool) (outcome : Outcome)
-      → Few (most + 1) s → Few (most + 1) outcome.state
-      → Few (most + 1) (settlement s event was outcome).state
-  few-settlement most s event was outcome few now =
-      elim (outcome.changes && not was) as
-      (λ b. Few (most + 1) (cond b (no_change (not_kept_response event) (record s { closed = true }))
-      outcome).state) [ true ↦ few | false ↦ now ]
+      (tile_counts most s.run answer s.run.phase now now.1) now
+  few-event_outcome most s event.Restart few =
+      ((counted_more most s.run few).0, restarted_counts (most + 1) s.run.phase)
 
   few-step : (most : ℕ) (s : State) (event : Event) (was : Bool) → Few most s
       → Few (most + 1) (after s event was)
-  unfolding step
-  few-step most s event was few = few-settlement most s event was (event_outcome s event)
-      (phase_more most s.run.phase few) (few-event_outcome most s event few)
+  few-step most s event was few =
+      holds-step (Few (most + 1)) (λ t held. held) (λ t entries held. held) s event was
+      (counted_more most s.run few) (few-event_outcome most s event few)
 
   few-calls : (most : ℕ) (s : State) (calls : List Call) → Few most s
       → Few (most + length calls) (state_after s calls)
   few-calls most s [] few =
-      subst (λ n. TakenAtMost n s.run.phase) (let e : most ≡ most + 0 = omega arith in e) few
+      subst (λ n. Few n s) (let e : most ≡ most + 0 = omega arith in e) few
   few-calls most s (call ∷ calls) few =
-      subst (λ n. TakenAtMost n (state_after s (call ∷ calls)).run.phase)
+      subst (λ n. Few n (state_after s (call ∷ calls)))
       (let e : (most + 1) + length calls ≡ most + length (call ∷ calls) = omega arith in e)
       (few-calls (most + 1) (after s call.event call.kept) calls
       (few-step most s call.event call.kept few))
 
   pub few-history : (officer digest : List ℕ) (calls : List Call)
-      → TakenAtMost (length calls) (state_after (new_state officer digest) calls).run.phase
+      → Counted (length calls) (state_after (new_state officer digest) calls).run
   unfolding new_state
   few-history officer digest calls =
-      subst (λ n. TakenAtMost n (state_after (new_state officer digest) calls).run.phase)
+      subst (λ n. Few n (state_after (new_state officer digest) calls))
       (let e : 0 + length calls ≡ length calls = omega arith in e)
-      (few-calls 0 (new_state officer digest) calls tt)
+      (few-calls 0 (new_state officer digest) calls (omega arith, tt))

@@ -1,6 +1,6 @@
 use Rattle.std.proofs.Common.{◌≡◌, ◌∷◌, ◌++◌, map, take}
 use Rattle.mpw_replies.specs.declared.reply.Line.TheVariants.{User, Active, Authorized}
-use Rattle.mpw_core.proofs.answer.identity_lines.Given as goal
+use Rattle.mpw_core.proofs.policy.identity_lines.Given as goal
 
 abbrev pub invariant-loop-role : goal.invariant-loop-role
 invariant-loop-role l =
