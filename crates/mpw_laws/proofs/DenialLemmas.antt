@@ -1,12 +1,13 @@
 -- A denial names what the connection's session lacks.
-use Rattle.std.proofs.Common.{◌≡◌, ◌⊎◌, inl, inr, ℕ, Bool, List, Option, Some, None, Result, Ok, Err, false, refl, sym, ap, ◌∙◌}
+use Rattle.std.proofs.Common.{◌≡◌, ◌⊎◌, inl, inr, ℕ, Bool, List, [], Option, Some, None, Result, Err, false, refl, sym, ap, subst, ◌∙◌}
 use Rattle.std.proofs.lemmas.Option.{none-some, same_Some}
 use Rattle.mpw_geom.specs.Names.{contains_name}
 use Rattle.mpw_permissions.specs.declared.permission.Object.{Object}
+use Rattle.mpw_permissions.specs.declared.permission.Object.TheVariants as objects
 use Rattle.mpw_permissions.specs.declared.permission.Operation.{Operation}
+use Rattle.mpw_permissions.specs.declared.permission.Operation.TheVariants as operations
 use Rattle.mpw_rbac.specs.declared.refusal.Refusal.{Refusal}
 use Rattle.mpw_rbac.specs.declared.refusal.Refusal.TheVariants as refusal
-use Rattle.mpw_rbac.specs.declared.session.Identity.{Identity}
 use Rattle.mpw_rbac_laws.specs.Laws.{DeniesRightly}
 use Rattle.mpw_rbac.specs.Policy.{Policy, authorized, permits}
 use Rattle.mpw_rbac.specs.Rows as rows
@@ -17,43 +18,36 @@ use Rattle.mpw_requests.specs.declared.request.Request.TheVariants as ask
 use Rattle.mpw_requests.specs.declared.policy.PolicyRequest.{PolicyRequest}
 use Rattle.mpw_requests.specs.declared.policy.PolicyRequest.TheVariants.{Open, Close, Activate, DropRole, AddUser, DelUser, AddRole, DelRole, Assign, Deassign, Grant, Revoke, Inherit, Uninherit, Ssd, Dsd, UnSsd, UnDsd}
 use Rattle.mpw_events.specs.PolicyRows.{row_of}
+use Rattle.mpw_access.specs.Permitted.{permitted}
+use Rattle.mpw_replies.proofs.RowParts.{changing_ended, listing_ended}
+use Rattle.mpw_replies.specs.Rows.{denied}
 use Rattle.mpw_replies.specs.declared.reply.Denial.{Denial}
 use Rattle.mpw_replies.specs.declared.reply.Denial.TheVariants as denial
-use Rattle.mpw_replies.specs.declared.reply.Reply.{Reply}
 use Rattle.mpw_replies.specs.declared.reply.Reply.TheVariants as reply
+use Rattle.mpw_replies.specs.declared.row.Done.{Done}
+use Rattle.mpw_replies.specs.declared.row.Ending.{Ending}
+use Rattle.mpw_replies.specs.declared.row.Ending.TheVariants as ending
 use Rattle.mpw_events.specs.declared.event.Response.TheVariants as response
+use Rattle.mpw_events.proofs.OutcomeLemmas.{denied_by}
+use Rattle.mpw_events.specs.Step.{State, Outcome, ending_of, outcome_by, over_policy, over_shelf, over_wafer, over_run, over_waivers, policy_row, whoami_row, trail_row, outcome_of, event_outcome, step, response_of}
 use Rattle.mpw_laws.specs.LayoutLaws.{LayoutsDenyWhatIsLacked}
 use Rattle.mpw_laws.specs.WaferLaws.{WafersDenyWhatIsLacked}
 use Rattle.mpw_laws.specs.CheckingLaws.{RunsDenyWhatIsLacked}
 use Rattle.mpw_laws.specs.SignOffLaws.{SignOffsDenyWhatIsLacked}
-use Rattle.mpw_laws.proofs.RowParts.{denial_ended}
-use Rattle.mpw_access.specs.Permitted.{EnteringDeniesWhatIsLacked, permitted}
-use Rattle.mpw_replies.specs.Rows.{denied}
-use Rattle.mpw_replies.specs.declared.row.Ending.{Ending}
-use Rattle.mpw_permissions.specs.declared.permission.Object.TheVariants as objects
-use Rattle.mpw_permissions.specs.declared.permission.Operation.TheVariants as operations
-use Rattle.mpw_events.specs.Step.{State, Outcome, reply_of, policy_outcome, query_outcome, trail_outcome, identity_lines, outcome_of, event_outcome, step, response_of}
+use Rattle.mpw_laws.proofs.AcceptedLemmas.{denied_row}
 use Rattle.mpw_laws.proofs.RefusalLemmas.{settlement-denied}
-
--- equal responses have equal replies
-pub inside : {a b : Reply} → response.Told a ≡ response.Told b → a ≡ b
-inside e = cc
+use Rattle.mpw_laws.proofs.RowParts.{Lacks, lacks_permitted}
 
 -- the refusal that a denial shows
-abbrev pub told_of : Reply → Option Refusal
-told_of (reply.Denied (denial.Permission operation object)) =
+abbrev pub told_of : Ending → Option Refusal
+told_of (ending.Denied (denial.Permission operation object)) =
     Some (refusal.NotPermitted operation object)
-told_of (reply.Denied (denial.Activation role)) = Some (refusal.NotAuthorized role)
-told_of (reply.Denied (denial.Ssd name)) = Some (refusal.Ssd name)
-told_of (reply.Denied (denial.Dsd name)) = Some (refusal.Dsd name)
-told_of (reply.Denied denial.Session) = None
-told_of (reply.Denied denial.Login) = None
-told_of (reply.Denied (denial.Submitter cell)) = None
-told_of (reply.Denied denial.Asker) = None
-told_of (reply.Ok lines) = None
-told_of (reply.Refused code) = None
+told_of (ending.Denied (denial.Activation role)) = Some (refusal.NotAuthorized role)
+told_of (ending.Denied (denial.Ssd name)) = Some (refusal.Ssd name)
+told_of (ending.Denied (denial.Dsd name)) = Some (refusal.Dsd name)
+told_of _ = None
 
-told_back : (r : Refusal) → (told_of (reply_of r) ≡ Some r) ⊎ (told_of (reply_of r) ≡ None)
+told_back : (r : Refusal) → (told_of (ending_of r) ≡ Some r) ⊎ (told_of (ending_of r) ≡ None)
 told_back (refusal.NotPermitted operation object) = inl refl
 told_back (refusal.NotAuthorized role) = inl refl
 told_back (refusal.Ssd name) = inl refl
@@ -67,27 +61,24 @@ told_back refusal.Known = inr refl
 told_back refusal.Used = inr refl
 told_back refusal.Full = inr refl
 
-told_by : (r x : Refusal) (d : Reply) → told_of d ≡ Some x → reply_of r ≡ d → r ≡ x
-told_by r x d is e =
+told_by : (r x : Refusal) (e : Ending) → told_of e ≡ Some x → ending_of r ≡ e → r ≡ x
+told_by r x e is same =
     elim (told_back r) [
-      | inl p ↦ same_Some r x (sym p ∙ ap told_of e ∙ is)
-      | inr p ↦ absurd (none-some x (sym p ∙ ap told_of e ∙ is))
+      | inl p ↦ same_Some r x (sym p ∙ ap told_of same ∙ is)
+      | inr p ↦ absurd (none-some x (sym p ∙ ap told_of same ∙ is))
     ]
 
-denied-policy_outcome : (s : State) (row : Result Policy Refusal) (d : Reply) (x : Refusal)
-    → told_of d ≡ Some x → (policy_outcome s row).response ≡ response.Told d → row ≡ Err x
-denied-policy_outcome s (Ok q) d x is e = absurd (none-some x (ap told_of (inside e) ∙ is))
-denied-policy_outcome s (Err r) d x is e = ap (λ x. Err x) (told_by r x d is (inside e))
-
-denied-query_outcome : (s : State) (row : Result Identity Refusal) (d : Reply) (x : Refusal)
-    → told_of d ≡ Some x → (query_outcome s identity_lines row).response ≡ response.Told d
+-- the denial of a request of the policy is that of its decision table
+refused-row : (s : State) (row : Result (Done Policy) Refusal) (w : Denial) (x : Refusal)
+    → told_of (ending.Denied w) ≡ Some x
+    → (outcome_by ending_of (over_policy s) s row).response ≡ response.Told (reply.Denied w)
     → row ≡ Err x
-denied-query_outcome s (Ok q) d x is e = absurd (none-some x (ap told_of (inside e) ∙ is))
-denied-query_outcome s (Err r) d x is e = ap (λ x. Err x) (told_by r x d is (inside e))
+refused-row s row w x is e =
+    let d = denied_by ending_of (over_policy s) s row w e in
+    d.1.0 ∙ ap (λ r. Err r) (told_by d.0 x (ending.Denied w) is d.1.1)
 
--- the denial of a policy request is that of its decision table
 pub denied-row : (s : State) (connection : ℕ) (request : PolicyRequest) (kept : Bool) (w : Denial)
-    (x : Refusal) → told_of (reply.Denied w) ≡ Some x
+    (x : Refusal) → told_of (ending.Denied w) ≡ Some x
     → response_of s (event.Ask connection (ask.Policy request)) kept ≡ response.Told
     (reply.Denied w)
     → row_of s.policy connection request ≡ Err x
@@ -95,8 +86,9 @@ unfolding step event_outcome
 denied-row s connection request kept w x is e =
     let same = settlement-denied s (event.Ask connection (ask.Policy request)) kept
     (outcome_of s connection (ask.Policy request)) w e in
-    denied-policy_outcome s (row_of s.policy connection request) (reply.Denied w) x is
-    (ap (λ (o : Outcome). o.response) (sym same) ∙ e)
+    changing_ended _ (λ next. []) (row_of s.policy connection request) x
+    (refused-row s (policy_row s.policy connection request) w x is
+    (ap (λ (o : Outcome). o.response) (sym same) ∙ e))
 
 lacks-row : (connection : ℕ) (request : PolicyRequest)
     → DeniesRightly connection (λ p. row_of p connection request)
@@ -119,46 +111,42 @@ lacks-row connection (Dsd set) = law.denies-dsd connection set
 lacks-row connection (UnSsd name) = law.denies-unssd connection name
 lacks-row connection (UnDsd name) = law.denies-undsd connection name
 
-permission-trail_outcome : (s : State) (row : Result (Unit {0}) Ending) (operation : Operation)
-    (object : Object) → (trail_outcome s row).response ≡ response.Told
-    (reply.Denied (denial.Permission operation object))
-    → row ≡ Err (denied operation object)
-permission-trail_outcome s (Ok allowed) operation object e = absurd cc
-permission-trail_outcome s (Err ending) operation object e =
-    ap (λ x. Err x) (denial_ended ending (denial.Permission operation object) (inside e))
-
 module _ (shelves : LayoutsDenyWhatIsLacked) (wafers : WafersDenyWhatIsLacked)
-    (runs : RunsDenyWhatIsLacked) (waivers : SignOffsDenyWhatIsLacked)
-    (entering : EnteringDeniesWhatIsLacked) where
+    (runs : RunsDenyWhatIsLacked) (waivers : SignOffsDenyWhatIsLacked) where
   lacks-request : (s : State) (connection : ℕ) (request : Request) (operation : Operation)
       (object : Object) → (outcome_of s connection request).response ≡ response.Told
       (reply.Denied (denial.Permission operation object))
       → permits s.policy connection operation object ≡ false
   lacks-request s connection (ask.Policy request) operation object e =
-      lacks-row connection request s.policy operation object (denied-policy_outcome s
-      (row_of s.policy connection request) (reply.Denied (denial.Permission operation object))
-      (refusal.NotPermitted operation object) refl e)
+      lacks-row connection request s.policy operation object
+      (changing_ended _ (λ next. []) (row_of s.policy connection request)
+      (refusal.NotPermitted operation object)
+      (refused-row s (policy_row s.policy connection request)
+      (denial.Permission operation object) (refusal.NotPermitted operation object) refl e))
   lacks-request s connection ask.Whoami operation object e =
       absurd (law.denies-whoami s.policy connection operation object
-      (denied-query_outcome s (rows.whoami s.policy connection)
-      (reply.Denied (denial.Permission operation object)) (refusal.NotPermitted operation object)
-      refl e))
+      (listing_ended _ (rows.whoami s.policy connection) (refusal.NotPermitted operation object)
+      (refused-row s (whoami_row s.policy connection)
+      (denial.Permission operation object) (refusal.NotPermitted operation object) refl e)))
   lacks-request s connection (ask.Layout request) operation object e =
-      shelves s.policy s.shelf connection
-      request operation object (inside e)
+      shelves s.policy s.shelf connection request operation object
+      (denied_row (over_shelf s) s _ (denial.Permission operation object) e)
   lacks-request s connection (ask.Wafer request) operation object e =
-      wafers s.policy s.shelf s.wafer connection
-      request operation object (inside e)
-  lacks-request s connection (ask.Run request) operation object e = runs s.policy s.shelf s.wafer
-      s.run
-      connection request operation object (inside e)
+      wafers s.policy s.shelf s.wafer connection request operation object
+      (denied_row (over_wafer s) s _ (denial.Permission operation object) e)
+  lacks-request s connection (ask.Run request) operation object e =
+      runs s.policy s.shelf s.wafer s.run connection request operation object
+      (denied_row (over_run s) s _ (denial.Permission operation object) e)
   lacks-request s connection (ask.SignOff request) operation object e =
-      waivers s.policy s.wafer s.run
-      s.waivers connection request operation object (inside e)
-  lacks-request s connection ask.Trail operation object e = entering s.policy connection
-      operations.Audit
-      operation objects.Desk object (permission-trail_outcome s
-      (permitted s.policy connection operations.Audit objects.Desk) operation object e)
+      waivers s.policy s.wafer s.run s.waivers connection request operation object
+      (denied_row (over_waivers s) s _ (denial.Permission operation object) e)
+  lacks-request s connection ask.Trail operation object e =
+      subst (λ row. Lacks s.policy connection row)
+      (listing_ended _ (permitted s.policy connection operations.Audit objects.Desk)
+      (denied operation object)
+      (denied_row (over_policy s) s (trail_row s.policy connection s.trail)
+      (denial.Permission operation object) e))
+      (lacks_permitted s.policy connection operations.Audit objects.Desk)
 
   pub lacks-permission : (s : State) (connection : ℕ) (request : Request) (kept : Bool)
       (operation : Operation) (object : Object)

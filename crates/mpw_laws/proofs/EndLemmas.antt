@@ -1,8 +1,8 @@
 -- The work after an accepted run goes on until it is over.
-use Rattle.std.proofs.Common.{◌≡◌, ◌∙◌, ℕ, Bool, true, false, List, [], ◌∷◌, Option, Some, None, Result, Ok, Err, refl, sym, ap, subst}
+use Rattle.std.proofs.Common.{◌≡◌, ◌∙◌, ℕ, ◌+◌, Bool, true, false, List, [], ◌∷◌, Option, Some, None, Result, Ok, Err, refl, sym, ap, subst}
 use Rattle.std.proofs.lemmas.Bool.{true≢false}
 use Rattle.mpw_events.specs.History.{KeptDesk, IsHandled, state_of}
-use Rattle.mpw_events.specs.Step.{State, Outcome, after, no_change, over_run, response_of, step, not_kept_response, event_outcome}
+use Rattle.mpw_events.specs.Step.{State, Outcome, after, no_change, outcome_by, over_run, response_of, step, not_kept_response, event_outcome}
 use Rattle.mpw_events.specs.declared.event.Event.{Event}
 use Rattle.mpw_events.specs.declared.event.Event.TheVariants as event
 use Rattle.mpw_events.specs.declared.event.Response.{Response}
@@ -12,9 +12,10 @@ use Rattle.mpw_deck.specs.Decks.{Deck}
 use Rattle.mpw_wafer.specs.Run.Checking as checking
 use Rattle.mpw_wafer.specs.Run.Checking.{run_row}
 use Rattle.mpw_job.specs.declared.job.CutJob.{CutJob}
-use Rattle.mpw_replies.specs.Rows.{◌>>=◌, ended_by, needed}
+use Rattle.mpw_replies.specs.Rows.{◌>>=◌, changing, ended_by, needed}
 use Rattle.mpw_access.specs.Permitted.{permitted}
 use Rattle.mpw_replies.specs.declared.reply.Code.TheVariants as code
+use Rattle.mpw_replies.specs.declared.reply.Line.TheVariants as line
 use Rattle.mpw_replies.specs.declared.row.Ending.{Ending}
 use Rattle.mpw_replies.specs.declared.row.Ending.TheVariants as ending
 use Rattle.mpw_hier.specs.Items.{Item}
@@ -86,9 +87,14 @@ begun_plan s connection p e =
     (needed code.NoDeck s.wafer.deck)
     (λ deck. checking.snapshot_of deck s.wafer.placings s.shelf) e
 
+abbrev begun : State → Result Planned Ending → Outcome
+begun s row =
+    outcome_by (λ e. e) (over_run s) s
+    (changing checking.RunChange.begun (λ planned. line.Run (s.run.number + 1) ∷ []) row)
+
 wanted_run : (s : State) (connection : ℕ)
     → event_outcome s (event.Ask connection (ask.Run Run))
-    ≡ over_run s (checking.begun_outcome s.run (run_row s.policy s.shelf s.wafer s.run connection))
+    ≡ begun s (run_row s.policy s.shelf s.wafer s.run connection)
 unfolding event_outcome
 wanted_run s connection = refl
 
@@ -116,16 +122,14 @@ begun_cuts connection r before d is accepted =
         → run_row s.policy s.shelf s.wafer s.run connection ≡ b → (planned : Planned)
         × Cuts d planned
     by_row kept c t now (Err why) f =
-        let q : step s e kept ≡ over_run s (checking.begun_outcome s.run (Err why)) =
-        step_by s e kept (over_run s (checking.begun_outcome s.run (Err why)))
-        (wanted_run s connection ∙ ap (λ (b : Result Planned Ending).
-        over_run s (checking.begun_outcome s.run b)) f) false refl in
+        let q : step s e kept ≡ begun s (Err why) =
+        step_by s e kept (begun s (Err why))
+        (wanted_run s connection ∙ ap (begun s) f) false refl in
         never _ (t ∙ ap (λ (x : Outcome). x.response) q) (not_accepted why)
     by_row true c t now (Ok planned) f =
-        let q : step s e true ≡ over_run s (checking.begun_outcome s.run (Ok planned)) =
-        step_by s e true (over_run s (checking.begun_outcome s.run (Ok planned)))
-        (wanted_run s connection ∙ ap (λ (b : Result Planned Ending).
-        over_run s (checking.begun_outcome s.run b)) f) true refl in (
+        let q : step s e true ≡ begun s (Ok planned) =
+        step_by s e true (begun s (Ok planned))
+        (wanted_run s connection ∙ ap (begun s) f) true refl in (
           planned,
           record {
             is_open = ap (λ (x : State). x.closed) now ∙ ap (λ (x : Outcome). x.state.closed) q ∙ c;
@@ -135,9 +139,8 @@ begun_cuts connection r before d is accepted =
         )
     by_row false c t now (Ok planned) f =
         let q : step s e false ≡ no_change (not_kept_response e) (record s { closed = true }) =
-        step_by s e false (over_run s (checking.begun_outcome s.run (Ok planned)))
-        (wanted_run s connection ∙ ap (λ (b : Result Planned Ending).
-        over_run s (checking.begun_outcome s.run b)) f) true refl in
+        step_by s e false (begun s (Ok planned))
+        (wanted_run s connection ∙ ap (begun s) f) true refl in
         never _ (t ∙ ap (λ (x : Outcome). x.response) q) refl
 
     by : Came before e r d → (planned : Planned) × Cuts d planned

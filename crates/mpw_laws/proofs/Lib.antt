@@ -1,6 +1,6 @@
+pub mod AcceptedLemmas
 pub mod BookLines
 pub mod CheckingDenials
-pub mod CheckingLeaving
 pub mod CheckingReadable
 pub mod Coming
 pub mod Counted
@@ -13,8 +13,6 @@ pub mod HiddenLemmas
 pub mod Keeping
 pub mod KeptLemmas
 pub mod LayoutDenials
-pub mod Leaving
-pub mod LeftLemmas
 pub mod Listed
 pub mod Naming
 pub mod NeedLemmas
@@ -41,8 +39,8 @@ pub mod TileLemmas
 pub mod TrailLemmas
 pub mod Undoing
 pub mod Verdicts
+pub mod VersionLemmas
 pub mod WaferDenials
-pub mod WaferLeaving
 pub mod WaivedLemmas
 pub mod WaiverLemmas
 pub mod WorkLemmas

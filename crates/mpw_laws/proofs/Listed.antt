@@ -1,19 +1,17 @@
 -- The lines of a listing of waivers are of full markers.
-use Rattle.std.proofs.Common.{[], ◌≡◌, ℕ, suc, ◌+◌, Bool, true, false, cond, List, ◌∷◌, map, slice_get, Option, None, Some, Result, Ok, Err, refl, ap, subst, arith}
+use Rattle.std.proofs.Common.{[], ◌≡◌, ℕ, suc, ◌+◌, Bool, true, false, cond, List, ◌∷◌, slice_get, Option, None, Some, refl, subst, arith}
 use Rattle.std.specs.Prelude.{All}
 use Rattle.std.proofs.lemmas.List.Elements.{All-nil, All-cons, All-append, All-map}
-use Rattle.mpw_replies.proofs.RowParts.{passed}
+use Rattle.mpw_laws.proofs.RowParts.{if_behind, if_listed}
 use Rattle.mpw_deck.specs.declared.rule.Rule.{Rule}
 use Rattle.mpw_markers.specs.declared.marker.Marker.{Marker}
-use Rattle.mpw_rbac.specs.Policy.{Policy}
 use Rattle.mpw_replies.specs.Listing.{Listed, stored}
 use Rattle.mpw_replies.specs.Sight.{is_full}
 use Rattle.mpw_access.specs.Seen.{seen_by}
 use Rattle.mpw_replies.specs.declared.reply.Line.{Line}
-use Rattle.mpw_replies.specs.declared.reply.Reply.TheVariants as reply
-use Rattle.mpw_replies.specs.declared.row.Ending.{Ending}
-use Rattle.mpw_replies.specs.declared.row.Ending.TheVariants as ending
 use Rattle.mpw_run.specs.declared.phase.Checked.{Checked}
+use Rattle.mpw_run.specs.declared.phase.Phase.TheVariants.{Finished}
+use Rattle.mpw_rbac.specs.Policy.{Policy}
 use Rattle.mpw_run.specs.Step.{Run, findings}
 use Rattle.mpw_waiver.specs.declared.waiver.Waiver.{Waiver}
 use Rattle.mpw_waiver.specs.Waivers.{waiver_at}
@@ -22,7 +20,7 @@ use Rattle.mpw_signoff.specs.Named.{name_for}
 use Rattle.mpw_replies.specs.Rows.{needed}
 use Rattle.mpw_access.specs.Permitted.{session_test}
 use Rattle.mpw_replies.specs.declared.reply.Code.TheVariants as code
-use Rattle.mpw_signoff.specs.SigningOff.{waiver_lines, waivers_row, listing_outcome}
+use Rattle.mpw_signoff.specs.SigningOff.{waiver_lines, waivers_row}
 use Rattle.mpw_signoff.specs.WaiverLines.{waiver_line, rule_line, marker_line, shown_line, lines_from}
 use Rattle.mpw_laws.proofs.Shown.{finished_is}
 
@@ -84,29 +82,17 @@ module _ (P : Line → Type 0) (rules : List Rule) (seen : List Bool) (waivers :
 
 -- ---- the listing
 
-pub listed_is : (waivers : List (Option Waiver)) (row : Result (List Listed) Ending)
-    (lines : List Listed)
-    → (listing_outcome waivers row).reply ≡ reply.Ok lines → row ≡ Ok lines
-listed_is waivers (Ok told) lines e = let same : told ≡ lines = cc in ap (λ l. Ok l) same
-listed_is waivers (Err (ending.Denied why)) lines e = absurd cc
-listed_is waivers (Err (ending.Refused why)) lines e = absurd cc
-
-pub told_is : (policy : Policy) (run : Run) (waivers : List (Option Waiver)) (connection : ℕ)
-    (lines : List Listed)
-    → waivers_row policy run waivers connection ≡ Ok lines
-    → (f : Checked) × (needed code.NotFinished (findings run.phase) ≡ Ok f)
-    × (map stored (waiver_lines policy connection f waivers) ≡ lines)
-unfolding waivers_row
-told_is policy run waivers connection lines e =
-    let inside = passed (session_test policy connection) _ lines e in
-    let f = passed (needed code.NotFinished (findings run.phase)) _ lines inside.2 in
-    (f.0, f.1, cc)
+abbrev AreTold : Policy → Run → List (Option Waiver) → ℕ → List Listed → Type 0
+AreTold policy run waivers connection lines =
+    (f : Checked) × (run.phase ≡ Finished f) × All (IsTold policy connection f waivers) lines
 
 pub told_are_shown : ToldAreShown
-told_are_shown policy wafer run waivers connection lines e =
-    let told = told_is policy run waivers connection lines
-    (listed_is waivers (waivers_row policy run waivers connection) lines e) in
-    let f = told.0 in
+unfolding waivers_row
+told_are_shown policy wafer run waivers connection =
+    let Told : List Listed → Type 0 = AreTold policy run waivers connection in
+    if_listed _ _ (waivers_row policy run waivers connection)
+    (if_behind Told (session_test policy connection) _ (λ inside is.
+    if_behind Told (needed code.NotFinished (findings run.phase)) _ (λ f finished.
     let seen = seen_by policy connection f.planned.snapshot.shelf in
     let all =
     of_lines (λ l. IsTold policy connection f waivers (stored l)) f.planned.snapshot.deck.rules
@@ -121,8 +107,7 @@ told_are_shown policy wafer run waivers connection lines e =
       line = refl;
     }) in (
       f,
-      finished_is run.phase f told.1,
-      subst (All (IsTold policy connection f waivers)) told.2
-          (All-map (IsTold policy connection f waivers) stored
-          (waiver_lines policy connection f waivers) all),
-    )
+      finished_is run.phase f finished,
+      All-map (IsTold policy connection f waivers) stored
+          (waiver_lines policy connection f waivers) all,
+    ))))

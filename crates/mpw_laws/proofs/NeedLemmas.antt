@@ -1,22 +1,24 @@
 -- What accepted requests needed.
-use Rattle.std.proofs.Common.{◌≡◌, ℕ, Bool, true, false, cond, List, Result, Ok, Err, refl, sym, ap, ◌∙◌}
+use Rattle.std.proofs.Common.{◌≡◌, ℕ, ◌+◌, Bool, true, false, cond, List, [], ◌∷◌, Option, Result, Ok, Err, OnOk, refl, sym, ap, ◌∙◌}
+use Rattle.mpw_hier.specs.declared.submission.Submission.{Submission}
 use Rattle.mpw_layouts.specs.Layouts as layouts
+use Rattle.mpw_placings.specs.declared.wafer.Wafer.{Wafer}
+use Rattle.mpw_run.specs.Step as machine
+use Rattle.mpw_waiver.specs.declared.waiver.Waiver.{Waiver}
 use Rattle.mpw_wafer.specs.Run.Checking as checking
 use Rattle.mpw_permissions.specs.declared.permission.Object.{Object}
 use Rattle.mpw_permissions.specs.declared.permission.Object.TheVariants.{Cell, Desk}
 use Rattle.mpw_permissions.specs.declared.permission.Operation.{Operation}
 use Rattle.mpw_permissions.specs.declared.permission.Operation.TheVariants as to
-use Rattle.mpw_rbac.specs.declared.refusal.Refusal.{Refusal}
-use Rattle.mpw_rbac.specs.declared.session.Identity.{Identity}
 use Rattle.mpw_rbac.specs.Policy.{Policy}
 use Rattle.mpw_rbac.specs.Rows as rows
-use Rattle.mpw_replies.proofs.RowParts.{passed}
-use Rattle.mpw_laws.proofs.RowParts.{ended_not_ok}
 use Rattle.mpw_replies.specs.Listing.{Listed}
-use Rattle.mpw_replies.specs.Rows.{◌>>=◌, ended_by}
+use Rattle.mpw_replies.specs.Rows.{◌>>=◌}
 use Rattle.mpw_access.specs.Permitted.{permitted, session_test}
-use Rattle.mpw_replies.specs.declared.reply.Reply.{Reply}
+use Rattle.mpw_replies.specs.declared.reply.Line.TheVariants as line
 use Rattle.mpw_replies.specs.declared.reply.Reply.TheVariants as reply
+use Rattle.mpw_replies.specs.declared.entry.Entry.{Entry}
+use Rattle.mpw_replies.specs.declared.row.Done.{Done}
 use Rattle.mpw_replies.specs.declared.row.Ending.{Ending}
 use Rattle.mpw_requests.specs.declared.layouts.LayoutRequest.{LayoutRequest}
 use Rattle.mpw_requests.specs.declared.layouts.LayoutRequest.TheVariants.{Submit, Cells, Shapes}
@@ -36,10 +38,10 @@ use Rattle.mpw_events.specs.declared.event.Event.TheVariants as event
 use Rattle.mpw_events.specs.declared.event.Response.TheVariants as response
 use Rattle.mpw_laws.specs.Permissions.{Has, session, permission, policy_need, layout_need, wafer_need, run_need, sign_off_need, need_of}
 use Rattle.mpw_events.specs.PolicyRows.{row_of}
-use Rattle.mpw_events.specs.Step.{State, Outcome, reply_of, policy_outcome, query_outcome, trail_outcome, identity_lines, outcome_of, event_outcome, step, response_of}
-use Rattle.mpw_laws.proofs.DenialLemmas.{inside}
-use Rattle.mpw_laws.proofs.ReadableLemmas.{never_ok, told_refusal}
+use Rattle.mpw_events.specs.Step.{State, Outcome, outcome_by, policy_row, whoami_row, trail_row, outcome_of, event_outcome, step, response_of}
+use Rattle.mpw_laws.proofs.AcceptedLemmas.{accepted}
 use Rattle.mpw_laws.proofs.RefusalLemmas.{settlement-ok}
+use Rattle.mpw_laws.proofs.RowParts.{if_ok, if_behind, if_listed, if_changed}
 
 -- if a decision table gives a value, its first test holds, and the others give that value
 test_holds : {A E : Type 0} (test : Bool) (rest : Result A E) (refusal : E) (value : A)
@@ -47,31 +49,24 @@ test_holds : {A E : Type 0} (test : Bool) (rest : Result A E) (refusal : E) (val
 test_holds true rest refusal value e = (refl, e)
 test_holds false rest refusal value e = absurd cc
 
--- an outcome that accepts comes from a decision table that gives a value
-row_gives : {A : Type 0} (told : Result A Ending → Reply)
-    → ((e : Ending) → told (Err e) ≡ ended_by e) → (row : Result A Ending) (lines : List Listed)
-    → told row ≡ reply.Ok lines → (value : A) × (row ≡ Ok value)
-row_gives told errs (Ok value) lines e = (value, refl)
-row_gives told errs (Err ending) lines e =
-    absurd (ended_not_ok ending lines (sym (errs ending) ∙ e))
-
--- the test of a permission, with what follows it
+-- what follows the test of a permission gives a value only if that holds, and so of a session
 had : {B : Type 0} (policy : Policy) (connection : ℕ) (operation : Operation) (object : Object)
-    (behind : Unit {0} → Result B Ending) (value : B)
-    → (permitted policy connection operation object >>= behind) ≡ Ok value
-    → Has policy connection (permission operation object)
-had policy connection operation object behind value e =
-    let first = passed (permitted policy connection operation object) behind value e in
-    (test_holds _ _ _ first.0 (test_holds _ _ _ first.0 first.1).1).0
+    (behind : Unit {0} → Result B Ending)
+    → OnOk (permitted policy connection operation object >>= behind)
+    (Has policy connection (permission operation object))
+had policy connection operation object behind =
+    if_behind (λ x. Has policy connection (permission operation object))
+    (permitted policy connection operation object) behind (λ entered e.
+    if_ok _ (behind entered) (λ x is.
+    (test_holds _ _ _ entered (test_holds _ _ _ entered e).1).0))
 
--- ---- requests of the policy
+was_inside : {B : Type 0} (policy : Policy) (connection : ℕ) (behind : Unit {0} → Result B Ending)
+    → OnOk (session_test policy connection >>= behind) (Has policy connection session)
+was_inside policy connection behind =
+    if_behind (λ x. Has policy connection session) (session_test policy connection) behind
+    (λ inside e. if_ok _ (behind inside) (λ x is. (test_holds _ _ _ inside e).0))
 
--- if a request is accepted, the new policy is that of its decision table
-acceptance-policy_outcome : (s : State) (row : Result Policy Refusal) (lines : List Listed)
-    → (policy_outcome s row).response ≡ response.Told (reply.Ok lines) → (q : Policy) × (row ≡ Ok q)
-acceptance-policy_outcome s (Ok q) lines e = (q, refl)
-acceptance-policy_outcome s (Err r) lines e =
-    absurd (never_ok (reply_of r) (told_refusal r) lines (inside e))
+-- ---- each request
 
 policy-had : (p : Policy) (connection : ℕ) (request : PolicyRequest) (q : Policy)
     → row_of p connection request ≡ Ok q → Has p connection (policy_need request)
@@ -96,125 +91,106 @@ policy-had p connection (Dsd set) q e = (test_holds _ _ _ q (test_holds _ _ _ q 
 policy-had p connection (UnSsd name) q e = (test_holds _ _ _ q (test_holds _ _ _ q e).1).0
 policy-had p connection (UnDsd name) q e = (test_holds _ _ _ q (test_holds _ _ _ q e).1).0
 
-whoami-had : (s : State) (connection : ℕ) (row : Result Identity Refusal) (lines : List Listed)
-    → row ≡ rows.whoami s.policy connection
-    → (query_outcome s identity_lines row).response ≡ response.Told (reply.Ok lines)
-    → Has s.policy connection session
-whoami-had s connection (Ok who) lines is e = (test_holds _ _ _ who (sym is)).0
-whoami-had s connection (Err r) lines is e =
-    absurd (never_ok (reply_of r) (told_refusal r) lines (inside e))
-
--- ---- requests of the other groups
-
-layout-had : (s : State) (connection : ℕ) (request : LayoutRequest) (lines : List Listed)
-    → (layouts.outcome_of s.policy s.shelf connection request).reply ≡ reply.Ok lines
-    → Has s.policy connection (layout_need request)
+layout-had : (p : Policy) (shelf : List Submission) (connection : ℕ) (request : LayoutRequest)
+    → OnOk (layouts.row_of p shelf connection request) (Has p connection (layout_need request))
 unfolding layouts.submit_row layouts.shapes
-layout-had s connection (Submit cell top text) lines e =
-    let row = row_gives (λ row. (layouts.submit_outcome s.shelf row).reply) (λ ending. refl)
-    (layouts.submit_row s.policy s.shelf connection cell top text) lines e in
-    had s.policy connection to.Submit (Cell cell) _ row.0 row.1
-layout-had s connection Cells lines e =
-    let row = row_gives (λ row. (layouts.listing_outcome s.shelf row).reply) (λ ending. refl)
-    (layouts.cells s.policy s.shelf connection) lines e in
-    (test_holds _ _ _ row.0 row.1).0
-layout-had s connection (Shapes cell) lines e =
-    let row = row_gives (λ row. (layouts.listing_outcome s.shelf row).reply) (λ ending. refl)
-    (layouts.shapes s.policy s.shelf connection cell) lines e in
-    had s.policy connection to.Read (Cell cell) _ row.0 row.1
+layout-had p shelf connection (Submit cell top text) =
+    if_changed _ _ (λ s. line.Version s.version ∷ [])
+    (layouts.submit_row p shelf connection cell top text)
+    (had p connection to.Submit (Cell cell) _)
+layout-had p shelf connection Cells =
+    if_listed _ _ (layouts.cells p shelf connection)
+    (if_ok _ (layouts.cells p shelf connection) (λ lines e. (test_holds _ _ _ lines e).0))
+layout-had p shelf connection (Shapes cell) =
+    if_listed _ _ (layouts.shapes p shelf connection cell) (had p connection to.Read (Cell cell) _)
 
-wafer-had : (s : State) (connection : ℕ) (request : WaferRequest) (lines : List Listed)
-    → (wafers.outcome_of s.policy s.shelf s.wafer connection request).reply ≡ reply.Ok lines
-    → Has s.policy connection (wafer_need request)
+wafer-had : (p : Policy) (shelf : List Submission) (wafer : Wafer) (connection : ℕ)
+    (request : WaferRequest)
+    → OnOk (wafers.row_of p shelf wafer connection request) (Has p connection (wafer_need request))
 unfolding wafers.place_row wafers.unplace_row wafers.deck_row
-wafer-had s connection (Place cell label placing) lines e =
-    let row = row_gives (λ row. (wafers.placed_outcome s.shelf s.wafer cell label row).reply)
-    (λ ending. refl)
-    (wafers.place_row s.policy s.shelf s.wafer.placings connection cell label placing) lines e in
-    had s.policy connection to.Place (Cell cell) _ row.0 row.1
-wafer-had s connection (Unplace cell label) lines e =
-    let row = row_gives (λ row. (wafers.unplaced_outcome s.wafer row).reply) (λ ending. refl)
-    (wafers.unplace_row s.policy s.wafer.placings connection cell label) lines e in
-    had s.policy connection to.Place (Cell cell) _ row.0 row.1
-wafer-had s connection (Deck text) lines e =
-    let row = row_gives (λ row. (wafers.decked_outcome s.wafer row).reply) (λ ending. refl)
-    (wafers.deck_row s.policy connection text) lines e in
-    had s.policy connection to.Deck Desk _ row.0 row.1
+wafer-had p shelf wafer connection (Place cell label placing) =
+    if_changed _ _ _ (wafers.place_row p shelf wafer.placings connection cell label placing)
+    (had p connection to.Place (Cell cell) _)
+wafer-had p shelf wafer connection (Unplace cell label) =
+    if_changed _ _ (λ ps. []) (wafers.unplace_row p wafer.placings connection cell label)
+    (had p connection to.Place (Cell cell) _)
+wafer-had p shelf wafer connection (Deck text) =
+    if_changed _ _ (λ deck. []) (wafers.deck_row p connection text)
+    (had p connection to.Deck Desk _)
 
-run-had : (s : State) (connection : ℕ) (request : RunRequest) (lines : List Listed)
-    → (checking.outcome_of s.policy s.shelf s.wafer s.run connection request).reply ≡ reply.Ok lines
-    → Has s.policy connection (run_need request)
+run-had : (p : Policy) (shelf : List Submission) (wafer : Wafer) (run : machine.Run)
+    (connection : ℕ)
+    (request : RunRequest)
+    → OnOk (checking.row_of p shelf wafer run connection request)
+    (Has p connection (run_need request))
 unfolding checking.run_row checking.cancel_row checking.status checking.markers
-run-had s connection Run lines e =
-    let row = row_gives (λ row. (checking.begun_outcome s.run row).reply) (λ ending. refl)
-    (checking.run_row s.policy s.shelf s.wafer s.run connection) lines e in
-    had s.policy connection to.Run Desk _ row.0 row.1
-run-had s connection Cancel lines e =
-    let row = row_gives (λ row. (checking.left_off_outcome s.run row).reply) (λ ending. refl)
-    (checking.cancel_row s.policy s.run connection) lines e in
-    had s.policy connection to.Run Desk _ row.0 row.1
-run-had s connection Status lines e =
-    let row = row_gives (λ row. (checking.listing_outcome s.run row).reply) (λ ending. refl)
-    (checking.status s.policy s.run connection) lines e in
-    let first = passed (session_test s.policy connection) _ row.0 row.1 in
-    (test_holds _ _ _ first.0 first.1).0
-run-had s connection Markers lines e =
-    let row = row_gives (λ row. (checking.listing_outcome s.run row).reply) (λ ending. refl)
-    (checking.markers s.policy s.run connection) lines e in
-    let first = passed (session_test s.policy connection) _ row.0 row.1 in
-    (test_holds _ _ _ first.0 first.1).0
+run-had p shelf wafer run connection Run =
+    if_changed _ _ (λ planned. line.Run (run.number + 1) ∷ [])
+    (checking.run_row p shelf wafer run connection) (had p connection to.Run Desk _)
+run-had p shelf wafer run connection Cancel =
+    if_changed _ _ (λ x. []) (checking.cancel_row p run connection) (had p connection to.Run Desk _)
+run-had p shelf wafer run connection Status =
+    if_listed _ _ (checking.status p run connection) (was_inside p connection _)
+run-had p shelf wafer run connection Markers =
+    if_listed _ _ (checking.markers p run connection) (was_inside p connection _)
 
-sign_off-had : (s : State) (connection : ℕ) (request : SignOffRequest) (lines : List Listed)
-    → (signing.outcome_of s.policy s.wafer s.run s.waivers connection request).reply
-    ≡ reply.Ok lines
-    → Has s.policy connection (sign_off_need request)
+sign_off-had : (p : Policy) (wafer : Wafer) (run : machine.Run) (waivers : List (Option Waiver))
+    (connection : ℕ) (request : SignOffRequest)
+    → OnOk (signing.row_of p wafer run waivers connection request)
+    (Has p connection (sign_off_need request))
 unfolding signing.waive_row signing.sign_row signing.waivers_row signing.verdict_row
-sign_off-had s connection (Waive marker) lines e =
-    let row = row_gives (λ row. (signing.waived_outcome s.waivers row).reply) (λ ending. refl)
-    (signing.waive_row s.policy s.run s.waivers connection marker) lines e in
-    had s.policy connection to.Waive Desk _ row.0 row.1
-sign_off-had s connection (Sign marker) lines e =
-    let row = row_gives (λ row. (signing.signed_outcome s.waivers row).reply) (λ ending. refl)
-    (signing.sign_row s.policy s.run s.waivers connection marker) lines e in
-    had s.policy connection to.Sign Desk _ row.0 row.1
-sign_off-had s connection Waivers lines e =
-    let row = row_gives (λ row. (signing.listing_outcome s.waivers row).reply) (λ ending. refl)
-    (signing.waivers_row s.policy s.run s.waivers connection) lines e in
-    let first = passed (session_test s.policy connection) _ row.0 row.1 in
-    (test_holds _ _ _ first.0 first.1).0
-sign_off-had s connection Verdict lines e =
-    let row = row_gives (λ row. (signing.listing_outcome s.waivers row).reply) (λ ending. refl)
-    (signing.verdict_row s.policy s.wafer s.run s.waivers connection) lines e in
-    had s.policy connection to.Verdict Desk _ row.0 row.1
+sign_off-had p wafer run waivers connection (Waive marker) =
+    if_changed _ _ (λ by. []) (signing.waive_row p run waivers connection marker)
+    (had p connection to.Waive Desk _)
+sign_off-had p wafer run waivers connection (Sign marker) =
+    if_changed _ _ (λ by. []) (signing.sign_row p run waivers connection marker)
+    (had p connection to.Sign Desk _)
+sign_off-had p wafer run waivers connection Waivers =
+    if_listed _ _ (signing.waivers_row p run waivers connection) (was_inside p connection _)
+sign_off-had p wafer run waivers connection Verdict =
+    if_listed _ _ (signing.verdict_row p wafer run waivers connection)
+    (had p connection to.Verdict Desk _)
 
-trail-had : (s : State) (connection : ℕ) (row : Result (Unit {0}) Ending) (lines : List Listed)
-    → row ≡ permitted s.policy connection to.Audit Desk
-    → (trail_outcome s row).response ≡ response.Told (reply.Ok lines)
-    → Has s.policy connection (permission to.Audit Desk)
-trail-had s connection (Ok allowed) lines is e =
-    (test_holds _ _ _ tt (test_holds _ _ _ tt (sym is)).1).0
-trail-had s connection (Err ending) lines is e =
-    absurd (ended_not_ok ending lines (inside e))
+whoami-had : (p : Policy) (connection : ℕ)
+    → OnOk (whoami_row p connection) (Has p connection session)
+whoami-had p connection =
+    if_listed _ _ (rows.whoami p connection)
+    (if_ok _ (rows.whoami p connection) (λ who e. (test_holds _ _ _ who e).0))
+
+trail-had : (p : Policy) (connection : ℕ) (trail : List Entry)
+    → OnOk (trail_row p connection trail) (Has p connection (permission to.Audit Desk))
+trail-had p connection trail =
+    if_listed _ _ (permitted p connection to.Audit Desk)
+    (if_ok _ (permitted p connection to.Audit Desk) (λ allowed e.
+    (test_holds _ _ _ allowed (test_holds _ _ _ allowed e).1).0))
 
 -- ---- any request
+
+-- an accepted request had what its table's value needs
+had_by : {E P : Type 0} (how : E → Ending) (over : P → State) (s : State) (row : Result (Done P) E)
+    (H : Type 0) (lines : List Listed) → OnOk row H
+    → (outcome_by how over s row).response ≡ response.Told (reply.Ok lines) → H
+had_by how over s row H lines holds = accepted how over s row (λ told. H) lines holds
 
 request-had : (s : State) (connection : ℕ) (request : Request) (lines : List Listed)
     → (outcome_of s connection request).response ≡ response.Told (reply.Ok lines)
     → Has s.policy connection (need_of request)
 request-had s connection (ask.Policy request) lines e =
-    let row = acceptance-policy_outcome s (row_of s.policy connection request) lines e in
-    policy-had s.policy connection request row.0 row.1
+    let row = row_of s.policy connection request in
+    had_by _ _ s (policy_row s.policy connection request) _ lines
+    (if_changed _ _ (λ next. []) row (if_ok _ row (policy-had s.policy connection request))) e
 request-had s connection ask.Whoami lines e =
-    whoami-had s connection (rows.whoami s.policy connection) lines refl e
+    had_by _ _ s _ _ lines (whoami-had s.policy connection) e
 request-had s connection (ask.Layout request) lines e =
-    layout-had s connection request lines (inside e)
+    had_by _ _ s _ _ lines (layout-had s.policy s.shelf connection request) e
 request-had s connection (ask.Wafer request) lines e =
-    wafer-had s connection request lines (inside e)
-request-had s connection (ask.Run request) lines e = run-had s connection request lines (inside e)
+    had_by _ _ s _ _ lines (wafer-had s.policy s.shelf s.wafer connection request) e
+request-had s connection (ask.Run request) lines e =
+    had_by _ _ s _ _ lines (run-had s.policy s.shelf s.wafer s.run connection request) e
 request-had s connection (ask.SignOff request) lines e =
-    sign_off-had s connection request lines (inside e)
+    had_by _ _ s _ _ lines (sign_off-had s.policy s.wafer s.run s.waivers connection request) e
 request-had s connection ask.Trail lines e =
-    trail-had s connection (permitted s.policy connection to.Audit Desk) lines refl e
+    had_by _ _ s _ _ lines (trail-had s.policy connection s.trail) e
 
 pub acceptance-had : (s : State) (connection : ℕ) (request : Request) (kept : Bool)
     (lines : List Listed)

@@ -1,5 +1,5 @@
 -- Lines of `cells` and of `shapes` are of cells that the session may read.
-use Rattle.std.proofs.Common.{◌≡◌, ℕ, Bool, true, false, cond, List, [], ◌∷◌, map, Option, Some, None, Result, Ok, Err, is_some, arith, refl, sym, subst}
+use Rattle.std.proofs.Common.{◌≡◌, ℕ, Bool, true, false, cond, List, [], ◌∷◌, map, Option, Some, None, Ok, Err, IfOk, is_some, arith, refl, sym, subst}
 use Rattle.std.specs.Prelude.{All, slice_get}
 use Rattle.std.specs.List.{flat_map}
 use Rattle.std.proofs.lemmas.List.Elements.{All-cons, All-append}
@@ -12,20 +12,17 @@ use Rattle.mpw_hier.specs.Items.{Item}
 use Rattle.mpw_hier.specs.Shelf.{present}
 use Rattle.mpw_hier.specs.Shelved.{PresentAreOfTheirCell}
 use Rattle.mpw_hier.specs.Values.{flat}
-use Rattle.mpw_requests.specs.declared.layouts.LayoutRequest.{LayoutRequest}
 use Rattle.mpw_requests.specs.declared.layouts.LayoutRequest.TheVariants as ask
-use Rattle.mpw_laws.proofs.RowParts.{ended_not_ok}
+use Rattle.mpw_laws.proofs.RowParts.{if_ok, if_behind, if_listed, if_changed}
 use Rattle.mpw_replies.specs.Listing.{Listed, stored, line_if, shape_line}
+use Rattle.mpw_laws.specs.LayoutLaws.{LayoutsAreOfReadable}
 use Rattle.mpw_laws.specs.Readable.{IsOfReadable}
-use Rattle.mpw_replies.specs.Rows.{◌>>=◌}
 use Rattle.mpw_access.specs.Permitted.{permitted}
 use Rattle.mpw_access.specs.Seen.{may_read}
 use Rattle.mpw_replies.specs.declared.reply.Denial.TheVariants as denial
-use Rattle.mpw_replies.specs.declared.reply.Line.TheVariants.{Version}
-use Rattle.mpw_replies.specs.declared.reply.Reply.TheVariants as reply
-use Rattle.mpw_replies.specs.declared.row.Ending.{Ending}
+use Rattle.mpw_replies.specs.declared.reply.Line.TheVariants as line
 use Rattle.mpw_replies.specs.declared.row.Ending.TheVariants as ending
-use Rattle.mpw_layouts.specs.Layouts.{numbered_at, cell_line, present_submission, readable_line, cells_of, readable_shape, present_number, cells, shapes, submit_row, submit_outcome, listing_outcome, outcome_of}
+use Rattle.mpw_layouts.specs.Layouts.{numbered_at, cell_line, present_submission, readable_line, cells_of, readable_shape, present_number, cells, shapes, submit_row}
 
 -- the lines that no request has
 nothing : (P : Listed → Type 0) → All P []
@@ -104,66 +101,37 @@ module _ (policy : Policy) (connection : ℕ) where
 
   -- ---- decision tables
 
-  cells_row : PresentAreOfTheirCell → (shelf : List Submission) (lines : List Listed)
-      → cells policy shelf connection ≡ Ok lines → All (IsOfReadable policy connection) lines
-  cells_row presents shelf lines e = go
-      (map stored (flat_map (readable_line policy shelf connection) (cells_of shelf)))
-      (of_cells presents shelf (cells_of shelf)) (is_some (session_of policy connection)) e
-    where
-      go : (all : List Listed) → All (IsOfReadable policy connection) all → (b : Bool)
-          → cond b (Ok all) (Err (ending.Denied denial.Session)) ≡ Ok lines
-          → All (IsOfReadable policy connection) lines
-      go all each true is = let same : all ≡ lines = cc in
-          subst (All (IsOfReadable policy connection))
-          same each
-      go all each false is = absurd cc
+  abbrev Readable : List Listed → Type 0
+  Readable lines = All (IsOfReadable policy connection) lines
 
-  shapes_row : (shelf : List Submission) (cell : List ℕ) (lines : List Listed)
-      → shapes policy shelf connection cell ≡ Ok lines → All (IsOfReadable policy connection) lines
+  cells_row : PresentAreOfTheirCell → (shelf : List Submission)
+      → IfOk (cells policy shelf connection) Readable
+  cells_row presents shelf =
+      go (is_some (session_of policy connection)) _ (of_cells presents shelf (cells_of shelf))
+    where
+      go : (inside : Bool) (lines : List Listed) → Readable lines
+          → IfOk (cond inside (Ok lines) (Err (ending.Denied denial.Session))) Readable
+      go true lines each = each
+      go false lines each = tt
+
+  shapes_row : (shelf : List Submission) (cell : List ℕ)
+      → IfOk (shapes policy shelf connection cell) Readable
   unfolding shapes
-  shapes_row shelf cell lines e = go (permitted policy connection Read (objects.Cell cell))
-      (present_number (present shelf cell)) e
-    where
-      go : (first : Result (Unit {0}) Ending) (second : Result ℕ Ending)
-          → ◌>>=◌ first (λ entered. ◌>>=◌ second
-          (λ number. Ok (flat_map (readable_shape policy shelf connection) (flat shelf number))))
-          ≡ Ok lines → All (IsOfReadable policy connection) lines
-      go (Ok entered) (Ok number) is =
-          let same : flat_map (readable_shape policy shelf connection) (flat shelf number) ≡ lines =
-          cc in
-          subst (All (IsOfReadable policy connection)) same (of_shapes shelf (flat shelf number))
-      go (Ok entered) (Err told) is = absurd cc
-      go (Err told) second is = absurd cc
+  shapes_row shelf cell =
+      if_behind Readable (permitted policy connection Read (objects.Cell cell)) _ (λ entered is.
+      if_behind Readable (present_number (present shelf cell)) _
+      (λ number is. of_shapes shelf (flat shelf number)))
 
-  -- ---- outcomes
-
-  of_shelved : (shelf : List Submission) (row : Result Submission Ending) (lines : List Listed)
-      → (submit_outcome shelf row).reply ≡ reply.Ok lines
-      → All (IsOfReadable policy connection) lines
-  of_shelved shelf (Ok s) lines e =
-      let same : stored (Version s.version) ∷ [] ≡ lines = cc in
-      subst (All (IsOfReadable policy connection)) same
-      (All-cons (IsOfReadable policy connection) (stored (Version s.version)) [] tt no_lines)
-  of_shelved shelf (Err r) lines e = absurd (ended_not_ok r lines e)
-
-  of_listed : (shelf : List Submission) (row : Result (List Listed) Ending) (lines : List Listed)
-      → ((found : List Listed) → row ≡ Ok found → All (IsOfReadable policy connection) found)
-      → (listing_outcome shelf row).reply ≡ reply.Ok lines
-      → All (IsOfReadable policy connection) lines
-  of_listed shelf (Ok found) lines all e = let same : found ≡ lines = cc in
-      subst (All (IsOfReadable policy connection)) same (all found refl)
-  of_listed shelf (Err r) lines all e = absurd (ended_not_ok r lines e)
-
-pub readable-layout : PresentAreOfTheirCell
-    → (policy : Policy) (shelf : List Submission) (connection : ℕ) (request : LayoutRequest)
-    (lines : List Listed)
-    → (outcome_of policy shelf connection request).reply ≡ reply.Ok lines
-    → All (IsOfReadable policy connection) lines
-readable-layout presents policy shelf connection (ask.Submit cell top text) lines e =
-    of_shelved policy connection shelf (submit_row policy shelf connection cell top text) lines e
-readable-layout presents policy shelf connection ask.Cells lines e =
-    of_listed policy connection shelf (cells policy shelf connection) lines
-    (λ found is. cells_row policy connection presents shelf found is) e
-readable-layout presents policy shelf connection (ask.Shapes cell) lines e =
-    of_listed policy connection shelf (shapes policy shelf connection cell) lines
-    (λ found is. shapes_row policy connection shelf cell found is) e
+pub readable_layouts : PresentAreOfTheirCell → LayoutsAreOfReadable
+readable_layouts presents policy shelf connection (ask.Submit cell top text) =
+    if_changed _ _ (λ s. line.Version s.version ∷ [])
+    (submit_row policy shelf connection cell top text)
+    (if_ok _ (submit_row policy shelf connection cell top text) (λ s is.
+    All-cons (IsOfReadable policy connection) (stored (line.Version s.version)) [] tt
+    (no_lines policy connection)))
+readable_layouts presents policy shelf connection ask.Cells =
+    if_listed _ _ (cells policy shelf connection)
+    (cells_row policy connection presents shelf)
+readable_layouts presents policy shelf connection (ask.Shapes cell) =
+    if_listed _ _ (shapes policy shelf connection cell)
+    (shapes_row policy connection shelf cell)

@@ -1,27 +1,21 @@
 -- Which events of the run leave the state unchanged.
 use Rattle.std.proofs.Common.{◌≡◌, ℕ, Bool, true, false, Result, Ok, Err, refl, sym, ap, ◌∙◌, true≢false}
-use Rattle.mpw_rbac.specs.declared.refusal.Refusal.{Refusal}
-use Rattle.mpw_rbac.specs.declared.session.Identity.{Identity}
-use Rattle.mpw_rbac.specs.Policy.{Policy}
-use Rattle.mpw_rbac.specs.Rows as rows
 use Rattle.mpw_run.specs.declared.phase.RunReply.{RunReply}
 use Rattle.mpw_run.specs.declared.phase.RunReply.TheVariants as reply
 use Rattle.mpw_run.specs.Step.{Run, Outcome as RunOutcome, taken, cut_answered, kept, tile_answered}
 use Rattle.mpw_run.specs.Laws.{finishes}
 use Rattle.mpw_laws.specs.RunLaws.{Event as RunEvent, leaves, UnkeptLeavesTheRun}
 use Rattle.mpw_laws.specs.RunLaws as law
-use Rattle.mpw_permissions.specs.declared.permission.Object.TheVariants as object
-use Rattle.mpw_permissions.specs.declared.permission.Operation.TheVariants as operation
-use Rattle.mpw_access.specs.Permitted.{permitted}
+use Rattle.mpw_replies.specs.declared.row.Done.{Done}
+use Rattle.mpw_replies.specs.declared.row.Done.TheVariants.{Lists, Changes}
 use Rattle.mpw_replies.specs.declared.row.Ending.{Ending}
 use Rattle.mpw_requests.specs.declared.request.Request.{Request}
 use Rattle.mpw_requests.specs.declared.request.Request.TheVariants as ask
 use Rattle.mpw_core.specs.Answer.{run_response}
-use Rattle.mpw_events.specs.PolicyRows.{row_of}
 use Rattle.mpw_events.specs.declared.event.Event.{Event}
 use Rattle.mpw_events.specs.declared.event.Event.TheVariants as event
 use Rattle.mpw_events.specs.declared.event.Response.TheVariants as response
-use Rattle.mpw_events.specs.Step.{State, Outcome, policy_outcome, query_outcome, trail_outcome, identity_lines, outcome_of, event_outcome, of_run, step, response_of}
+use Rattle.mpw_events.specs.Step.{State, Outcome, outcome_by, outcome_of, event_outcome, of_run, step, response_of}
 use Rattle.mpw_laws.proofs.RefusalLemmas.{settlement-run}
 
 -- ---- a result that is not accepted leaves the state unchanged
@@ -29,33 +23,23 @@ use Rattle.mpw_laws.proofs.RefusalLemmas.{settlement-run}
 same-reply : {a b : RunReply} → run_response a ≡ run_response b → a ≡ b
 same-reply e = cc
 
-changed-told : (s : State) (row : Result Policy Refusal) (r : RunReply)
-    → (policy_outcome s row).response ≡ run_response r → ⊥
-changed-told s (Ok q) r e = cc
-changed-told s (Err why) r e = cc
-
-asked-told : (s : State) (row : Result Identity Refusal) (r : RunReply)
-    → (query_outcome s identity_lines row).response ≡ run_response r → ⊥
-asked-told s (Ok who) r e = cc
-asked-told s (Err why) r e = cc
-
-audited-told : (s : State) (row : Result (Unit {0}) Ending) (r : RunReply)
-    → (trail_outcome s row).response ≡ run_response r → ⊥
-audited-told s (Ok allowed) r e = cc
-audited-told s (Err ending) r e = cc
-
 -- a request gets its own kind of reply
+row-told : {E P : Type 0} (how : E → Ending) (over : P → State) (s : State)
+    (row : Result (Done P) E) (r : RunReply)
+    → (outcome_by how over s row).response ≡ run_response r → ⊥
+row-told how over s (Ok (Lists lines)) r e = cc
+row-told how over s (Ok (Changes part lines)) r e = cc
+row-told how over s (Err why) r e = cc
+
 request-told : (s : State) (connection : ℕ) (request : Request) (r : RunReply)
     → (outcome_of s connection request).response ≡ run_response r → ⊥
-request-told s connection (ask.Policy request) r e =
-    changed-told s (row_of s.policy connection request) r e
-request-told s connection ask.Whoami r e = asked-told s (rows.whoami s.policy connection) r e
-request-told s connection (ask.Layout request) r e = cc
-request-told s connection (ask.Wafer request) r e = cc
-request-told s connection (ask.Run request) r e = cc
-request-told s connection (ask.SignOff request) r e = cc
-request-told s connection ask.Trail r e =
-    audited-told s (permitted s.policy connection operation.Audit object.Desk) r e
+request-told s connection (ask.Policy request) r e = row-told _ _ s _ r e
+request-told s connection ask.Whoami r e = row-told _ _ s _ r e
+request-told s connection (ask.Layout request) r e = row-told _ _ s _ r e
+request-told s connection (ask.Wafer request) r e = row-told _ _ s _ r e
+request-told s connection (ask.Run request) r e = row-told _ _ s _ r e
+request-told s connection (ask.SignOff request) r e = row-told _ _ s _ r e
+request-told s connection ask.Trail r e = row-told _ _ s _ r e
 
 -- a result that is not accepted finishes no run
 leaving-goes-on : (r : RunReply) → leaves r ≡ true → finishes r ≡ false

@@ -1,20 +1,17 @@
 -- The marker of an accepted request.
-use Rattle.std.proofs.Common.{◌≡◌, ◌∙◌, ℕ, Bool, true, false, cond, List, Option, None, Some, Result, Ok, Err, refl, sym, ap}
-use Rattle.mpw_replies.proofs.RowParts.{passed}
+use Rattle.std.proofs.Common.{◌≡◌, ◌∙◌, ℕ, Bool, true, false, cond, List, [], Option, None, Some, Result, Ok, Err, refl, sym, ap}
+use Rattle.mpw_replies.proofs.RowParts.{passed, changed}
 use Rattle.mpw_markers.specs.Laws.{PlacesAreOfKeys}
 use Rattle.mpw_permissions.specs.declared.permission.Object.TheVariants as objects
 use Rattle.mpw_permissions.specs.declared.permission.Operation.TheVariants as operations
 use Rattle.mpw_rbac.specs.Policy.{Policy}
 use Rattle.mpw_rbac.specs.Rows.{user_of}
 use Rattle.mpw_requests.specs.declared.sign_off.MarkerName.{MarkerName}
-use Rattle.mpw_replies.specs.Listing.{Listed}
-use Rattle.mpw_replies.specs.Rows.{ended_by, needed}
+use Rattle.mpw_replies.specs.Rows.{needed}
 use Rattle.mpw_access.specs.Permitted.{permitted}
 use Rattle.mpw_replies.specs.Sight.{is_full}
 use Rattle.mpw_access.specs.Seen.{seen_by}
 use Rattle.mpw_replies.specs.declared.reply.Code.TheVariants as code
-use Rattle.mpw_replies.specs.declared.reply.Reply.TheVariants as reply
-use Rattle.mpw_replies.specs.declared.row.Ending.{Ending}
 use Rattle.mpw_replies.specs.declared.row.Ending.TheVariants as ending
 use Rattle.mpw_run.specs.declared.phase.Checked.{Checked}
 use Rattle.mpw_run.specs.declared.phase.Phase.{Phase}
@@ -27,12 +24,14 @@ use Rattle.mpw_waiver.specs.Signing.{ask_test, sign_test}
 use Rattle.mpw_laws.specs.Signing.{if_passed, signed}
 use Rattle.mpw_waiver.specs.Waivers.{waiver_at, with_signer}
 use Rattle.mpw_signoff.specs.declared.rows.ByUser.{ByUser}
+use Rattle.mpw_signoff.specs.declared.rows.WaiverChange.TheVariants.{Asked, Signed}
 use Rattle.mpw_laws.specs.SignOffLaws.{IsShownInFull, AskedAreShown, SignersStandApart}
 use Rattle.mpw_signoff.specs.Named.{Named, named_in}
-use Rattle.mpw_signoff.specs.SigningOff.{if_full, if_shown, full_marker, passes, apart, by_user, waive_row, sign_row, waived_outcome, signed_outcome}
+use Rattle.mpw_signoff.specs.SigningOff.{if_full, if_shown, full_marker, passes, apart, by_user, waive_row, sign_row, waivers_after}
 use Rattle.mpw_laws.proofs.Naming.{named_is}
 
-pub finished_is : (phase : Phase) (f : Checked) → needed code.NotFinished (findings phase) ≡ Ok f → phase ≡ Finished f
+pub finished_is : (phase : Phase) (f : Checked) → needed code.NotFinished (findings phase) ≡ Ok f
+    → phase ≡ Finished f
 finished_is Idle f e = absurd cc
 finished_is (Cutting planned) f e = absurd cc
 finished_is (Checking c) f e = absurd cc
@@ -72,16 +71,7 @@ passes_is : (told : Result (Unit {0}) WaiverFault) (x : Unit {0}) → passes tol
 passes_is (Ok tt) x e = refl
 passes_is (Err fault) x e = absurd cc
 
-no_lines : (e : Ending) (lines : List Listed) → ended_by e ≡ reply.Ok lines → ⊥
-no_lines (ending.Denied why) lines told = cc
-no_lines (ending.Refused why) lines told = cc
-
 -- ---- waive
-
-asked_ok : (waivers : List (Option Waiver)) (row : Result ByUser Ending) (lines : List Listed)
-    → (waived_outcome waivers row).reply ≡ reply.Ok lines → (by : ByUser) × (row ≡ Ok by)
-asked_ok waivers (Ok by) lines e = (by, refl)
-asked_ok waivers (Err why) lines e = absurd (no_lines why lines e)
 
 -- what an accepted decision table passed
 record IsPassed (policy : Policy) (run : Run) (connection : ℕ) (name : MarkerName) (by : ByUser) :
@@ -105,9 +95,9 @@ waived_is policy run waivers connection name by e =
     record { f = f.0; n = n.0; phase = finished_is run.phase f.0 f.1; is_shown = n.1; is = cc }
 
 pub asked_are_shown : PlacesAreOfKeys → AskedAreShown
-asked_are_shown keys policy wafer run waivers connection name lines e =
-    let row = waive_row policy run waivers connection name in
-    let by = asked_ok waivers row lines e in
+asked_are_shown keys policy wafer run waivers connection name change lines e =
+    let by =
+    changed Asked (λ by. []) (waive_row policy run waivers connection name) change lines e in
     let p = waived_is policy run waivers connection name by.0 by.1 in
     record {
       checked = p.f;
@@ -115,15 +105,10 @@ asked_are_shown keys policy wafer run waivers connection name lines e =
       marker = p.n.marker;
       finished = p.phase;
       shown = shown_is keys policy connection p.f name p.n p.is_shown;
-      left = ap (λ r. (waived_outcome waivers r).waivers) (by.1 ∙ ap (λ b. Ok b) p.is);
+      left = ap (waivers_after waivers) (sym by.2 ∙ ap Asked p.is);
     }
 
 -- ---- sign
-
-signed_ok : (waivers : List (Option Waiver)) (row : Result ByUser Ending) (lines : List Listed)
-    → (signed_outcome waivers row).reply ≡ reply.Ok lines → (by : ByUser) × (row ≡ Ok by)
-signed_ok waivers (Ok by) lines e = (by, refl)
-signed_ok waivers (Err why) lines e = absurd (no_lines why lines e)
 
 record IsPassedBy (policy : Policy) (run : Run) (waivers : List (Option Waiver)) (connection : ℕ)
     (name : MarkerName) (by : ByUser) : Type 0 where
@@ -157,9 +142,9 @@ signed_is policy run waivers connection name by e =
 
 pub signers_apart : PlacesAreOfKeys → SignersAreApart → SignersStandApart
 unfolding signed
-signers_apart keys apart policy wafer run waivers connection name lines e =
-    let row = sign_row policy run waivers connection name in
-    let by = signed_ok waivers row lines e in
+signers_apart keys apart policy wafer run waivers connection name change lines e =
+    let by =
+    changed Signed (λ by. []) (sign_row policy run waivers connection name) change lines e in
     let p = signed_is policy run waivers connection name by.0 by.1 in
     let n = p.row.n in
     let user = user_of policy connection in
@@ -172,5 +157,5 @@ signers_apart keys apart policy wafer run waivers connection name lines e =
       shown = shown_is keys policy connection p.row.f name n p.row.is_shown;
       may = (apart p.row.f.planned.snapshot.shelf waivers after n.place n.marker.met user
           (ap (λ t. if_passed t after) p.test)).0;
-      left = ap (λ r. (signed_outcome waivers r).waivers) (by.1 ∙ ap (λ b. Ok b) p.row.is);
+      left = ap (waivers_after waivers) (sym by.2 ∙ ap Signed p.row.is);
     }

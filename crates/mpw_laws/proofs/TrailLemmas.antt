@@ -1,34 +1,19 @@
 -- A step leaves the earlier trail unchanged, and each request comes after those before it.
 use Rattle.std.proofs.Common.{◌≡◌, ℕ, Bool, true, false, cond, List, ◌++◌, refl, ap, ◌∙◌}
 use Rattle.std.specs.Prelude.{◌&&◌, not}
-use Rattle.mpw_permissions.specs.declared.permission.Object.TheVariants as object
-use Rattle.mpw_permissions.specs.declared.permission.Operation.TheVariants as operation
-use Rattle.mpw_rbac.specs.Rows as rows
 use Rattle.mpw_requests.specs.declared.request.Request.{Request}
-use Rattle.mpw_requests.specs.declared.request.Request.TheVariants as ask
-use Rattle.mpw_access.specs.Permitted.{permitted}
 use Rattle.mpw_replies.specs.declared.entry.Entry.{Entry}
-use Rattle.mpw_events.specs.PolicyRows.{row_of}
 use Rattle.mpw_events.specs.declared.event.Event.{Event}
 use Rattle.mpw_events.specs.declared.event.Event.TheVariants as event
 use Rattle.mpw_events.specs.Step.{State, Outcome, no_change, outcome_of, event_outcome, not_kept_response, settlement, step, response_of, entries_of, after}
 use Rattle.mpw_core.proofs.SettlingLemmas.{trail-grows}
-use Rattle.mpw_core.proofs.OutcomeLemmas.{holds-policy, holds-query, holds-trail}
+use Rattle.mpw_core.proofs.OutcomeLemmas.{holds-request}
 
 trail-request : (s : State) (connection : ℕ) (request : Request)
     → (outcome_of s connection request).state.trail ≡ s.trail
-trail-request s connection (ask.Policy request) =
-    holds-policy (λ t. t.trail ≡ s.trail) (λ t policy same. same) s
-    (row_of s.policy connection request) refl
-trail-request s connection ask.Whoami =
-    holds-query (λ t. t.trail ≡ s.trail) s (rows.whoami s.policy connection) refl
-trail-request s connection (ask.Layout request) = refl
-trail-request s connection (ask.Wafer request) = refl
-trail-request s connection (ask.Run request) = refl
-trail-request s connection (ask.SignOff request) = refl
-trail-request s connection ask.Trail =
-    holds-trail (λ t. t.trail ≡ s.trail) s
-    (permitted s.policy connection operation.Audit object.Desk) refl
+trail-request s connection request =
+    holds-request (λ t. t.trail ≡ s.trail) s connection request refl (λ policy. refl)
+    (λ asked shelf lines is. refl) (λ asked wafer lines is. refl) (λ change. refl) (λ change. refl)
 
 trail-event_outcome : (s : State) (event : Event) → (event_outcome s event).state.trail ≡ s.trail
 unfolding event_outcome

@@ -1,20 +1,14 @@
 -- What holds of a run's phase with its waivers in every state, if each kind of request and event preserves
 -- it.
-use Rattle.std.proofs.Common.{ℕ, Bool, true, false, List, [], length, Option, None, Some, Result, Ok, Err}
+use Rattle.std.proofs.Common.{◌≡◌, ℕ, Bool, true, false, List, [], length, Option, None, Some, Ok}
 use Rattle.std.specs.Prelude.{◌==◌, slice_get, slice_set, nat_lt, if◌then◌else◌}
 use Rattle.mpw_tiles.specs.Plan.{tiles}
 use Rattle.mpw_markers.specs.declared.marker.Marker.{Marker}
 use Rattle.mpw_job.specs.Jobs.{CutWindows, FoundMarkers}
-use Rattle.mpw_permissions.specs.declared.permission.Object.TheVariants as object
-use Rattle.mpw_permissions.specs.declared.permission.Operation.TheVariants as operation
-use Rattle.mpw_rbac.specs.Rows as rows
 use Rattle.mpw_requests.specs.declared.request.Request.{Request}
 use Rattle.mpw_requests.specs.declared.request.Request.TheVariants as ask
-use Rattle.mpw_requests.specs.declared.run.RunRequest.{RunRequest}
-use Rattle.mpw_requests.specs.declared.run.RunRequest.TheVariants as run_ask
 use Rattle.mpw_replies.specs.Listing.{Listed}
-use Rattle.mpw_access.specs.Permitted.{permitted}
-use Rattle.mpw_replies.specs.declared.row.Ending.{Ending}
+use Rattle.mpw_replies.specs.declared.row.Done.TheVariants.{Changes}
 use Rattle.mpw_wafer.specs.Run.Checking as checking
 use Rattle.mpw_run.specs.declared.phase.Checked.{Checked}
 use Rattle.mpw_run.specs.declared.phase.Phase.{Phase}
@@ -24,15 +18,15 @@ use Rattle.mpw_run.specs.Same.{same_snapshot, same_tile_job}
 use Rattle.mpw_run.specs.Step.{Offer, Outcome as RunOutcome, answered_by, next_from, handed, taken_in, cut_in, kept, restarted_phase, job_of_tile, tile_compared, tile_checked, tile_in}
 use Rattle.mpw_requests.specs.declared.sign_off.SignOffRequest.{SignOffRequest}
 use Rattle.mpw_signoff.specs.SigningOff as signing
+use Rattle.mpw_signoff.specs.declared.rows.WaiverChange.{WaiverChange}
 use Rattle.mpw_waiver.specs.declared.waiver.Waiver.{Waiver}
 use Rattle.mpw_waiver.specs.Waivers.{none_asked}
-use Rattle.mpw_events.specs.PolicyRows.{row_of}
 use Rattle.mpw_events.specs.declared.event.Call.{Call}
 use Rattle.mpw_events.specs.declared.event.Event.{Event}
 use Rattle.mpw_events.specs.declared.event.Event.TheVariants as event
 use Rattle.mpw_events.specs.History.{state_after}
 use Rattle.mpw_events.specs.Step.{State, new_state, of_run, outcome_of, over_run, event_outcome, after}
-use Rattle.mpw_core.proofs.OutcomeLemmas.{holds-policy, holds-query, holds-trail, holds-step, holds-calls}
+use Rattle.mpw_core.proofs.OutcomeLemmas.{holds-row, holds-step, holds-calls}
 
 module _
     (R : Phase → List (Option Waiver) → Type 0)
@@ -45,41 +39,19 @@ module _
     (finished : (f : Checked) → R (Finished f) (none_asked (length f.book)))
     (again : (phase : Phase) (waivers : List (Option Waiver)) → R phase waivers
     → R (restarted_phase phase) waivers)
-    (signed_off : (s : State) (connection : ℕ) (request : SignOffRequest) → R s.run.phase s.waivers
-    → R s.run.phase (signing.outcome_of s.policy s.wafer s.run s.waivers connection
-    request).waivers)
+    (signed_off : (s : State) (connection : ℕ) (request : SignOffRequest) (change : WaiverChange)
+    (lines : List Listed)
+    → signing.row_of s.policy s.wafer s.run s.waivers connection request ≡ Ok (Changes change lines)
+    → R s.run.phase s.waivers → R s.run.phase (signing.waivers_after s.waivers change))
   where
     abbrev Fit : State → Type 0
     Fit s = R s.run.phase s.waivers
 
     -- ---- requests of the run
 
-    waived-begun : (s : State) (row : Result Planned Ending) → Fit s
-        → Fit (over_run s (checking.begun_outcome s.run row)).state
-    waived-begun s (Ok planned) fit = begun planned
-    waived-begun s (Err ending) fit = fit
-
-    waived-left : (s : State) (row : Result (Unit {0}) Ending) → Fit s
-        → Fit (over_run s (checking.left_off_outcome s.run row)).state
-    waived-left s (Ok x) fit = idle
-    waived-left s (Err ending) fit = fit
-
-    waived-listed : (s : State) (row : Result (List Listed) Ending) → Fit s
-        → Fit (over_run s (checking.listing_outcome s.run row)).state
-    waived-listed s (Ok lines) fit = fit
-    waived-listed s (Err ending) fit = fit
-
-    waived-run : (s : State) (connection : ℕ) (request : RunRequest) → Fit s
-        → Fit (over_run s (checking.outcome_of s.policy s.shelf s.wafer s.run connection
-        request)).state
-    waived-run s connection run_ask.Run fit =
-        waived-begun s (checking.run_row s.policy s.shelf s.wafer s.run connection) fit
-    waived-run s connection run_ask.Cancel fit =
-        waived-left s (checking.cancel_row s.policy s.run connection) fit
-    waived-run s connection run_ask.Status fit =
-        waived-listed s (checking.status s.policy s.run connection) fit
-    waived-run s connection run_ask.Markers fit =
-        waived-listed s (checking.markers s.policy s.run connection) fit
+    waived-run : (s : State) (change : checking.RunChange) → Fit (over_run s change)
+    waived-run s (checking.RunChange.begun planned) = begun planned
+    waived-run s checking.RunChange.left_off = idle
 
     -- ---- the run's own events
 
@@ -146,15 +118,18 @@ module _
     waived-request : (s : State) (connection : ℕ) (request : Request) → Fit s
         → Fit (outcome_of s connection request).state
     waived-request s connection (ask.Policy request) fit =
-        holds-policy Fit (λ t policy held. held) s (row_of s.policy connection request) fit
-    waived-request s connection ask.Whoami fit =
-        holds-query Fit s (rows.whoami s.policy connection) fit
-    waived-request s connection (ask.Layout request) fit = fit
-    waived-request s connection (ask.Wafer request) fit = fit
-    waived-request s connection (ask.Run request) fit = waived-run s connection request fit
-    waived-request s connection (ask.SignOff request) fit = signed_off s connection request fit
-    waived-request s connection ask.Trail fit = holds-trail Fit s
-        (permitted s.policy connection operation.Audit object.Desk) fit
+        holds-row Fit _ _ s _ fit (λ policy lines is. fit)
+    waived-request s connection ask.Whoami fit = holds-row Fit _ _ s _ fit (λ policy lines is. fit)
+    waived-request s connection (ask.Layout request) fit =
+        holds-row Fit _ _ s _ fit (λ shelf lines is. fit)
+    waived-request s connection (ask.Wafer request) fit =
+        holds-row Fit _ _ s _ fit (λ wafer lines is. fit)
+    waived-request s connection (ask.Run request) fit =
+        holds-row Fit _ _ s _ fit (λ change lines is. waived-run s change)
+    waived-request s connection (ask.SignOff request) fit =
+        holds-row Fit _ _ s _ fit
+        (λ change lines is. signed_off s connection request change lines is fit)
+    waived-request s connection ask.Trail fit = holds-row Fit _ _ s _ fit (λ policy lines is. fit)
 
     waived-event_outcome : (s : State) (event : Event) → Fit s → Fit (event_outcome s event).state
     unfolding event_outcome

@@ -1,42 +1,35 @@
 -- What the desk's step does with waivers.
-use Rattle.std.proofs.Common.{◌≡◌, ℕ, Bool, List, [], ◌∷◌, Result, Ok, Err, refl, sym, ap, subst, ◌∙◌}
+use Rattle.std.proofs.Common.{◌≡◌, ℕ, ◌+◌, Bool, List, [], ◌∷◌, Err, refl, sym, ap, subst, ◌∙◌}
 use Rattle.mpw_requests.specs.declared.request.Request.TheVariants as ask
 use Rattle.mpw_requests.specs.declared.run.RunRequest.TheVariants as run_ask
 use Rattle.mpw_requests.specs.declared.sign_off.MarkerName.{MarkerName}
 use Rattle.mpw_requests.specs.declared.sign_off.SignOffRequest.{SignOffRequest}
 use Rattle.mpw_requests.specs.declared.sign_off.SignOffRequest.TheVariants as sign_ask
-use Rattle.mpw_laws.proofs.RowParts.{ended_not_ok}
 use Rattle.mpw_replies.specs.Listing.{Listed, stored}
 use Rattle.mpw_replies.specs.declared.reply.Denial.{Denial}
 use Rattle.mpw_replies.specs.declared.reply.Denial.TheVariants as denial
 use Rattle.mpw_replies.specs.declared.reply.Line.TheVariants as line
 use Rattle.mpw_replies.specs.declared.reply.Reply.TheVariants as reply
-use Rattle.mpw_replies.specs.declared.row.Ending.{Ending}
+use Rattle.mpw_replies.specs.Rows.{changing}
+use Rattle.mpw_replies.specs.declared.row.Ending.TheVariants as ending
 use Rattle.mpw_wafer.specs.Run.Checking as checking
 use Rattle.mpw_job.specs.Jobs.{FoundMarkers}
-use Rattle.mpw_run.specs.Run.{Planned}
 use Rattle.mpw_run.specs.Step.{Outcome as RunOutcome, book_size, tile_answered}
 use Rattle.mpw_run.specs.declared.phase.RunReply.{RunReply}
 use Rattle.mpw_run.specs.declared.phase.RunReply.TheVariants as told
 use Rattle.mpw_laws.specs.SignOffLaws.{AskedAreShown, AskersAreTold, CleanIsSignedOff, IsRightlyAsked, IsAsker, IsRightlySigned, IsSignedOff, IsSubmitter, SignersStandApart, SubmittersAreTold}
 use Rattle.mpw_signoff.specs.SigningOff as signing
+use Rattle.mpw_signoff.specs.declared.rows.WaiverChange.TheVariants.{Asked, Signed}
 use Rattle.mpw_waiver.specs.Waivers.{none_asked}
 use Rattle.mpw_core.specs.Answer.{run_response}
 use Rattle.mpw_events.specs.declared.event.Event.TheVariants as event
 use Rattle.mpw_events.specs.declared.event.Response.TheVariants as response
 use Rattle.mpw_run.specs.Laws.{finishes}
-use Rattle.mpw_events.specs.Step.{State, Outcome, of_run, outcome_of, over_run, event_outcome, step, response_of, after}
-use Rattle.mpw_laws.proofs.DenialLemmas.{inside}
+use Rattle.mpw_events.specs.Step.{State, Outcome, of_run, outcome_of, over_waivers, event_outcome, step, response_of, after}
+use Rattle.mpw_laws.proofs.AcceptedLemmas.{accepted, accepted_change, denied_row}
 use Rattle.mpw_laws.proofs.RefusalLemmas.{settlement-denied, settlement-ok, settlement-run}
 
 -- ---- with their run
-
-begun-drops : (s : State) (row : Result Planned Ending) (lines : List Listed)
-    → (checking.begun_outcome s.run row).reply ≡ reply.Ok lines
-    → (over_run s (checking.begun_outcome s.run row)).state.waivers ≡ []
-begun-drops s (Ok planned) lines e = refl
-begun-drops s (Err ending) lines e =
-    absurd (ended_not_ok ending lines e)
 
 pub runs-drop : (s : State) (connection : ℕ) (kept : Bool) (lines : List Listed)
     → response_of s (event.Ask connection (ask.Run run_ask.Run)) kept ≡ response.Told
@@ -46,9 +39,11 @@ unfolding step event_outcome
 runs-drop s connection kept lines e =
     let same = settlement-ok s (event.Ask connection (ask.Run run_ask.Run)) kept
     (outcome_of s connection (ask.Run run_ask.Run)) lines e in
-    ap (λ (o : Outcome). o.state.waivers) same
-    ∙ begun-drops s (checking.run_row s.policy s.shelf s.wafer s.run connection) lines
-    (inside (ap (λ (o : Outcome). o.response) (sym same) ∙ e))
+    let c =
+    accepted_change _ _ s checking.RunChange.begun (λ planned. line.Run (s.run.number + 1) ∷ [])
+    (checking.run_row s.policy s.shelf s.wafer s.run connection) lines
+    (ap (λ (o : Outcome). o.response) (sym same) ∙ e) in
+    ap (λ (o : Outcome). o.state.waivers) same ∙ ap (λ (t : State). t.waivers) c.2
 
 same-reply : {a b : RunReply} → run_response a ≡ run_response b → a ≡ b
 same-reply e = cc
@@ -73,6 +68,7 @@ finishing-places s answer kept e =
 
 -- ---- who asks and who signs
 
+-- the step of a sign-off request that is accepted, or denied, is its table's outcome
 told-as : (s : State) (connection : ℕ) (request : SignOffRequest) (kept : Bool)
     (lines : List Listed)
     → response_of s (event.Ask connection (ask.SignOff request)) kept ≡ response.Told
@@ -87,21 +83,12 @@ told-as s connection request kept lines e =
 denied-as : (s : State) (connection : ℕ) (request : SignOffRequest) (kept : Bool) (why : Denial)
     → response_of s (event.Ask connection (ask.SignOff request)) kept ≡ response.Told
     (reply.Denied why)
-    → (signing.outcome_of s.policy s.wafer s.run s.waivers connection request).reply ≡ reply.Denied
-    why
+    → signing.row_of s.policy s.wafer s.run s.waivers connection request ≡ Err (ending.Denied why)
 unfolding step event_outcome
 denied-as s connection request kept why e =
     let same = settlement-denied s (event.Ask connection (ask.SignOff request)) kept
     (outcome_of s connection (ask.SignOff request)) why e in
-    inside (ap (λ (o : Outcome). o.response) (sym same) ∙ e)
-
-ok-as : (s : State) (connection : ℕ) (request : SignOffRequest) (kept : Bool) (lines : List Listed)
-    → response_of s (event.Ask connection (ask.SignOff request)) kept ≡ response.Told
-    (reply.Ok lines)
-    → (signing.outcome_of s.policy s.wafer s.run s.waivers connection request).reply
-    ≡ reply.Ok lines
-ok-as s connection request kept lines e =
-    inside (ap (λ (o : Outcome). o.response) (sym (told-as s connection request kept lines e)) ∙ e)
+    denied_row (over_waivers s) s _ why (ap (λ (o : Outcome). o.response) (sym same) ∙ e)
 
 pub asked-shown : AskedAreShown → (s : State) (connection : ℕ) (name : MarkerName) (kept : Bool)
     (lines : List Listed) → response_of s (event.Ask connection (ask.SignOff (sign_ask.Waive name)))
@@ -110,10 +97,14 @@ pub asked-shown : AskedAreShown → (s : State) (connection : ℕ) (name : Marke
     → IsRightlyAsked s.policy s.run s.waivers connection name
     (after s (event.Ask connection (ask.SignOff (sign_ask.Waive name))) kept).waivers
 asked-shown law s connection name kept lines e =
-    subst (λ (o : Outcome). IsRightlyAsked s.policy s.run s.waivers connection name o.state.waivers)
-    (sym (told-as s connection (sign_ask.Waive name) kept lines e))
-    (law s.policy s.wafer s.run s.waivers connection name lines
-    (ok-as s connection (sign_ask.Waive name) kept lines e))
+    let same = told-as s connection (sign_ask.Waive name) kept lines e in
+    let c = accepted_change _ _ s Asked (λ by. [])
+    (signing.waive_row s.policy s.run s.waivers connection name) lines
+    (ap (λ (o : Outcome). o.response) (sym same) ∙ e) in
+    subst (IsRightlyAsked s.policy s.run s.waivers connection name)
+    (sym (ap (λ (o : Outcome). o.state.waivers) same ∙ ap (λ (t : State). t.waivers) c.2))
+    (law s.policy s.wafer s.run s.waivers connection name (Asked c.0) []
+    (ap (λ row. changing Asked (λ by. []) row) c.1))
 
 pub signed-apart : SignersStandApart
     → (s : State) (connection : ℕ) (name : MarkerName) (kept : Bool) (lines : List Listed)
@@ -122,11 +113,14 @@ pub signed-apart : SignersStandApart
     → IsRightlySigned s.policy s.run s.waivers connection name
     (after s (event.Ask connection (ask.SignOff (sign_ask.Sign name))) kept).waivers
 signed-apart law s connection name kept lines e =
-    subst (λ (o : Outcome). IsRightlySigned s.policy s.run s.waivers connection name
-    o.state.waivers)
-    (sym (told-as s connection (sign_ask.Sign name) kept lines e))
-    (law s.policy s.wafer s.run s.waivers connection name lines
-    (ok-as s connection (sign_ask.Sign name) kept lines e))
+    let same = told-as s connection (sign_ask.Sign name) kept lines e in
+    let c = accepted_change _ _ s Signed (λ by. [])
+    (signing.sign_row s.policy s.run s.waivers connection name) lines
+    (ap (λ (o : Outcome). o.response) (sym same) ∙ e) in
+    subst (IsRightlySigned s.policy s.run s.waivers connection name)
+    (sym (ap (λ (o : Outcome). o.state.waivers) same ∙ ap (λ (t : State). t.waivers) c.2))
+    (law s.policy s.wafer s.run s.waivers connection name (Signed c.0) []
+    (ap (λ row. changing Signed (λ by. []) row) c.1))
 
 pub submitter-told : SubmittersAreTold
     → (s : State) (connection : ℕ) (request : SignOffRequest) (kept : Bool) (cell : List ℕ)
@@ -152,5 +146,10 @@ pub clean-told : CleanIsSignedOff → (s : State) (connection : ℕ) (kept : Boo
     → response_of s (event.Ask connection (ask.SignOff sign_ask.Verdict)) kept ≡ response.Told
     (reply.Ok (stored line.Clean ∷ []))
     → IsSignedOff s.wafer s.run s.waivers
-clean-told law s connection kept e = law s.policy s.wafer s.run s.waivers connection
-    (ok-as s connection sign_ask.Verdict kept (stored line.Clean ∷ []) e)
+clean-told law s connection kept e =
+    let clean = stored line.Clean ∷ [] in
+    accepted _ _ s _ (λ lines. lines ≡ clean → IsSignedOff s.wafer s.run s.waivers) clean
+    (law s.policy s.wafer s.run s.waivers connection)
+    (ap (λ (o : Outcome). o.response) (sym (told-as s connection sign_ask.Verdict kept clean e))
+    ∙ e)
+    refl

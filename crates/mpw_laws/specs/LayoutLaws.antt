@@ -1,5 +1,5 @@
 -- Laws of the requests of the layouts.
-use Rattle.std.specs.Prelude.{◌≡◌, ℕ, true, false, List, All}
+use Rattle.std.specs.Prelude.{◌≡◌, ℕ, true, false, List, All, Err, IfOk}
 use Rattle.mpw_permissions.specs.declared.permission.Operation.{Operation}
 use Rattle.mpw_permissions.specs.declared.permission.Object.{Object}
 use Rattle.mpw_rbac.specs.Policy.{Policy, permits}
@@ -8,32 +8,23 @@ use Rattle.mpw_hier.specs.Structures.{is_shape}
 use Rattle.mpw_requests.specs.declared.layouts.LayoutRequest.{LayoutRequest}
 use Rattle.mpw_requests.specs.declared.layouts.LayoutRequest.TheVariants as ask
 use Rattle.mpw_replies.specs.Listing.{Listed, stored, shape, marker, masked, entry}
-use Rattle.mpw_laws.specs.Readable.{IsOfReadable}
-use Rattle.mpw_replies.specs.Rows.{IsNegative}
-use Rattle.mpw_replies.specs.declared.reply.Denial.TheVariants as denial
-use Rattle.mpw_replies.specs.declared.reply.Reply.TheVariants as reply
-use Rattle.mpw_layouts.specs.Layouts.{outcome_of}
+use Rattle.mpw_laws.specs.Readable.{IsOfReadable, lines_of}
+use Rattle.mpw_replies.specs.Rows.{denied}
+use Rattle.mpw_layouts.specs.Layouts.{row_of}
 
 -- A permission that is denied is lacked.
 abbrev pub LayoutsDenyWhatIsLacked : Type 0
 LayoutsDenyWhatIsLacked = (policy : Policy) (shelf : List Submission) (connection : ℕ)
     (request : LayoutRequest) (operation : Operation) (object : Object)
-    → (outcome_of policy shelf connection request).reply ≡ reply.Denied
-    (denial.Permission operation object) → permits policy connection operation object ≡ false
+    → row_of policy shelf connection request ≡ Err (denied operation object)
+    → permits policy connection operation object ≡ false
 
 -- Each line that names a cell, or shows a shape of one, is of a cell that the session may read.
 abbrev pub LayoutsAreOfReadable : Type 0
 LayoutsAreOfReadable = (policy : Policy) (shelf : List Submission) (connection : ℕ)
-    (request : LayoutRequest) (lines : List Listed)
-    → (outcome_of policy shelf connection request).reply ≡ reply.Ok lines
-    → All (IsOfReadable policy connection) lines
-
--- A denial or a refusal leaves the shelf unchanged.
-abbrev pub NegativesLeaveTheShelf : Type 0
-NegativesLeaveTheShelf =
-    (policy : Policy) (shelf : List Submission) (connection : ℕ) (request : LayoutRequest)
-    → IsNegative (outcome_of policy shelf connection request).reply
-    → (outcome_of policy shelf connection request).shelf ≡ shelf
+    (request : LayoutRequest)
+    → IfOk (row_of policy shelf connection request)
+    (λ done. All (IsOfReadable policy connection) (lines_of done))
 
 -- A line with a shape, which is a boundary or a path.
 abbrev pub IsShapeLine : Listed → Type 0
@@ -47,6 +38,5 @@ IsShapeLine (entry number e) = ⊥
 abbrev pub ShapesAreNoReferences : Type 0
 ShapesAreNoReferences =
     (policy : Policy) (shelf : List Submission) (connection : ℕ) (cell : List ℕ)
-    (lines : List Listed)
-    → (outcome_of policy shelf connection (ask.Shapes cell)).reply ≡ reply.Ok lines
-    → All IsShapeLine lines
+    → IfOk (row_of policy shelf connection (ask.Shapes cell))
+    (λ done. All IsShapeLine (lines_of done))

@@ -1,11 +1,18 @@
--- Which lines of a reply name a cell.
-use Rattle.std.specs.Prelude.{◌≡◌, ℕ, true, ⊤, All}
+-- The lines of an accepted request, and which of them name a cell.
+use Rattle.std.specs.Prelude.{◌≡◌, ℕ, true, ⊤, List, All}
 use Rattle.mpw_permissions.specs.declared.permission.Operation.TheVariants.{Read}
 use Rattle.mpw_permissions.specs.declared.permission.Object.TheVariants as object
 use Rattle.mpw_rbac.specs.Policy.{Policy, permits}
 use Rattle.mpw_replies.specs.declared.reply.Line.TheVariants.{User, Active, Authorized, Version, Run, Idle, Cutting, Checking, Finished, Asked, Signed, Clean, Open, Stale}
 use Rattle.mpw_replies.specs.declared.reply.Line.TheVariants as line
 use Rattle.mpw_replies.specs.Listing.{Listed, stored, shape, marker, masked, entry}
+use Rattle.mpw_replies.specs.declared.row.Done.{Done}
+use Rattle.mpw_replies.specs.declared.row.Done.TheVariants.{Lists, Changes}
+
+-- The lines of a decision table whose tests pass.
+abbrev pub lines_of : {P : Type 0} → Done P → List Listed
+lines_of (Lists lines) = lines
+lines_of (Changes part lines) = lines
 
 -- The line of a cell or of a shape is of a cell that the session may read, and so is each cell that the line
 -- of a marker names. The other lines that a session sees name none. A request of the trail has its own

@@ -1,5 +1,5 @@
 -- Laws of the sign-off requests.
-use Rattle.std.specs.Prelude.{[], ◌≡◌, ◌<◌, ℕ, true, false, List, ◌∷◌, length, slice_get, All, Option, Some}
+use Rattle.std.specs.Prelude.{[], ◌≡◌, ◌<◌, ℕ, true, false, List, ◌∷◌, length, slice_get, All, Option, Some, Ok, Err, IfOk}
 use Rattle.std.specs.Ordering.{is_lt}
 use Rattle.mpw_geom.specs.Names.{name_cmp}
 use Rattle.mpw_deck.specs.declared.rule.Rule.{Rule}
@@ -13,13 +13,14 @@ use Rattle.mpw_requests.specs.declared.sign_off.MarkerName.{MarkerName}
 use Rattle.mpw_requests.specs.declared.sign_off.SignOffRequest.{SignOffRequest}
 use Rattle.mpw_requests.specs.declared.sign_off.SignOffRequest.TheVariants as ask
 use Rattle.mpw_replies.specs.Listing.{Listed, stored}
-use Rattle.mpw_laws.specs.Readable.{IsOfReadable}
-use Rattle.mpw_replies.specs.Rows.{IsNegative}
+use Rattle.mpw_laws.specs.Readable.{IsOfReadable, lines_of}
+use Rattle.mpw_replies.specs.Rows.{denied}
 use Rattle.mpw_replies.specs.Sight.{is_full}
 use Rattle.mpw_access.specs.Seen.{seen_by}
 use Rattle.mpw_replies.specs.declared.reply.Line.TheVariants as line
 use Rattle.mpw_replies.specs.declared.reply.Denial.TheVariants as denial
-use Rattle.mpw_replies.specs.declared.reply.Reply.TheVariants as reply
+use Rattle.mpw_replies.specs.declared.row.Done.TheVariants.{Changes}
+use Rattle.mpw_replies.specs.declared.row.Ending.TheVariants as ending
 use Rattle.mpw_run.specs.declared.phase.Checked.{Checked}
 use Rattle.mpw_run.specs.declared.phase.Phase.TheVariants.{Finished}
 use Rattle.mpw_run.specs.Step.{Run}
@@ -27,8 +28,9 @@ use Rattle.mpw_placings.specs.declared.wafer.Wafer.{Wafer}
 use Rattle.mpw_waiver.specs.declared.waiver.Waiver.{Waiver}
 use Rattle.mpw_laws.specs.WaiverLaws.{IsOwn, MaySign}
 use Rattle.mpw_waiver.specs.Waivers.{waiver_at, is_signed, with_asker, with_signer}
+use Rattle.mpw_signoff.specs.declared.rows.WaiverChange.{WaiverChange}
 use Rattle.mpw_signoff.specs.Named.{name_for}
-use Rattle.mpw_signoff.specs.SigningOff.{outcome_of}
+use Rattle.mpw_signoff.specs.SigningOff.{row_of, waivers_after}
 use Rattle.mpw_signoff.specs.WaiverLines.{waiver_line}
 
 -- ---- full markers
@@ -79,16 +81,15 @@ pub record IsTold (policy : Policy) (connection : ℕ) (f : Checked) (waivers : 
   pub is : waiver_at waivers place ≡ Some waiver
   pub line : listed ≡ stored (waiver_line name waiver.asker waiver.signer)
 
--- What an accepted request that names a marker leaves of the waivers.
+-- What the change of a request that names a marker leaves of the waivers.
 abbrev pub AcceptedLeaves : (MarkerName → SignOffRequest)
     → (Policy → Run → List (Option Waiver) → ℕ → MarkerName → List (Option Waiver) → Type 0)
     → Type 0
 AcceptedLeaves request leaves =
     (policy : Policy) (wafer : Wafer) (run : Run) (waivers : List (Option Waiver)) (connection : ℕ)
-    (name : MarkerName) (lines : List Listed)
-    → (outcome_of policy wafer run waivers connection (request name)).reply ≡ reply.Ok lines
-    → leaves policy run waivers connection name
-    (outcome_of policy wafer run waivers connection (request name)).waivers
+    (name : MarkerName) (change : WaiverChange) (lines : List Listed)
+    → row_of policy wafer run waivers connection (request name) ≡ Ok (Changes change lines)
+    → leaves policy run waivers connection name (waivers_after waivers change)
 
 -- A marker whose waiver is asked for is full.
 abbrev pub AskedAreShown : Type 0
@@ -102,9 +103,8 @@ SignersStandApart = AcceptedLeaves ask.Sign IsRightlySigned
 abbrev pub ToldAreShown : Type 0
 ToldAreShown =
     (policy : Policy) (wafer : Wafer) (run : Run) (waivers : List (Option Waiver)) (connection : ℕ)
-    (lines : List Listed)
-    → (outcome_of policy wafer run waivers connection ask.Waivers).reply ≡ reply.Ok lines
-    → (f : Checked) × (run.phase ≡ Finished f) × All (IsTold policy connection f waivers) lines
+    → IfOk (row_of policy wafer run waivers connection ask.Waivers) (λ done. (f : Checked)
+    × (run.phase ≡ Finished f) × All (IsTold policy connection f waivers) (lines_of done))
 
 -- ---- denials
 
@@ -114,8 +114,7 @@ SignOffsDenyWhatIsLacked =
     (policy : Policy) (wafer : Wafer) (run : Run) (waivers : List (Option Waiver)) (connection : ℕ)
     (request : SignOffRequest)
     (operation : Operation) (object : Object)
-    → (outcome_of policy wafer run waivers connection request).reply ≡ reply.Denied
-    (denial.Permission operation object)
+    → row_of policy wafer run waivers connection request ≡ Err (denied operation object)
     → permits policy connection operation object ≡ false
 
 -- The user submitted a version of the cell that the marker touches, and none of an earlier cell in
@@ -149,31 +148,21 @@ abbrev pub SubmittersAreTold : Type 0
 SubmittersAreTold =
     (policy : Policy) (wafer : Wafer) (run : Run) (waivers : List (Option Waiver)) (connection : ℕ)
     (request : SignOffRequest) (cell : List ℕ)
-    → (outcome_of policy wafer run waivers connection request).reply ≡ reply.Denied
-    (denial.Submitter cell)
+    → row_of policy wafer run waivers connection request
+    ≡ Err (ending.Denied (denial.Submitter cell))
     → (name : MarkerName) × (request ≡ ask.Sign name) × IsSubmitter policy run connection name cell
 
 abbrev pub AskersAreTold : Type 0
 AskersAreTold =
     (policy : Policy) (wafer : Wafer) (run : Run) (waivers : List (Option Waiver)) (connection : ℕ)
     (request : SignOffRequest)
-    → (outcome_of policy wafer run waivers connection request).reply ≡ reply.Denied denial.Asker
+    → row_of policy wafer run waivers connection request ≡ Err (ending.Denied denial.Asker)
     → (name : MarkerName) × (request ≡ ask.Sign name) × IsAsker policy run waivers connection name
 
--- A denial or a refusal leaves the waivers unchanged.
-abbrev pub NegativesLeaveTheWaivers : Type 0
-NegativesLeaveTheWaivers =
-    (policy : Policy) (wafer : Wafer) (run : Run) (waivers : List (Option Waiver)) (connection : ℕ)
-    (request : SignOffRequest)
-    → IsNegative (outcome_of policy wafer run waivers connection request).reply
-    → (outcome_of policy wafer run waivers connection request).waivers ≡ waivers
-
--- A request leaves the number of entries unchanged.
+-- A change leaves the number of entries unchanged.
 abbrev pub PlacesAreLeft : Type 0
-PlacesAreLeft =
-    (policy : Policy) (wafer : Wafer) (run : Run) (waivers : List (Option Waiver)) (connection : ℕ)
-    (request : SignOffRequest)
-    → length (outcome_of policy wafer run waivers connection request).waivers ≡ length waivers
+PlacesAreLeft = (waivers : List (Option Waiver)) (change : WaiverChange)
+    → length (waivers_after waivers change) ≡ length waivers
 
 -- ---- verdicts and lines
 
@@ -191,26 +180,25 @@ pub record IsSignedOff (wafer : Wafer) (run : Run) (waivers : List (Option Waive
 abbrev pub CleanIsSignedOff : Type 0
 CleanIsSignedOff =
     (policy : Policy) (wafer : Wafer) (run : Run) (waivers : List (Option Waiver)) (connection : ℕ)
-    → (outcome_of policy wafer run waivers connection ask.Verdict).reply
-    ≡ reply.Ok (stored line.Clean ∷ [])
-    → IsSignedOff wafer run waivers
+    → IfOk (row_of policy wafer run waivers connection ask.Verdict)
+    (λ done. lines_of done ≡ stored line.Clean ∷ [] → IsSignedOff wafer run waivers)
 
 -- A finished run, with the deck and the placings that it checked and with all waivers signed, has the verdict
 -- `clean`.
 abbrev pub SignedOffIsClean : Type 0
 SignedOffIsClean =
     (policy : Policy) (wafer : Wafer) (run : Run) (waivers : List (Option Waiver)) (connection : ℕ)
-    (f : Checked) (lines : List Listed)
+    (f : Checked)
     → run.phase ≡ Finished f → wafer.deck ≡ Some f.planned.snapshot.deck
     → roots_of wafer.placings ≡ f.planned.snapshot.roots
     → All (λ waiver. is_signed waiver ≡ true) waivers
-    → (outcome_of policy wafer run waivers connection ask.Verdict).reply ≡ reply.Ok lines
-    → lines ≡ stored line.Clean ∷ []
+    → IfOk (row_of policy wafer run waivers connection ask.Verdict)
+    (λ done. lines_of done ≡ stored line.Clean ∷ [])
 
 -- The lines of `waivers` name only cells that the session may read.
 abbrev pub SignOffLinesAreOfReadable : Type 0
 SignOffLinesAreOfReadable =
     (policy : Policy) (wafer : Wafer) (run : Run) (waivers : List (Option Waiver)) (connection : ℕ)
-    (request : SignOffRequest) (lines : List Listed)
-    → (outcome_of policy wafer run waivers connection request).reply ≡ reply.Ok lines
-    → All (IsOfReadable policy connection) lines
+    (request : SignOffRequest)
+    → IfOk (row_of policy wafer run waivers connection request)
+    (λ done. All (IsOfReadable policy connection) (lines_of done))

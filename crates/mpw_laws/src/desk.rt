@@ -35,6 +35,8 @@ ghost use Rattle.mpw_replies.specs.declared.reply.Code.{Code};
 ghost use Rattle.mpw_replies.specs.declared.reply.Code.TheVariants as code;
 ghost use Rattle.mpw_replies.specs.declared.reply.Denial.{Denial};
 ghost use Rattle.mpw_replies.specs.declared.reply.Denial.TheVariants as denial;
+ghost use Rattle.mpw_replies.specs.Rows.{IsNegative};
+ghost use Rattle.mpw_replies.specs.declared.reply.Reply.{Reply as AnyReply};
 ghost use Rattle.mpw_replies.specs.declared.reply.Reply.TheVariants as Reply;
 ghost use Rattle.mpw_events.specs.declared.event.Call.{Call};
 ghost use Rattle.mpw_permissions.specs.declared.permission.Object.{Object};
@@ -46,23 +48,17 @@ ghost use Rattle.mpw_core.specs.Answer.{run_response};
 
 use crate::checking::{
     denials_over_the_run_name_what_is_lacked, lines_of_markers_are_of_readable_cells,
-    runs_are_left_unless_a_request_is_accepted,
 };
 use crate::layouts::{
-    denials_of_layouts_name_what_is_lacked, layouts_are_left_unless_a_request_is_accepted,
-    lines_of_layouts_are_of_readable_cells,
+    denials_of_layouts_name_what_is_lacked, lines_of_layouts_are_of_readable_cells,
 };
 use crate::runs::unkept_leaves_the_run;
 use crate::sign_off::{
     clean_is_signed_off, denials_of_separation_are_true,
     denials_over_the_sign_off_name_what_is_lacked, lines_of_the_sign_off_are_of_readable_cells,
-    places_are_left, signers_stand_apart, waivers_are_left_unless_a_request_is_accepted,
-    waivers_are_of_shown_markers,
+    places_are_left, signers_stand_apart, waivers_are_of_shown_markers,
 };
-use crate::wafer::{
-    denials_over_the_wafer_name_what_is_lacked, wafers_are_left_unless_a_request_is_accepted,
-};
-use mpw_access::entering_denies_what_is_lacked;
+use crate::wafer::denials_over_the_wafer_name_what_is_lacked;
 use mpw_rbac_laws::{
     denied_only_for_the_least_broken_set, each_request_keeps_the_tables,
     own_requests_need_no_permission, sets_are_told_where_they_are_tested,
@@ -85,17 +81,17 @@ pub fn unknown_users_are_denied_like_wrong_tokens()
     ensures wrong { (state : State) (connection : ℕ) (user digest : List ℕ) → session_of state.policy connection ≡ None → is_login state.policy user digest ≡ false → (outcome_of state connection (ask.Policy (Request.Open user digest))).response ≡ response.Told (Reply.Denied denial.Login) }
 {}
 
+/// Whatever the request, a denial or a refusal by its decision table leaves the state unchanged, and is no change that must be stored.
+pub fn states_are_left_unless_a_request_is_accepted()
+    ensures { (state : State) (connection : ℕ) (request : AnyRequest) (reply : AnyReply) → IsNegative reply → (outcome_of state connection request).response ≡ response.Told reply → outcome_of state connection request ≡ no_change (response.Told reply) state }
+{}
+
 /// A denial leaves the state unchanged, but for the trail, which has the request. So does a refusal, unless it says that the change could
 /// not be stored.
 pub fn denials_and_refusals_change_nothing()
     ensures denied { (state : State) (event : Event) (kept : Bool) (why : Denial) → response_of state event kept ≡ response.Told (Reply.Denied why) → (step state event kept).state ≡ state }
     ensures refused { (state : State) (event : Event) (kept : Bool) (why : Code) → why ≢ code.Store → response_of state event kept ≡ response.Told (Reply.Refused why) → (step state event kept).state ≡ state }
-{
-    layouts_are_left_unless_a_request_is_accepted();
-    wafers_are_left_unless_a_request_is_accepted();
-    runs_are_left_unless_a_request_is_accepted();
-    waivers_are_left_unless_a_request_is_accepted();
-}
+{}
 
 /// A result that the run doesn't accept leaves the state unchanged: its reply says that it is a stranger's, a duplicate, or of an old run.
 /// So does a call that gets no job.
@@ -143,7 +139,6 @@ pub fn denials_name_what_the_session_lacks()
     denials_over_the_wafer_name_what_is_lacked();
     denials_over_the_run_name_what_is_lacked();
     denials_over_the_sign_off_name_what_is_lacked();
-    entering_denies_what_is_lacked();
 }
 
 /// In every state that calls lead to, the policy's tables name users and roles that exist, and have no more rows than their limits allow.

@@ -1,16 +1,13 @@
 //! Laws of the requests of the layouts. Each function calls at most the laws that its proof needs. Its contract is the law.
-ghost use Rattle.mpw_laws.specs.LayoutLaws.{LayoutsAreOfReadable, LayoutsDenyWhatIsLacked, NegativesLeaveTheShelf, ShapesAreNoReferences};
+ghost use Rattle.mpw_laws.specs.LayoutLaws.{LayoutsAreOfReadable, LayoutsDenyWhatIsLacked, ShapesAreNoReferences};
 
-use mpw_access::entering_denies_what_is_lacked;
 use mpw_hier::shelves_have_their_numbers;
 use mpw_walk::shapes_are_no_references;
 
 /// If a permission is denied, the connection's session lacks it.
 pub fn denials_of_layouts_name_what_is_lacked()
     ensures { LayoutsDenyWhatIsLacked }
-{
-    entering_denies_what_is_lacked();
-}
+{}
 
 /// A line of a reply that names a cell, or shows a shape of one, is of a cell that the connection's session may read.
 pub fn lines_of_layouts_are_of_readable_cells()
@@ -25,8 +22,3 @@ pub fn lines_of_shapes_are_no_references()
 {
     shapes_are_no_references();
 }
-
-/// A request that is denied or refused leaves the shelf unchanged.
-pub fn layouts_are_left_unless_a_request_is_accepted()
-    ensures { NegativesLeaveTheShelf }
-{}

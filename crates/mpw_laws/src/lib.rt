@@ -18,7 +18,6 @@ mod work;
 
 pub use checking::{
     denials_over_the_run_name_what_is_lacked, lines_of_markers_are_of_readable_cells,
-    runs_are_left_unless_a_request_is_accepted,
 };
 pub use desk::{
     a_restart_ends_every_session, accepted_requests_had_what_they_need,
@@ -27,13 +26,13 @@ pub use desk::{
     denials_to_sign_are_true, every_state_has_a_place_for_each_marker,
     every_state_keeps_authorization, every_state_keeps_its_tables, every_state_keeps_separation,
     lines_are_of_readable_cells, own_requests_are_never_denied_a_permission,
-    sets_are_denied_for_what_was_asked, the_trail_has_each_request,
-    unknown_users_are_denied_like_wrong_tokens, waivers_are_signed_apart,
-    waivers_go_with_their_run, what_is_not_kept_leaves_the_run,
+    sets_are_denied_for_what_was_asked, states_are_left_unless_a_request_is_accepted,
+    the_trail_has_each_request, unknown_users_are_denied_like_wrong_tokens,
+    waivers_are_signed_apart, waivers_go_with_their_run, what_is_not_kept_leaves_the_run,
 };
 pub use layouts::{
-    denials_of_layouts_name_what_is_lacked, layouts_are_left_unless_a_request_is_accepted,
-    lines_of_layouts_are_of_readable_cells, lines_of_shapes_are_no_references,
+    denials_of_layouts_name_what_is_lacked, lines_of_layouts_are_of_readable_cells,
+    lines_of_shapes_are_no_references,
 };
 pub use listings::{
     full_markers_are_not_hidden, hidden_markers_leave_no_trace,
@@ -48,13 +47,9 @@ pub use serving::served_changes_are_kept_in_order;
 pub use sign_off::{
     clean_is_signed_off, denials_of_separation_are_true,
     denials_over_the_sign_off_name_what_is_lacked, lines_of_the_sign_off_are_of_readable_cells,
-    places_are_left, signed_off_is_clean, signers_stand_apart,
-    waivers_are_left_unless_a_request_is_accepted, waivers_are_of_shown_markers,
+    places_are_left, signed_off_is_clean, signers_stand_apart, waivers_are_of_shown_markers,
 };
-pub use wafer::{
-    denials_over_the_wafer_name_what_is_lacked, placings_tell_their_version,
-    wafers_are_left_unless_a_request_is_accepted,
-};
+pub use wafer::{denials_over_the_wafer_name_what_is_lacked, placings_tell_their_version};
 pub use waivers::{
     denials_have_their_cause, none_unsigned_where_all_are_signed, signers_are_apart,
     signers_stay_apart, waivers_stand_where_they_were_put,

@@ -1,10 +1,9 @@
 //! Laws of the sign-off requests. Each function calls at most the laws that its proof needs. Its contract is the law.
-ghost use Rattle.mpw_laws.specs.SignOffLaws.{AskedAreShown, AskersAreTold, CleanIsSignedOff, NegativesLeaveTheWaivers, PlacesAreLeft, SignOffLinesAreOfReadable, SignOffsDenyWhatIsLacked, SignedOffIsClean, SignersStandApart, SubmittersAreTold, ToldAreShown};
+ghost use Rattle.mpw_laws.specs.SignOffLaws.{AskedAreShown, AskersAreTold, CleanIsSignedOff, PlacesAreLeft, SignOffLinesAreOfReadable, SignOffsDenyWhatIsLacked, SignedOffIsClean, SignersStandApart, SubmittersAreTold, ToldAreShown};
 
 use crate::waivers::{
     denials_have_their_cause, none_unsigned_where_all_are_signed, signers_are_apart,
 };
-use mpw_access::entering_denies_what_is_lacked;
 use mpw_markers::places_are_of_their_keys;
 use mpw_run::tests_are_exact;
 
@@ -29,16 +28,9 @@ pub fn denials_of_separation_are_true()
 /// If a permission is denied, the connection's session lacks it.
 pub fn denials_over_the_sign_off_name_what_is_lacked()
     ensures { SignOffsDenyWhatIsLacked }
-{
-    entering_denies_what_is_lacked();
-}
-
-/// A request that is denied or refused leaves the waivers unchanged.
-pub fn waivers_are_left_unless_a_request_is_accepted()
-    ensures { NegativesLeaveTheWaivers }
 {}
 
-/// A request leaves the number of entries for waivers unchanged.
+/// A change of the waivers by a request leaves the number of entries unchanged.
 pub fn places_are_left()
     ensures { PlacesAreLeft }
 {}

@@ -1,30 +1,33 @@
 -- An accepted `markers` of a desk lists the book of a finished run.
-use Rattle.std.proofs.Common.{◌≡◌, ◌∙◌, ℕ, Bool, true, false, List, Option, None, Some, Result, Ok, Err, refl, sym, ap, subst, arith}
+use Rattle.std.proofs.Common.{◌≡◌, ◌∙◌, ℕ, Bool, true, false, List, Option, IfOk, refl, sym, ap, subst, arith}
 use Rattle.std.specs.Prelude.{nat_lt, length, slice_get, if◌then◌else◌}
 use Rattle.std.proofs.lemmas.Int.{ints}
 use Rattle.mpw_job.specs.Layout.{AreLayoutMarkers}
 use Rattle.mpw_job.proofs.Tests.{get_contains}
 use Rattle.mpw_replies.specs.Listing.{Listed}
-use Rattle.mpw_replies.specs.Rows.{◌>>=◌, ended_by, needed}
+use Rattle.mpw_replies.specs.Rows.{listing, needed}
 use Rattle.mpw_replies.specs.declared.reply.Code.TheVariants as code
 use Rattle.mpw_replies.specs.declared.reply.Reply.TheVariants as reply
-use Rattle.mpw_replies.specs.declared.row.Ending.{Ending}
-use Rattle.mpw_replies.specs.declared.row.Ending.TheVariants as ending
+use Rattle.mpw_replies.specs.declared.row.Done.{Done}
 use Rattle.mpw_access.specs.Permitted.{session_test}
 use Rattle.mpw_wafer.specs.Run.Checking as checking
 use Rattle.mpw_requests.specs.declared.request.Request.{Request}
 use Rattle.mpw_requests.specs.declared.request.Request.TheVariants as ask
 use Rattle.mpw_requests.specs.declared.run.RunRequest.TheVariants as run
 use Rattle.mpw_run.specs.declared.phase.Checked.{Checked}
-use Rattle.mpw_run.specs.declared.phase.Phase.{Phase}
-use Rattle.mpw_run.specs.declared.phase.Phase.TheVariants.{Idle, Cutting, Checking, Finished}
+use Rattle.mpw_run.specs.declared.phase.Phase.TheVariants.{Finished}
 use Rattle.mpw_run.specs.Step.{findings}
 use Rattle.mpw_events.specs.declared.event.Event.{Event}
 use Rattle.mpw_events.specs.declared.event.Event.TheVariants as event
 use Rattle.mpw_events.specs.declared.event.Response.TheVariants as response
 use Rattle.mpw_events.specs.declared.keeper.KeptChange.{KeptChange}
 use Rattle.mpw_events.specs.History.{Desk, KeptDesk, Handled, IsHandled, kept_desk, state_of, max_events, closed_response, limit_response, nothing_added, answering, handling}
-use Rattle.mpw_events.specs.Step.{State, over_run, event_outcome, response_of, settlement, step}
+use Rattle.mpw_events.specs.Step.{State, Outcome, outcome_of, event_outcome, response_of, step}
+use Rattle.mpw_laws.specs.Readable.{lines_of}
+use Rattle.mpw_laws.proofs.AcceptedLemmas.{accepted}
+use Rattle.mpw_laws.proofs.RefusalLemmas.{settlement-ok}
+use Rattle.mpw_laws.proofs.RowParts.{if_behind, if_listed}
+use Rattle.mpw_laws.proofs.Shown.{finished_is}
 use Rattle.mpw_listing_laws.specs.Markers.{Sight, AreTold, sight_of, MarkersAreTold}
 use Rattle.mpw_listing_laws.proofs.MarkerLines.{HaveRules, book_told}
 
@@ -57,57 +60,32 @@ accepted_by_step desk changes failures connection request lines left (kept, came
 
 -- ---- the decision table
 
-ended : (why : Ending) (lines : List Listed)
-    → response.Told (ended_by why) ≡ response.Told (reply.Ok lines) → ⊥
-ended (ending.Denied d) lines e = cc
-ended (ending.Refused c) lines e = cc
-
-told_lines : (a b : List Listed) → response.Told (reply.Ok a) ≡ response.Told (reply.Ok b) → a ≡ b
-told_lines a b e = cc
-
 record ListsBook (s : State) (connection : ℕ) (lines : List Listed) : Type 0 where
   checked : Checked
   finished : s.run.phase ≡ Finished checked
   lines_are : lines ≡ checking.checked_lines s.policy connection checked
 
-findings_of : (phase : Phase) (f : Checked) → findings phase ≡ Some f → phase ≡ Finished f
-findings_of Idle f e = cc
-findings_of (Cutting planned) f e = cc
-findings_of (Checking c) f e = cc
-findings_of (Finished g) f e = let same : g ≡ f = cc in ap Finished same
-
-row_lists : (s : State) (connection : ℕ) (lines : List Listed) (inside : Result (Unit {0}) Ending)
-    (found : Option Checked) → findings s.run.phase ≡ found
-    → (over_run s (checking.listing_outcome s.run (inside >>= λ x.
-    needed code.NotFinished found >>= λ f. Ok
-    (checking.checked_lines s.policy connection f)))).response
-    ≡ response.Told (reply.Ok lines) → ListsBook s connection lines
-row_lists s connection lines (Err why) found is e = absurd (ended why lines e)
-row_lists s connection lines (Ok x) None is e = absurd cc
-row_lists s connection lines (Ok x) (Some f) is e = record {
-  checked = f;
-  finished = findings_of s.run.phase f is;
-  lines_are = sym (told_lines _ lines e);
-}
+markers_list : (s : State) (connection : ℕ)
+    → IfOk (listing (λ lines. lines) (checking.markers s.policy s.run connection))
+    (λ (done : Done checking.RunChange). ListsBook s connection (lines_of done))
+unfolding checking.markers
+markers_list s connection =
+    let Of : List Listed → Type 0 = ListsBook s connection in
+    if_listed _ _ (checking.markers s.policy s.run connection)
+    (if_behind Of (session_test s.policy connection) _ (λ inside is.
+    if_behind Of (needed code.NotFinished (findings s.run.phase)) _ (λ f is.
+    record { checked = f; finished = finished_is s.run.phase f is; lines_are = refl })))
 
 step_lists : (s : State) (connection : ℕ) (kept : Bool) (lines : List Listed)
     → response_of s (event.Ask connection (ask.Run run.Markers)) kept
     ≡ response.Told (reply.Ok lines) → ListsBook s connection lines
-unfolding step event_outcome checking.markers
+unfolding step event_outcome
 step_lists s connection kept lines e =
-    row_lists s connection lines (session_test s.policy connection) (findings s.run.phase) refl
-    (sym (quiet (session_test s.policy connection >>= λ x.
-    needed code.NotFinished (findings s.run.phase) >>= λ f.
-    Ok (checking.checked_lines s.policy connection f))) ∙ e)
-  where
-    ev : Event
-    ev = event.Ask connection (ask.Run run.Markers)
-
-    quiet : (row : Result (List Listed) Ending)
-        → (settlement s ev kept (over_run s (checking.listing_outcome s.run row))).response
-        ≡ (over_run s (checking.listing_outcome s.run row)).response
-    quiet (Ok ls) = refl
-    quiet (Err why) = refl
+    let same =
+    settlement-ok s (event.Ask connection (ask.Run run.Markers)) kept
+    (outcome_of s connection (ask.Run run.Markers)) lines e in
+    accepted _ _ s _ (ListsBook s connection) lines (markers_list s connection)
+    (ap (λ (o : Outcome). o.response) (sym same) ∙ e)
 
 -- ---- the book
 

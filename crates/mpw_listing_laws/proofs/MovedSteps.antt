@@ -1,9 +1,7 @@
 -- The answers of a desk at another connection, step by step.
-use Rattle.std.proofs.Common.{◌≡◌, ◌∙◌, ℕ, Bool, true, false, ◌&&◌, not, List, Result, Ok, Err, refl, sym, ap}
+use Rattle.std.proofs.Common.{◌≡◌, ◌∙◌, ℕ, Bool, true, false, ◌&&◌, not, List, [], Result, Ok, Err, refl, sym, ap}
 use Rattle.std.specs.Prelude.{if◌then◌else◌}
 use Rattle.std.proofs.lemmas.Bool.{true≢false}
-use Rattle.mpw_rbac.specs.declared.refusal.Refusal.{Refusal}
-use Rattle.mpw_rbac.specs.declared.session.Identity.{Identity}
 use Rattle.mpw_rbac.specs.Rows as rows
 use Rattle.mpw_layouts.specs.Layouts as layouts
 use Rattle.mpw_wafer.specs.Run.Checking as checking
@@ -13,9 +11,15 @@ use Rattle.mpw_requests.specs.declared.request.Request.{Request}
 use Rattle.mpw_requests.specs.declared.request.Request.TheVariants as ask
 use Rattle.mpw_requests.specs.declared.run.RunRequest.TheVariants as run
 use Rattle.mpw_requests.specs.declared.sign_off.SignOffRequest.TheVariants as sign
+use Rattle.mpw_replies.specs.Listing.{Listed}
+use Rattle.mpw_replies.specs.Rows.{changing, listing}
 use Rattle.mpw_replies.specs.declared.entry.Entry.{Entry}
+use Rattle.mpw_replies.specs.declared.row.Ending.{Ending}
+use Rattle.mpw_signoff.specs.declared.rows.ByUser.{ByUser}
+use Rattle.mpw_signoff.specs.declared.rows.WaiverChange.{WaiverChange}
+use Rattle.mpw_signoff.specs.declared.rows.WaiverChange.TheVariants.{Asked, Signed}
 use Rattle.mpw_events.specs.declared.event.Event.TheVariants as event
-use Rattle.mpw_events.specs.Step.{State, Outcome, no_change, not_kept_response, identity_lines, query_outcome, over_shelf, over_run, over_waivers, outcome_of, event_outcome, settlement, step, response_of, after}
+use Rattle.mpw_events.specs.Step.{State, Outcome, no_change, not_kept_response, outcome_by, over_waivers, outcome_of, event_outcome, settlement, step, response_of, after}
 use Rattle.mpw_secrecy.specs.Questions.{is_of_view}
 use Rattle.mpw_listing_laws.proofs.Moving.{moved, whoami_moved, cells_moved, shapes_moved, status_moved, markers_moved, waive_moved, sign_moved, waivers_moved}
 
@@ -34,43 +38,69 @@ IsMoved here there trail s request =
     outcome_of (moved here there trail s) here request
     ≡ moved_outcome here there trail (outcome_of s there request)
 
-query_moved : (here there : ℕ) (trail : List Entry) (s : State) (row : Result Identity Refusal)
-    → query_outcome (moved here there trail s) identity_lines row
-    ≡ moved_outcome here there trail (query_outcome s identity_lines row)
-query_moved here there trail s (Ok who) = refl
-query_moved here there trail s (Err why) = refl
+-- a table that lists the same there
+list_moved : {A E P : Type 0} (how : E → Ending) (over other : P → State) (lines : A → List Listed)
+    (here there : ℕ) (trail : List Entry) (s : State) (row second : Result A E) → row ≡ second
+    → outcome_by how over (moved here there trail s) (listing lines row)
+    ≡ moved_outcome here there trail (outcome_by how other s (listing lines second))
+list_moved {A = A} {E = E} how over other lines here there trail s row second e =
+    ap (λ r. outcome_by how over (moved here there trail s) (listing lines r)) e ∙ go second
+  where
+    go : (r : Result A E) → outcome_by how over (moved here there trail s) (listing lines r)
+        ≡ moved_outcome here there trail (outcome_by how other s (listing lines r))
+    go (Ok x) = refl
+    go (Err why) = refl
+
+-- a table that changes the waivers in the same way
+put_moved : (put : ByUser → WaiverChange) (here there : ℕ) (trail : List Entry) (s : State)
+    (row second : Result ByUser Ending) → row ≡ second
+    → outcome_by (λ e. e) (over_waivers (moved here there trail s)) (moved here there trail s)
+    (changing put (λ by. []) row)
+    ≡ moved_outcome here there trail
+    (outcome_by (λ e. e) (over_waivers s) s (changing put (λ by. []) second))
+put_moved put here there trail s row second e = ap out e ∙ go second
+  where
+    out : Result ByUser Ending → Outcome
+    out r =
+        outcome_by (λ e. e) (over_waivers (moved here there trail s)) (moved here there trail s)
+        (changing put (λ by. []) r)
+
+    go : (r : Result ByUser Ending) → out r ≡ moved_outcome here there trail
+        (outcome_by (λ e. e) (over_waivers s) s (changing put (λ by. []) r))
+    go (Ok by) = refl
+    go (Err why) = refl
 
 asked_moved : (here there : ℕ) (trail : List Entry) (s : State) (request : Request)
     → is_of_view request ≡ true → IsMoved here there trail s request
 asked_moved here there trail s (ask.Policy request) is = absurd (true≢false (sym is))
 asked_moved here there trail s ask.Whoami is =
-    ap (query_outcome (moved here there trail s) identity_lines) (whoami_moved here there s.policy)
-    ∙ query_moved here there trail s (rows.whoami s.policy there)
+    list_moved _ _ _ _ here there trail s _ (rows.whoami s.policy there)
+    (whoami_moved here there s.policy)
 asked_moved here there trail s (ask.Layout (layout.Submit cell top text)) is =
     absurd (true≢false (sym is))
 asked_moved here there trail s (ask.Layout layout.Cells) is =
-    ap (λ row. over_shelf (moved here there trail s) (layouts.listing_outcome s.shelf row))
+    list_moved _ _ _ _ here there trail s _ (layouts.cells s.policy s.shelf there)
     (cells_moved here there s.policy s.shelf)
 asked_moved here there trail s (ask.Layout (layout.Shapes cell)) is =
-    ap (λ row. over_shelf (moved here there trail s) (layouts.listing_outcome s.shelf row))
+    list_moved _ _ _ _ here there trail s _ (layouts.shapes s.policy s.shelf there cell)
     (shapes_moved here there s.policy s.shelf cell)
 asked_moved here there trail s (ask.Wafer request) is = absurd (true≢false (sym is))
 asked_moved here there trail s (ask.Run run.Run) is = absurd (true≢false (sym is))
 asked_moved here there trail s (ask.Run run.Cancel) is = absurd (true≢false (sym is))
 asked_moved here there trail s (ask.Run run.Status) is =
-    ap (λ row. over_run (moved here there trail s) (checking.listing_outcome s.run row))
+    list_moved _ _ _ _ here there trail s _ (checking.status s.policy s.run there)
     (status_moved here there s.policy s.run)
 asked_moved here there trail s (ask.Run run.Markers) is =
-    ap (λ row. over_run (moved here there trail s) (checking.listing_outcome s.run row))
+    list_moved _ _ _ _ here there trail s _ (checking.markers s.policy s.run there)
     (markers_moved here there s.policy s.run)
 asked_moved here there trail s (ask.SignOff (sign.Waive name)) is =
-    ap (λ row. over_waivers (moved here there trail s) (signing.waived_outcome s.waivers row))
+    put_moved Asked here there trail s _ (signing.waive_row s.policy s.run s.waivers there name)
     (waive_moved here there s.policy s.run s.waivers name)
 asked_moved here there trail s (ask.SignOff (sign.Sign name)) is =
-    ap (λ row. over_waivers (moved here there trail s) (signing.signed_outcome s.waivers row))
+    put_moved Signed here there trail s _ (signing.sign_row s.policy s.run s.waivers there name)
     (sign_moved here there s.policy s.run s.waivers name)
 asked_moved here there trail s (ask.SignOff sign.Waivers) is =
-    ap (λ row. over_waivers (moved here there trail s) (signing.listing_outcome s.waivers row))
+    list_moved _ _ _ _ here there trail s _ (signing.waivers_row s.policy s.run s.waivers there)
     (waivers_moved here there s.policy s.run s.waivers)
 asked_moved here there trail s (ask.SignOff sign.Verdict) is = absurd (true≢false (sym is))
 asked_moved here there trail s ask.Trail is = absurd (true≢false (sym is))

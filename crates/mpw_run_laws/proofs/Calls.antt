@@ -1,15 +1,11 @@
 -- What a call does to the run of a desk.
-use Rattle.std.proofs.Common.{◌≡◌, ◌∙◌, ℕ, Bool, true, false, ◌&&◌, not, List, [], ◌∷◌, Option, Some, None, Result, Ok, Err, refl, sym, ap, subst}
+use Rattle.std.proofs.Common.{◌≡◌, ◌∙◌, ℕ, ◌+◌, Bool, true, false, ◌&&◌, not, List, [], ◌∷◌, Option, Some, None, Result, Ok, Err, refl, sym, ap, subst}
 use Rattle.std.specs.Prelude.{if◌then◌else◌}
 use Rattle.std.proofs.lemmas.Bool.{true≢false}
 use Rattle.mpw_deck.specs.Decks.{Deck}
 use Rattle.mpw_hier.specs.Items.{Item}
 use Rattle.mpw_permissions.specs.declared.permission.Operation.TheVariants as operation
 use Rattle.mpw_permissions.specs.declared.permission.Object.TheVariants as object
-use Rattle.mpw_rbac.specs.declared.refusal.Refusal.{Refusal}
-use Rattle.mpw_rbac.specs.declared.session.Identity.{Identity}
-use Rattle.mpw_rbac.specs.Policy.{Policy}
-use Rattle.mpw_rbac.specs.Rows as rows
 use Rattle.mpw_tiles.specs.Plan.{Tiling}
 use Rattle.mpw_tiles.specs.Snapshots.{Snapshot, plan_for, shown}
 use Rattle.mpw_job.specs.Jobs.{CutWindows, FoundMarkers}
@@ -20,19 +16,20 @@ use Rattle.mpw_requests.specs.declared.request.Request.{Request}
 use Rattle.mpw_requests.specs.declared.request.Request.TheVariants as ask
 use Rattle.mpw_requests.specs.declared.run.RunRequest.TheVariants as run
 use Rattle.mpw_replies.specs.Listing.{Listed}
-use Rattle.mpw_replies.specs.Rows.{◌>>=◌, ended_by, needed}
+use Rattle.mpw_replies.specs.Rows.{◌>>=◌, changing, ended_by, listing, needed}
 use Rattle.mpw_replies.specs.declared.reply.Code.TheVariants as code
+use Rattle.mpw_replies.specs.declared.reply.Line.TheVariants as line
 use Rattle.mpw_replies.specs.declared.row.Ending.{Ending}
 use Rattle.mpw_replies.specs.declared.row.Ending.TheVariants as ending
 use Rattle.mpw_access.specs.Permitted.{permitted}
 use Rattle.mpw_wafer.specs.Run.Checking as checking
-use Rattle.mpw_events.specs.PolicyRows.{row_of}
 use Rattle.mpw_events.specs.declared.event.Call.{Call}
 use Rattle.mpw_events.specs.declared.event.Event.{Event}
 use Rattle.mpw_events.specs.declared.event.Event.TheVariants as event
 use Rattle.mpw_events.specs.declared.event.Response.{Response}
 use Rattle.mpw_events.specs.declared.event.Response.TheVariants as response
-use Rattle.mpw_events.specs.Step.{State, Outcome, after, no_change, policy_outcome, query_outcome, identity_lines, trail_outcome, over_run, of_run, outcome_of, event_outcome, not_kept_response, response_of, settlement, step}
+use Rattle.mpw_events.specs.Step.{State, Outcome, after, no_change, outcome_by, over_run, of_run, outcome_of, event_outcome, not_kept_response, response_of, settlement, step}
+use Rattle.mpw_core.proofs.OutcomeLemmas.{holds-row}
 use Rattle.mpw_run_laws.specs.Calls.{asks_run, asks_cancel, is_restart, is_accepted, begins, leaves, GoesOn, is_kept, KeepsTile}
 use Rattle.mpw_run_laws.specs.Finishing.{StandsIn}
 use Rattle.mpw_run_laws.proofs.Moves.{Takes, Cuts, Answered, takes, cuts, answers}
@@ -150,24 +147,25 @@ not_accepted : (why : Ending) → is_accepted (response.Told (ended_by why)) ≡
 not_accepted (ending.Denied d) = refl
 not_accepted (ending.Refused c) = refl
 
-policy_leaves : (s : State) (row : Result Policy Refusal) → (policy_outcome s row).state.run ≡ s.run
-policy_leaves s (Ok p) = refl
-policy_leaves s (Err why) = refl
+-- the run is the earlier one
+abbrev RunStays : State → State → Type 0
+RunStays s t = t.run ≡ s.run
 
-query_leaves : (s : State) (row : Result Identity Refusal)
-    → (query_outcome s identity_lines row).state.run ≡ s.run
-query_leaves s (Ok who) = refl
-query_leaves s (Err why) = refl
+-- what a table that begins a run, or leaves it, makes of what its tests give
+abbrev begun_by : State → Result Planned Ending → Outcome
+begun_by s row =
+    outcome_by (λ e. e) (over_run s) s
+    (changing checking.RunChange.begun (λ planned. line.Run (s.run.number + 1) ∷ []) row)
 
-trail_leaves : (s : State) (row : Result (Unit {0}) Ending)
-    → (trail_outcome s row).state.run ≡ s.run
-trail_leaves s (Ok allowed) = refl
-trail_leaves s (Err why) = refl
+abbrev left_by : State → Result (Unit {0}) Ending → Outcome
+left_by s row =
+    outcome_by (λ e. e) (over_run s) s
+    (changing (λ x. checking.RunChange.left_off) (λ x. []) row)
 
-listing_leaves : (s : State) (row : Result (List Listed) Ending)
-    → (over_run s (checking.listing_outcome s.run row)).state.run ≡ s.run
-listing_leaves s (Ok lines) = refl
-listing_leaves s (Err why) = refl
+listing_stays : (s : State) (row : Result (List Listed) Ending)
+    → RunStays s (outcome_by (λ e. e) (over_run s) s (listing (λ lines. lines) row)).state
+listing_stays s (Ok lines) = refl
+listing_stays s (Err why) = refl
 
 wanted : (s : State) (connection : ℕ) (request : Request)
     → event_outcome s (event.Ask connection request) ≡ outcome_of s connection request
@@ -231,9 +229,8 @@ begun_does : (s : State) (connection : ℕ) (r : Response) (kept : Bool)
     → checking.run_row s.policy s.shelf s.wafer s.run connection ≡ row
     → DoesAs s (event.Ask connection (ask.Run run.Run)) r kept
 begun_does s connection r kept told row is =
-    by row is (settled s e kept (over_run s (checking.begun_outcome s.run row))
-    (wanted s connection (ask.Run run.Run)
-    ∙ ap (λ (x : Result Planned Ending). over_run s (checking.begun_outcome s.run x)) is))
+    by row is (settled s e kept (begun_by s row)
+    (wanted s connection (ask.Run run.Run) ∙ ap (begun_by s) is))
   where
     e : Event
     e = event.Ask connection (ask.Run run.Run)
@@ -243,7 +240,7 @@ begun_does s connection r kept told row is =
 
     by : (row : Result Planned Ending)
         → checking.run_row s.policy s.shelf s.wafer s.run connection ≡ row
-        → Settled s e kept (over_run s (checking.begun_outcome s.run row)) → DoesAs s e r kept
+        → Settled s e kept (begun_by s row) → DoesAs s e r kept
     by (Ok p) is (Settled.as_wanted q) =
         let l = run_looks s connection p is in
         Does.begun p (ap is_accepted (told ∙ told_of q)) (stands s p l) l.over.plan (run_of q)
@@ -259,9 +256,8 @@ cancelled_does : (s : State) (connection : ℕ) (r : Response) (kept : Bool)
     → checking.cancel_row s.policy s.run connection ≡ row
     → DoesAs s (event.Ask connection (ask.Run run.Cancel)) r kept
 cancelled_does s connection r kept told row is =
-    by row (settled s e kept (over_run s (checking.left_off_outcome s.run row))
-    (wanted s connection (ask.Run run.Cancel)
-    ∙ ap (λ (x : Result (Unit {0}) Ending). over_run s (checking.left_off_outcome s.run x)) is))
+    by row (settled s e kept (left_by s row)
+    (wanted s connection (ask.Run run.Cancel) ∙ ap (left_by s) is))
   where
     e : Event
     e = event.Ask connection (ask.Run run.Cancel)
@@ -270,7 +266,7 @@ cancelled_does s connection r kept told row is =
     none = no_tile connection (ask.Run run.Cancel)
 
     by : (row : Result (Unit {0}) Ending)
-        → Settled s e kept (over_run s (checking.left_off_outcome s.run row)) → DoesAs s e r kept
+        → Settled s e kept (left_by s row) → DoesAs s e r kept
     by (Ok x) (Settled.as_wanted q) =
         Does.left (ap is_accepted (told ∙ told_of q)) refl (run_of q)
     by (Err why) (Settled.as_wanted q) =
@@ -284,28 +280,31 @@ asked_does : (s : State) (connection : ℕ) (request : Request) (r : Response) (
     → DoesAs s (event.Ask connection request) r kept
 asked_does s connection (ask.Policy request) r kept told =
     left_alone s connection (ask.Policy request) r kept refl refl
-    (policy_leaves s (row_of s.policy connection request))
+    (holds-row (RunStays s) _ _ s _ refl (λ policy lines is. refl))
 asked_does s connection ask.Whoami r kept told =
     left_alone s connection ask.Whoami r kept refl refl
-    (query_leaves s (rows.whoami s.policy connection))
+    (holds-row (RunStays s) _ _ s _ refl (λ policy lines is. refl))
 asked_does s connection (ask.Layout request) r kept told =
-    left_alone s connection (ask.Layout request) r kept refl refl refl
+    left_alone s connection (ask.Layout request) r kept refl refl
+    (holds-row (RunStays s) _ _ s _ refl (λ shelf lines is. refl))
 asked_does s connection (ask.Wafer request) r kept told =
-    left_alone s connection (ask.Wafer request) r kept refl refl refl
+    left_alone s connection (ask.Wafer request) r kept refl refl
+    (holds-row (RunStays s) _ _ s _ refl (λ wafer lines is. refl))
 asked_does s connection (ask.Run run.Run) r kept told = begun_does s connection r kept told _ refl
 asked_does s connection (ask.Run run.Cancel) r kept told =
     cancelled_does s connection r kept told _ refl
 asked_does s connection (ask.Run run.Status) r kept told =
     left_alone s connection (ask.Run run.Status) r kept refl refl
-    (listing_leaves s (checking.status s.policy s.run connection))
+    (listing_stays s (checking.status s.policy s.run connection))
 asked_does s connection (ask.Run run.Markers) r kept told =
     left_alone s connection (ask.Run run.Markers) r kept refl refl
-    (listing_leaves s (checking.markers s.policy s.run connection))
+    (listing_stays s (checking.markers s.policy s.run connection))
 asked_does s connection (ask.SignOff request) r kept told =
-    left_alone s connection (ask.SignOff request) r kept refl refl refl
+    left_alone s connection (ask.SignOff request) r kept refl refl
+    (holds-row (RunStays s) _ _ s _ refl (λ change lines is. refl))
 asked_does s connection ask.Trail r kept told =
     left_alone s connection ask.Trail r kept refl refl
-    (trail_leaves s (permitted s.policy connection operation.Audit object.Desk))
+    (holds-row (RunStays s) _ _ s _ refl (λ policy lines is. refl))
 
 -- ---- other events
 

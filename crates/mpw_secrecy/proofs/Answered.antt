@@ -1,55 +1,60 @@
 -- Two desks with the same view give the same answers to the requests that a view decides, and have the same
 -- view after it.
-use Rattle.std.proofs.Common.{◌≡◌, ◌∙◌, ℕ, Bool, true, false, cond, [], ◌∷◌, refl, sym, subst}
+use Rattle.std.proofs.Common.{◌≡◌, ◌∙◌, ℕ, Bool, true, false, cond, List, [], ◌∷◌, Result, Ok, Err, refl}
 use Rattle.std.specs.Prelude.{◌&&◌, not}
 use Rattle.mpw_hier.specs.Shelved.{PresentAreOfTheirCell}
 use Rattle.mpw_markers.specs.Laws.{PlacesAreOfKeys}
-use Rattle.mpw_rbac.specs.Rows.{whoami}
 use Rattle.mpw_requests.specs.declared.request.Request.{Request}
 use Rattle.mpw_requests.specs.declared.request.Request.TheVariants as ask
-use Rattle.mpw_requests.specs.declared.run.RunRequest.{RunRequest}
 use Rattle.mpw_requests.specs.declared.run.RunRequest.TheVariants as run
 use Rattle.mpw_requests.specs.declared.sign_off.SignOffRequest.TheVariants as sign
+use Rattle.mpw_layouts.specs.Layouts as layouts
+use Rattle.mpw_signoff.specs.SigningOff as signing
 use Rattle.mpw_wafer.specs.Run.Checking as checking
 use Rattle.mpw_laws.specs.SignOffLaws.{PlacesAreLeft}
 use Rattle.mpw_events.specs.declared.event.Event.TheVariants as event
-use Rattle.mpw_events.specs.Step.{State, Outcome, after, no_change, outcome_of, over_run, settlement, step, not_kept_response, event_outcome}
-use Rattle.mpw_secrecy.specs.Questions.{is_of_run, is_of_view}
+use Rattle.mpw_events.specs.Step.{State, Outcome, after, no_change, ending_of, outcome_by, outcome_of, over_policy, over_run, over_shelf, over_waivers, whoami_row, settlement, step, not_kept_response, event_outcome}
+use Rattle.mpw_core.proofs.OutcomeLemmas.{holds-row}
+use Rattle.mpw_replies.specs.Listing.{Listed}
+use Rattle.mpw_replies.specs.Rows.{listing}
+use Rattle.mpw_replies.specs.declared.row.Ending.{Ending}
+use Rattle.mpw_secrecy.specs.Questions.{is_of_view}
 use Rattle.mpw_secrecy.specs.Secrecy.{EqualViewsGiveEqualAnswers, EqualViewsGiveEqualAnswersToLists, EqualViewsStayEqual, IsOrderly}
 use Rattle.mpw_secrecy.specs.Views.{SameView}
-use Rattle.mpw_secrecy.proofs.Listings.{SameOutcome, after_alike, query_leaves, listing, run_lists, step_alike}
+use Rattle.mpw_secrecy.proofs.Listings.{SameOutcome, after_alike, listed, step_alike}
 use Rattle.mpw_secrecy.proofs.Signing.{sign_alike_in, waive_alike}
 
 -- ---- orderly states
 
-of_run_request : (s : State) (connection : ℕ) (request : RunRequest) → is_of_run request ≡ true
-    → IsOrderly s
-    → IsOrderly (over_run s (checking.outcome_of s.policy s.shelf s.wafer s.run connection
-    request)).state
-of_run_request s connection run.Run is orderly = absurd cc
-of_run_request s connection run.Cancel is orderly = absurd cc
-of_run_request s connection run.Status is orderly =
-    subst IsOrderly (sym (run_lists s (checking.status s.policy s.run connection)).1.0) orderly
-of_run_request s connection run.Markers is orderly =
-    subst IsOrderly (sym (run_lists s (checking.markers s.policy s.run connection)).1.0) orderly
+listing_orderly : (s : State) (row : Result (List Listed) Ending) → IsOrderly s
+    → IsOrderly (outcome_by (λ e. e) (over_run s) s (listing (λ lines. lines) row)).state
+listing_orderly s (Ok lines) orderly = orderly
+listing_orderly s (Err why) orderly = orderly
 
 module _ (places_left : PlacesAreLeft) where
   stays_orderly : (s : State) (connection : ℕ) (request : Request) → is_of_view request ≡ true
       → IsOrderly s → IsOrderly (outcome_of s connection request).state
   stays_orderly s connection (ask.Policy request) is orderly = absurd cc
   stays_orderly s connection ask.Whoami is orderly =
-      subst IsOrderly (sym (query_leaves s (whoami s.policy connection)).0) orderly
+      holds-row IsOrderly ending_of (over_policy s) s (whoami_row s.policy connection) orderly
+      (λ policy lines e.
+      record { run = orderly.run; places = orderly.places })
   stays_orderly s connection (ask.Layout request) is orderly =
-      record { run = orderly.run; places = orderly.places }
+      holds-row IsOrderly (λ e. e) (over_shelf s) s
+      (layouts.row_of s.policy s.shelf connection request) orderly (λ shelf lines e.
+      record { run = orderly.run; places = orderly.places })
   stays_orderly s connection (ask.Wafer request) is orderly = absurd cc
-  stays_orderly s connection (ask.Run request) is orderly = of_run_request s connection request is
-      orderly
+  stays_orderly s connection (ask.Run run.Run) is orderly = absurd cc
+  stays_orderly s connection (ask.Run run.Cancel) is orderly = absurd cc
+  stays_orderly s connection (ask.Run run.Status) is orderly =
+      listing_orderly s (checking.status s.policy s.run connection) orderly
+  stays_orderly s connection (ask.Run run.Markers) is orderly =
+      listing_orderly s (checking.markers s.policy s.run connection) orderly
   stays_orderly s connection (ask.SignOff request) is orderly =
-      record {
-        run = orderly.run;
-        places = places_left s.policy s.wafer s.run s.waivers connection request
-            ∙ orderly.places;
-      }
+      holds-row IsOrderly (λ e. e) (over_waivers s) s
+      (signing.row_of s.policy s.wafer s.run s.waivers connection request) orderly
+      (λ change lines e.
+      record { run = orderly.run; places = places_left s.waivers change ∙ orderly.places })
   stays_orderly s connection ask.Trail is orderly = absurd cc
 
   settled_orderly : (s : State) (connection : ℕ) (request : Request) (kept : Bool) (o : Outcome)
@@ -84,20 +89,20 @@ module _ (presents : PresentAreOfTheirCell) (keys : PlacesAreOfKeys) where
       → SameView connection a b → is_of_view request ≡ true
       → SameOutcome connection (outcome_of a connection request) (outcome_of b connection request)
   answered connection a b (ask.Policy request) orderly ordered same is = absurd cc
-  answered connection a b ask.Whoami orderly ordered same is = listing presents connection a b
+  answered connection a b ask.Whoami orderly ordered same is = listed presents connection a b
       ask.Whoami same
       refl
   answered connection a b (ask.Layout request) orderly ordered same is =
-      listing presents connection a b (ask.Layout request) same is
+      listed presents connection a b (ask.Layout request) same is
   answered connection a b (ask.Wafer request) orderly ordered same is = absurd cc
   answered connection a b (ask.Run request) orderly ordered same is =
-      listing presents connection a b (ask.Run request) same is
+      listed presents connection a b (ask.Run request) same is
   answered connection a b (ask.SignOff (sign.Waive name)) orderly ordered same is =
       waive_alike keys connection a b orderly ordered same name
   answered connection a b (ask.SignOff (sign.Sign name)) orderly ordered same is =
       sign_alike_in keys connection a b orderly ordered same name
   answered connection a b (ask.SignOff sign.Waivers) orderly ordered same is =
-      listing presents connection a b (ask.SignOff sign.Waivers) same refl
+      listed presents connection a b (ask.SignOff sign.Waivers) same refl
   answered connection a b (ask.SignOff sign.Verdict) orderly ordered same is = absurd cc
   answered connection a b ask.Trail orderly ordered same is = absurd cc
 

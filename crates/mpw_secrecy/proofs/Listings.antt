@@ -16,17 +16,14 @@ use Rattle.mpw_requests.specs.declared.request.Request.TheVariants as ask
 use Rattle.mpw_requests.specs.declared.run.RunRequest.TheVariants as run
 use Rattle.mpw_requests.specs.declared.sign_off.SignOffRequest.TheVariants as sign
 use Rattle.mpw_replies.specs.Listing.{Listed}
-use Rattle.mpw_replies.specs.Rows.{ended_by}
+use Rattle.mpw_replies.specs.Rows.{listing}
 use Rattle.mpw_replies.specs.declared.entry.Entry.{Entry}
-use Rattle.mpw_replies.specs.declared.reply.Reply.{Reply}
-use Rattle.mpw_replies.specs.declared.reply.Reply.TheVariants as reply
 use Rattle.mpw_replies.specs.declared.row.Ending.{Ending}
 use Rattle.mpw_layouts.specs.Layouts as layouts
 use Rattle.mpw_wafer.specs.Run.Checking as checking
 use Rattle.mpw_signoff.specs.SigningOff as signing
 use Rattle.mpw_events.specs.declared.event.Event.TheVariants as event
-use Rattle.mpw_events.specs.declared.event.Response.TheVariants as response
-use Rattle.mpw_events.specs.Step.{State, Outcome, after, query_outcome, identity_lines, no_change, outcome_of, over_run, over_shelf, over_waivers, settlement, step, not_kept_response, event_outcome}
+use Rattle.mpw_events.specs.Step.{State, Outcome, after, no_change, outcome_by, outcome_of, settlement, step, not_kept_response, event_outcome}
 use Rattle.mpw_secrecy.specs.Questions.{is_listing}
 use Rattle.mpw_secrecy.specs.Secrecy.{EqualViewsGiveEqualListings, ListingsLeaveTheViews, EqualViewsGiveEqualLists}
 use Rattle.mpw_secrecy.specs.Views.{SameView}
@@ -50,59 +47,22 @@ besides connection a b first second c d same = record {
       record { grants = s.grants; cells = s.cells; run = s.run; book = s.book };
 }
 
--- an outcome that leaves the state unchanged
-abbrev pub Leaves : State → Outcome → Type 0
-Leaves state o = (o.state ≡ state) × (o.changes ≡ false)
-
-pub of_listing : (connection : ℕ) (a b : State) (first second : Outcome) → SameView connection a b
-    → first.response ≡ second.response
-    → Leaves a first → Leaves b second → SameOutcome connection first second
-of_listing connection a b first second same told leaves_a leaves_b = record {
-  told = told;
-  changes = leaves_a.1 ∙ sym leaves_b.1;
-  view = subst (λ s. SameView connection s second.state) (sym leaves_a.0)
-      (subst (SameView connection a) (sym leaves_b.0) same);
-}
-
 -- ---- decision tables that list
 
-abbrev pub reply_by : Result (List Listed) Ending → Reply
-reply_by (Ok lines) = reply.Ok lines
-reply_by (Err why) = ended_by why
-
--- an outcome that has what a decision table lists, and leaves the state unchanged
-abbrev pub Lists : (State → Result (List Listed) Ending → Outcome) → Type 0
-Lists by = (s : State) (row : Result (List Listed) Ending)
-    → ((by s row).response ≡ response.Told (reply_by row)) × Leaves s (by s row)
-
-of_row : (by : State → Result (List Listed) Ending → Outcome) → Lists by
-    → (connection : ℕ) (a b : State) (first second : Result (List Listed) Ending)
-    → SameView connection a b → first ≡ second → SameOutcome connection (by a first) (by b second)
-of_row by lists connection a b first second same e =
-    of_listing connection a b (by a first) (by b second) same
-    ((lists a first).0 ∙ ap (λ row. response.Told (reply_by row)) e ∙ sym (lists b second).0)
-    (lists a first).1 (lists b second).1
-
-abbrev shelf_listing : State → Result (List Listed) Ending → Outcome
-shelf_listing s row = over_shelf s (layouts.listing_outcome s.shelf row)
-
-shelf_lists : Lists shelf_listing
-shelf_lists s (Ok lines) = (refl, (refl, refl))
-shelf_lists s (Err why) = (refl, (refl, refl))
-
-abbrev pub run_listing : State → Result (List Listed) Ending → Outcome
-run_listing s row = over_run s (checking.listing_outcome s.run row)
-
-pub run_lists : Lists run_listing
-run_lists s (Ok lines) = (refl, (refl, refl))
-run_lists s (Err why) = (refl, (refl, refl))
-
-abbrev waivers_listing : State → Result (List Listed) Ending → Outcome
-waivers_listing s row = over_waivers s (signing.listing_outcome s.waivers row)
-
-waivers_lists : Lists waivers_listing
-waivers_lists s (Ok lines) = (refl, (refl, refl))
-waivers_lists s (Err why) = (refl, (refl, refl))
+-- equal ones have the same outcome on both desks
+of_row : {A E P : Type 0} (how : E → Ending) (over other : P → State) (lines : A → List Listed)
+    (connection : ℕ) (a b : State) (first second : Result A E) → SameView connection a b
+    → first ≡ second
+    → SameOutcome connection (outcome_by how over a (listing lines first))
+    (outcome_by how other b (listing lines second))
+of_row {A = A} {E = E} how over other lines connection a b first second same e =
+    subst (λ row. SameOutcome connection (outcome_by how over a (listing lines first))
+    (outcome_by how other b (listing lines row))) e (go first)
+  where
+    go : (row : Result A E) → SameOutcome connection (outcome_by how over a (listing lines row))
+        (outcome_by how other b (listing lines row))
+    go (Ok x) = record { told = refl; changes = refl; view = same }
+    go (Err why) = record { told = refl; changes = refl; view = same }
 
 -- ---- whoami
 
@@ -120,63 +80,46 @@ whoami_at : (policy : Policy) (o : Option Session)
 whoami_at policy None = refl
 whoami_at policy (Some s) = refl
 
-pub query_leaves : (s : State) (row : Result Identity Refusal)
-    → Leaves s (query_outcome s identity_lines row)
-query_leaves s (Ok who) = (refl, refl)
-query_leaves s (Err why) = (refl, refl)
-
-query_alike : (a b : State) (row : Result Identity Refusal)
-    → (query_outcome a identity_lines row).response ≡ (query_outcome b identity_lines row).response
-query_alike a b (Ok who) = refl
-query_alike a b (Err why) = refl
-
-of_whoami : (connection : ℕ) (a b : State) → SameView connection a b
-    → SameOutcome connection (query_outcome a identity_lines (whoami a.policy connection))
-    (query_outcome b identity_lines (whoami b.policy connection))
-of_whoami connection a b same =
-    let e : whoami a.policy connection ≡ whoami b.policy connection =
+same_whoami : (connection : ℕ) (a b : State) → SameView connection a b
+    → whoami a.policy connection ≡ whoami b.policy connection
+same_whoami connection a b same =
     whoami_at a.policy (session_of a.policy connection) ∙ ap whoami_told same.identity
-    ∙ sym (whoami_at b.policy (session_of b.policy connection)) in
-    of_listing connection a b (query_outcome a identity_lines (whoami a.policy connection))
-    (query_outcome b identity_lines (whoami b.policy connection)) same
-    (query_alike a b (whoami a.policy connection)
-    ∙ ap (λ row. (query_outcome b identity_lines row).response) e)
-    (query_leaves a (whoami a.policy connection)) (query_leaves b (whoami b.policy connection))
+    ∙ sym (whoami_at b.policy (session_of b.policy connection))
 
 -- ---- each listing
 
-pub listing : PresentAreOfTheirCell → (connection : ℕ) (a b : State) (request : Request)
+pub listed : PresentAreOfTheirCell → (connection : ℕ) (a b : State) (request : Request)
     → SameView connection a b → is_listing request ≡ true
     → SameOutcome connection (outcome_of a connection request) (outcome_of b connection request)
-listing presents connection a b (ask.Policy request) same is = absurd cc
-listing presents connection a b ask.Whoami same is = of_whoami connection a b same
-listing presents connection a b (ask.Layout (layout.Submit cell top text)) same is = absurd cc
-listing presents connection a b (ask.Layout layout.Cells) same is =
-    of_row shelf_listing shelf_lists connection a b (layouts.cells a.policy a.shelf connection)
+listed presents connection a b (ask.Policy request) same is = absurd cc
+listed presents connection a b ask.Whoami same is =
+    of_row _ _ _ _ connection a b (whoami a.policy connection) (whoami b.policy connection) same
+    (same_whoami connection a b same)
+listed presents connection a b (ask.Layout (layout.Submit cell top text)) same is = absurd cc
+listed presents connection a b (ask.Layout layout.Cells) same is =
+    of_row _ _ _ _ connection a b (layouts.cells a.policy a.shelf connection)
     (layouts.cells b.policy b.shelf connection) same (cells_alike presents connection a b same)
-listing presents connection a b (ask.Layout (layout.Shapes cell)) same is =
-    of_row shelf_listing shelf_lists connection a b
-    (layouts.shapes a.policy a.shelf connection cell)
+listed presents connection a b (ask.Layout (layout.Shapes cell)) same is =
+    of_row _ _ _ _ connection a b (layouts.shapes a.policy a.shelf connection cell)
     (layouts.shapes b.policy b.shelf connection cell) same
     (shapes_alike presents connection a b same cell)
-listing presents connection a b (ask.Wafer request) same is = absurd cc
-listing presents connection a b (ask.Run run.Run) same is = absurd cc
-listing presents connection a b (ask.Run run.Cancel) same is = absurd cc
-listing presents connection a b (ask.Run run.Status) same is =
-    of_row run_listing run_lists connection a b (checking.status a.policy a.run connection)
+listed presents connection a b (ask.Wafer request) same is = absurd cc
+listed presents connection a b (ask.Run run.Run) same is = absurd cc
+listed presents connection a b (ask.Run run.Cancel) same is = absurd cc
+listed presents connection a b (ask.Run run.Status) same is =
+    of_row _ _ _ _ connection a b (checking.status a.policy a.run connection)
     (checking.status b.policy b.run connection) same (status_alike connection a b same)
-listing presents connection a b (ask.Run run.Markers) same is =
-    of_row run_listing run_lists connection a b (checking.markers a.policy a.run connection)
+listed presents connection a b (ask.Run run.Markers) same is =
+    of_row _ _ _ _ connection a b (checking.markers a.policy a.run connection)
     (checking.markers b.policy b.run connection) same (markers_alike connection a b same)
-listing presents connection a b (ask.SignOff (sign.Waive marker)) same is = absurd cc
-listing presents connection a b (ask.SignOff (sign.Sign marker)) same is = absurd cc
-listing presents connection a b (ask.SignOff sign.Waivers) same is =
-    of_row waivers_listing waivers_lists connection a b
-    (signing.waivers_row a.policy a.run a.waivers connection)
+listed presents connection a b (ask.SignOff (sign.Waive marker)) same is = absurd cc
+listed presents connection a b (ask.SignOff (sign.Sign marker)) same is = absurd cc
+listed presents connection a b (ask.SignOff sign.Waivers) same is =
+    of_row _ _ _ _ connection a b (signing.waivers_row a.policy a.run a.waivers connection)
     (signing.waivers_row b.policy b.run b.waivers connection) same
     (waivers_alike connection a b same)
-listing presents connection a b (ask.SignOff sign.Verdict) same is = absurd cc
-listing presents connection a b ask.Trail same is = absurd cc
+listed presents connection a b (ask.SignOff sign.Verdict) same is = absurd cc
+listed presents connection a b ask.Trail same is = absurd cc
 
 -- ---- with whether the change is stored
 
@@ -229,11 +172,11 @@ after_alike connection a b request kept both =
 pub equal_listings : PresentAreOfTheirCell → EqualViewsGiveEqualListings
 equal_listings presents connection a b request kept same is =
     (step_alike connection a b request kept same
-    (listing presents connection a b request same is)).told
+    (listed presents connection a b request same is)).told
 
 pub views_left : PresentAreOfTheirCell → ListingsLeaveTheViews
 views_left presents connection a b request kept same is = after_alike connection a b request kept
-    (step_alike connection a b request kept same (listing presents connection a b request same is))
+    (step_alike connection a b request kept same (listed presents connection a b request same is))
 
 pub equal_lists : PresentAreOfTheirCell → EqualViewsGiveEqualLists
 equal_lists presents connection a b [] same are = record { answers = refl; view = same }

@@ -1,23 +1,20 @@
 -- What `waive` and `sign` get by a view.
-use Rattle.std.proofs.Common.{◌≡◌, ℕ, List, [], map, slice_set, Option, None, Some, Result, Ok, Err}
-use Rattle.std.specs.Prelude.{is_ok, option_map}
+use Rattle.std.proofs.Common.{◌≡◌, ℕ, List, map, slice_set, Option, None, Some, Result, Ok, Err}
+use Rattle.std.specs.Prelude.{option_map}
 use Rattle.std.specs.List.{position}
 use Rattle.mpw_geom.specs.Names.{name_eq}
 use Rattle.mpw_markers.specs.declared.marker.Key.{Key}
 use Rattle.mpw_requests.specs.declared.sign_off.MarkerName.{MarkerName}
 use Rattle.mpw_roles.specs.Hierarchy.{Name}
 use Rattle.mpw_rbac.specs.Policy.{Policy}
-use Rattle.mpw_replies.specs.Rows.{◌>>=◌, ended_by}
+use Rattle.mpw_replies.specs.Rows.{◌>>=◌}
 use Rattle.mpw_replies.specs.declared.reply.Code.TheVariants as code
-use Rattle.mpw_replies.specs.declared.reply.Reply.{Reply}
-use Rattle.mpw_replies.specs.declared.reply.Reply.TheVariants as reply
 use Rattle.mpw_replies.specs.declared.row.Ending.{Ending}
 use Rattle.mpw_replies.specs.declared.row.Ending.TheVariants as ending
 use Rattle.mpw_run.specs.declared.phase.Phase.{Phase}
 use Rattle.mpw_waiver.specs.declared.waiver.Waiver.{Waiver}
 use Rattle.mpw_waiver.specs.Waivers.{waiver_at}
 use Rattle.mpw_signoff.specs.Named.{key_by}
-use Rattle.mpw_signoff.specs.SigningOff as signing
 use Rattle.mpw_secrecy.specs.Views.{BookSeen, MarkerSeen, book_view}
 use Rattle.mpw_secrecy.proofs.Books.{names_in}
 use Rattle.mpw_secrecy.proofs.Waived.{marker_with, with_waiver}
@@ -49,10 +46,6 @@ abbrev pub row_seen : Test → MarkerName → Option BookSeen → Result Key End
 row_seen test name None = Err (ending.Refused code.NotFinished)
 row_seen test name (Some book) = of_book test name book
 
-abbrev pub key_reply : Result Key Ending → Reply
-key_reply (Ok key) = reply.Ok []
-key_reply (Err why) = ended_by why
-
 abbrev book_with : Change → Key → BookSeen → BookSeen
 book_with change key book =
     record { markers = map (with_waiver key change) book.markers; rules = book.rules }
@@ -62,18 +55,19 @@ abbrev pub view_left : Change → Result Key Ending → Option BookSeen → Opti
 view_left change (Ok key) book = option_map (book_with change key) book
 view_left change (Err why) book = book
 
--- ---- outcomes
+-- ---- decision tables
 
--- the outcome of a waiver that is put at an index
-abbrev pub put_at : (Name → Change) → List (Option Waiver) → ℕ → Name → signing.Outcome
-put_at change waivers place user =
-    signing.acceptance (slice_set waivers place (change user (waiver_at waivers place)))
+-- the waivers with one that is put at an index
+abbrev pub put_at : (Name → Change) → List (Option Waiver) → ℕ → Name → List (Option Waiver)
+put_at change waivers place user = slice_set waivers place (change user (waiver_at waivers place))
 
--- an outcome has the result that the view decides, and the view after it is the one that the view
--- decides
-pub record IsTold (policy : Policy) (connection : ℕ) (change : Change) (phase : Phase)
-    (old : List (Option Waiver)) (o : signing.Outcome) (told : Result Key Ending) : Type 0 where
-  pub reply : o.reply ≡ key_reply told
-  pub changes : o.changes ≡ is_ok told
-  pub view : book_view policy connection o.waivers phase ≡ view_left change told
-      (book_view policy connection old phase)
+-- a table ends as the view decides, or the view after its change is the one that the view decides; `behind`
+-- are the waivers after it
+abbrev pub IsTold : {B : Type 0} → Policy → ℕ → Change → Phase → List (Option Waiver)
+    → (B → List (Option Waiver)) → Result B Ending → Result Key Ending → Type 0
+IsTold policy connection change phase old behind (Ok by) (Ok key) =
+    book_view policy connection (behind by) phase
+    ≡ view_left change (Ok key) (book_view policy connection old phase)
+IsTold policy connection change phase old behind (Err e) (Err why) = e ≡ why
+IsTold policy connection change phase old behind (Ok by) (Err why) = ⊥
+IsTold policy connection change phase old behind (Err e) (Ok key) = ⊥

@@ -1,5 +1,5 @@
 -- In every state the signer of each signed waiver neither asked for it nor submitted what its marker touches.
-use Rattle.std.proofs.Common.{◌≡◌, ◌∙◌, ℕ, zero, suc, ◌⊎◌, inl, inr, List, [], ◌∷◌, length, slice_get, slice_set, Option, None, Some, Result, Ok, Err, refl, sym, ap, subst}
+use Rattle.std.proofs.Common.{◌≡◌, ◌∙◌, ℕ, zero, suc, ◌⊎◌, inl, inr, List, [], ◌∷◌, length, slice_get, slice_set, Option, None, Some, Ok, refl, sym, ap, subst}
 use Rattle.std.proofs.lemmas.Option.{none-some, same_Some}
 use Rattle.mpw_hier.specs.declared.submission.Submission.{Submission}
 use Rattle.mpw_roles.specs.Hierarchy.{Name}
@@ -9,16 +9,15 @@ use Rattle.mpw_requests.specs.declared.sign_off.MarkerName.{MarkerName}
 use Rattle.mpw_requests.specs.declared.sign_off.SignOffRequest.{SignOffRequest}
 use Rattle.mpw_requests.specs.declared.sign_off.SignOffRequest.TheVariants as sign_ask
 use Rattle.mpw_replies.specs.Listing.{Listed}
-use Rattle.mpw_replies.specs.Rows.{IsNegative}
-use Rattle.mpw_replies.specs.declared.reply.Reply.{Reply}
-use Rattle.mpw_replies.specs.declared.reply.Reply.TheVariants as reply
-use Rattle.mpw_replies.specs.declared.row.Ending.{Ending}
+use Rattle.mpw_replies.proofs.RowParts.{listing_changes_nothing}
+use Rattle.mpw_replies.specs.declared.row.Done.TheVariants.{Changes}
 use Rattle.mpw_run.specs.declared.phase.Phase.{Phase}
 use Rattle.mpw_run.specs.declared.phase.Phase.TheVariants.{Idle, Cutting, Checking, Finished}
 use Rattle.mpw_run.specs.Run.{Planned, Checks}
 use Rattle.mpw_run.specs.Step.{Run, restarted_phase}
-use Rattle.mpw_laws.specs.SignOffLaws.{AskedAreShown, IsRightlySigned, NegativesLeaveTheWaivers, SignersStandApart}
+use Rattle.mpw_laws.specs.SignOffLaws.{AskedAreShown, IsRightlySigned, SignersStandApart}
 use Rattle.mpw_signoff.specs.SigningOff as signing
+use Rattle.mpw_signoff.specs.declared.rows.WaiverChange.{WaiverChange}
 use Rattle.mpw_waiver.specs.declared.waiver.Waiver.{Waiver}
 use Rattle.mpw_laws.specs.WaiverLaws.{IsApart}
 use Rattle.mpw_waiver.specs.Waivers.{none_asked, signed_by, waiver_at, with_asker, with_signer}
@@ -130,70 +129,28 @@ of_signed policy run waivers connection name now s fit place waiver signer is by
 
 -- ---- sign-off requests
 
-fit-told : (phase : Phase) (waivers : List (Option Waiver)) (row : Result (List Listed) Ending)
-    → SignedIn phase waivers → SignedIn phase (signing.listing_outcome waivers row).waivers
-fit-told phase waivers (Ok lines) fit = fit
-fit-told phase waivers (Err ending) fit = fit
-
-abbrev SignedBehind : State → ℕ → SignOffRequest → Type 0
-SignedBehind s connection request =
-    SignedIn s.run.phase (signing.outcome_of s.policy s.wafer s.run s.waivers connection
-    request).waivers
-
-abbrev reply_to : State → ℕ → SignOffRequest → Reply
-reply_to s connection request =
-    (signing.outcome_of s.policy s.wafer s.run s.waivers connection request).reply
-
--- ---- every state
-
-module _ (shown : AskedAreShown) (apart : SignersStandApart)
-    (leave : NegativesLeaveTheWaivers) where
-  fit-negative : (s : State) (connection : ℕ) (request : SignOffRequest) (r : Reply) → IsNegative r
-      → reply_to s connection request ≡ r → Fit s → SignedBehind s connection request
-  fit-negative s connection request r negative e fit =
-      subst (SignedIn s.run.phase) (sym
-      (leave s.policy s.wafer s.run s.waivers connection request
-      (subst IsNegative (sym e) negative)))
-      fit
-
-  fit-waive : (s : State) (connection : ℕ) (name : MarkerName) (r : Reply)
-      → reply_to s connection (sign_ask.Waive name) ≡ r → Fit s
-      → SignedBehind s connection (sign_ask.Waive name)
-  fit-waive s connection name (reply.Ok lines) e fit =
-      let is = shown s.policy s.wafer s.run s.waivers connection name lines e in
+module _ (shown : AskedAreShown) (apart : SignersStandApart) where
+  fit-sign : (s : State) (connection : ℕ) (request : SignOffRequest) (change : WaiverChange)
+      (lines : List Listed)
+      → signing.row_of s.policy s.wafer s.run s.waivers connection request
+      ≡ Ok (Changes change lines)
+      → Fit s → SignedIn s.run.phase (signing.waivers_after s.waivers change)
+  fit-sign s connection (sign_ask.Waive name) change lines e fit =
+      let is = shown s.policy s.wafer s.run s.waivers connection name change lines e in
       subst (SignedIn s.run.phase) (sym is.left)
       (of_asked s.run.phase s.waivers is.place (user_of s.policy connection) fit)
-  fit-waive s connection name (reply.Denied why) e fit =
-      fit-negative s connection (sign_ask.Waive name)
-      (reply.Denied why) tt e fit
-  fit-waive s connection name (reply.Refused why) e fit =
-      fit-negative s connection (sign_ask.Waive name)
-      (reply.Refused why) tt e fit
-
-  fit-signing : (s : State) (connection : ℕ) (name : MarkerName) (r : Reply)
-      → reply_to s connection (sign_ask.Sign name) ≡ r → Fit s
-      → SignedBehind s connection (sign_ask.Sign name)
-  fit-signing s connection name (reply.Ok lines) e fit =
-      let is = apart s.policy s.wafer s.run s.waivers connection name lines e in
+  fit-sign s connection (sign_ask.Sign name) change lines e fit =
+      let is = apart s.policy s.wafer s.run s.waivers connection name change lines e in
       subst (SignedIn s.run.phase) (sym is.left)
       (of_signed s.policy s.run s.waivers connection name _ is fit)
-  fit-signing s connection name (reply.Denied why) e fit =
-      fit-negative s connection (sign_ask.Sign name)
-      (reply.Denied why) tt e fit
-  fit-signing s connection name (reply.Refused why) e fit =
-      fit-negative s connection (sign_ask.Sign name)
-      (reply.Refused why) tt e fit
+  fit-sign s connection sign_ask.Waivers change lines e fit =
+      absurd (listing_changes_nothing _ (signing.waivers_row s.policy s.run s.waivers connection)
+      change lines e)
+  fit-sign s connection sign_ask.Verdict change lines e fit =
+      absurd (listing_changes_nothing _
+      (signing.verdict_row s.policy s.wafer s.run s.waivers connection) change lines e)
 
-  fit-sign : (s : State) (connection : ℕ) (request : SignOffRequest) → Fit s
-      → SignedBehind s connection request
-  fit-sign s connection (sign_ask.Waive name) fit =
-      fit-waive s connection name (reply_to s connection (sign_ask.Waive name)) refl fit
-  fit-sign s connection (sign_ask.Sign name) fit =
-      fit-signing s connection name (reply_to s connection (sign_ask.Sign name)) refl fit
-  fit-sign s connection sign_ask.Waivers fit = fit-told s.run.phase s.waivers
-      (signing.waivers_row s.policy s.run s.waivers connection) fit
-  fit-sign s connection sign_ask.Verdict fit = fit-told s.run.phase s.waivers
-      (signing.verdict_row s.policy s.wafer s.run s.waivers connection) fit
+  -- ---- every state
 
   pub signers_apart : EveryStateIsSignedApart
   signers_apart officer digest calls =

@@ -1,6 +1,6 @@
 -- The view decides `waive` and `sign`, and the view after them.
 use Rattle.std.proofs.Common.{◌≡◌, ◌∙◌, ℕ, ◌+◌, ◌<◌, Bool, true, false, cond, List, [], length, map, slice_get, slice_set, Option, None, Some, Result, Ok, Err, is_some, refl, sym, ap, subst, arith}
-use Rattle.std.specs.Prelude.{is_ok, option_map}
+use Rattle.std.specs.Prelude.{option_map}
 use Rattle.std.specs.List.{position}
 use Rattle.std.specs.Option.{option_map_or}
 use Rattle.std.proofs.lemmas.Option.{slice_get_within}
@@ -13,7 +13,6 @@ use Rattle.mpw_markers.specs.declared.marker.Marker.{Marker}
 use Rattle.mpw_markers.specs.Laws.{PlacesAreOfKeys}
 use Rattle.mpw_markers.specs.Markers.{key_of}
 use Rattle.mpw_requests.specs.declared.sign_off.MarkerName.{MarkerName}
-use Rattle.mpw_requests.specs.declared.sign_off.SignOffRequest.TheVariants as sign
 use Rattle.mpw_roles.specs.Hierarchy.{Name}
 use Rattle.mpw_permissions.specs.declared.permission.Object.TheVariants as object
 use Rattle.mpw_permissions.specs.declared.permission.Operation.{Operation}
@@ -22,7 +21,7 @@ use Rattle.mpw_rbac.specs.declared.session.Identity.{Identity}
 use Rattle.mpw_rbac.specs.declared.session.Session.{Session}
 use Rattle.mpw_rbac.specs.Policy.{Policy, identity_of, permits, session_of}
 use Rattle.mpw_rbac.specs.Rows.{user_of}
-use Rattle.mpw_replies.specs.Rows.{◌>>=◌, ended_by, needed}
+use Rattle.mpw_replies.specs.Rows.{◌>>=◌, changing, ended_by, needed}
 use Rattle.mpw_access.specs.Permitted.{permitted}
 use Rattle.mpw_replies.specs.Sight.{is_full}
 use Rattle.mpw_access.specs.Seen.{seen_by}
@@ -40,8 +39,11 @@ use Rattle.mpw_waiver.specs.Signing.{ask_test, least_own_cell, separation_test, 
 use Rattle.mpw_waiver.specs.Waivers.{signed_by, waiver_at}
 use Rattle.mpw_signoff.specs.Named.{Named, found_at, found_by, key_by, named_in, rule_place, with_place}
 use Rattle.mpw_signoff.specs.SigningOff as signing
+use Rattle.mpw_signoff.specs.declared.rows.ByUser.{ByUser}
+use Rattle.mpw_signoff.specs.declared.rows.WaiverChange.{WaiverChange}
+use Rattle.mpw_signoff.specs.declared.rows.WaiverChange.TheVariants.{Asked, Signed}
 use Rattle.mpw_events.specs.declared.event.Response.TheVariants as response
-use Rattle.mpw_events.specs.Step.{State, over_waivers}
+use Rattle.mpw_events.specs.Step.{State, Outcome, outcome_by, over_waivers}
 use Rattle.mpw_secrecy.specs.Secrecy.{IsOrderly}
 use Rattle.mpw_secrecy.specs.Views.{BookSeen, MarkerSeen, SameView, book_view, checked_view, marker_of, markers_seen, rules_seen}
 use Rattle.mpw_secrecy.proofs.Books.{names_from, rule_by_name}
@@ -49,14 +51,13 @@ use Rattle.mpw_secrecy.proofs.Listings.{SameOutcome}
 use Rattle.mpw_secrecy.proofs.Parts.{allowed_tells, same_behind, same_permitted}
 use Rattle.mpw_secrecy.proofs.Places.{found_key, nowhere, only_at, put_here, put_there}
 use Rattle.mpw_secrecy.proofs.Waived.{changed_at, marker_with, seen_at_place, seen_nowhere, with_waiver}
-use Rattle.mpw_secrecy.proofs.SeenTests.{Test, Change, test_row, of_rule, of_book, row_seen, key_reply, view_left, put_at, IsTold}
+use Rattle.mpw_secrecy.proofs.SeenTests.{Test, Change, test_row, of_rule, of_book, row_seen, view_left, put_at, IsTold}
 
--- a table gives the user and the index of the marker, by `end`, and `outcome` says what is put there
+-- a table gives the user and the index of the marker, by `end`, and `behind` says what is put there
 module _ {B : Type 0} (keys : PlacesAreOfKeys) (policy : Policy) (connection : ℕ) (f : Checked)
-    (waivers : List (Option Waiver)) (change : Name → Change)
-    (outcome : Result B Ending → signing.Outcome) (end : Named → B)
-    (errs : (why : Ending) → outcome (Err why) ≡ signing.no_change (ended_by why) waivers)
-    (puts : (n : Named) → outcome (Ok (end n)) ≡ put_at change waivers n.place
+    (waivers : List (Option Waiver)) (change : Name → Change) (end : Named → B)
+    (behind : B → List (Option Waiver))
+    (puts : (n : Named) → behind (end n) ≡ put_at change waivers n.place
     (user_of policy connection))
     (test : Named → Result (Unit {0}) Ending) (seen_test : Test)
     (alike : (n : Named) → seen_test (marker_of f.planned.snapshot.shelf (user_of policy connection)
@@ -74,15 +75,11 @@ module _ {B : Type 0} (keys : PlacesAreOfKeys) (policy : Policy) (connection : �
   abbrev markers : List MarkerSeen
   markers = markers_seen shelf seen user waivers 0 f.book
 
-  abbrev Gives : signing.Outcome → Result Key Ending → Type 0
-  Gives o told = IsTold policy connection (change user) (Finished f) waivers o told
+  abbrev Gives : Result B Ending → Result Key Ending → Type 0
+  Gives row told = IsTold policy connection (change user) (Finished f) waivers behind row told
 
   abbrev tail : Named → Result B Ending
   tail n = test n >>= (λ free. Ok (end n))
-
-  ended : (why : Ending) → Gives (outcome (Err why)) (Err why)
-  ended why = subst (λ o. Gives o (Err why)) (sym (errs why))
-      (record { reply = refl; changes = refl; view = refl })
 
   abbrev new_at : ℕ → List (Option Waiver)
   new_at place = slice_set waivers place (change user (waiver_at waivers place))
@@ -108,39 +105,33 @@ module _ {B : Type 0} (keys : PlacesAreOfKeys) (policy : Policy) (connection : �
 
   by_test : (key : Key) (n : Named) → slice_get f.book n.place ≡ Some n.marker
       → place_in f.book key ≡ Some n.place → key_of n.marker ≡ key
-      → (r : Result (Unit {0}) Ending) → Gives (outcome (r >>= (λ free. Ok (end n))))
+      → (r : Result (Unit {0}) Ending) → Gives (r >>= (λ free. Ok (end n)))
       (r >>= (λ passed. Ok key))
-  by_test key n at e has (Err why) = ended why
+  by_test key n at e has (Err why) = refl
   by_test key n at e has (Ok x) =
-      subst (λ o. Gives o (Ok key)) (sym (puts n))
-      (record {
-        reply = refl;
-        changes = refl;
-        view =
-            ap (λ ms. Some (let b : BookSeen = record {
-              markers = ms;
-              rules = rules_seen seen f.book
-                  0 f.planned.snapshot.deck.rules;
-            } in b)) (left_at key n at e has);
-      })
+      ap (λ ws. book_view policy connection ws (Finished f)) (puts n)
+      ∙ ap (λ ms. Some (let b : BookSeen = record {
+        markers = ms;
+        rules = rules_seen seen f.book
+            0 f.planned.snapshot.deck.rules;
+      } in b)) (left_at key n at e has)
 
   by_full : (key : Key) (n : Named) → slice_get f.book n.place ≡ Some n.marker
       → place_in f.book key ≡ Some n.place → key_of n.marker ≡ key → (b : Bool)
-      → Gives (outcome (cond b (Ok n) (Err (ending.Refused code.NoMarker)) >>= tail))
+      → Gives (cond b (Ok n) (Err (ending.Refused code.NoMarker)) >>= tail)
       (test_row seen_test key (cond b (Some
       (marker_of shelf user n.marker (waiver_at waivers n.place))) None))
-  by_full key n at e has false = ended (ending.Refused code.NoMarker)
+  by_full key n at e has false = refl
   by_full key n at e has true =
-      subst (λ r. Gives (outcome (test n >>= (λ free. Ok (end n)))) (r >>= (λ passed. Ok key)))
+      subst (λ r. Gives (test n >>= (λ free. Ok (end n))) (r >>= (λ passed. Ok key)))
       (sym (alike n)) (by_test key n at e has (test n))
 
   by_key : (key : Key) (o : Option ℕ) → place_in f.book key ≡ o
-      → Gives (outcome (signing.if_shown seen (found_at f.book o) >>= tail))
+      → Gives (signing.if_shown seen (found_at f.book o) >>= tail)
       (test_row seen_test key (marker_with key markers))
   by_key key None e =
-      subst (λ o. Gives (outcome (Err (ending.Refused code.NoMarker))) (test_row seen_test key o))
-      (sym (seen_nowhere shelf seen user key waivers 0 f.book (nowhere f.book key e)))
-      (ended (ending.Refused code.NoMarker))
+      subst (λ o. Gives (Err (ending.Refused code.NoMarker)) (test_row seen_test key o))
+      (sym (seen_nowhere shelf seen user key waivers 0 f.book (nowhere f.book key e))) refl
   by_key key (Some i) e =
       let found = keys f.book key i e in
       let n : Named = record { place = i; marker = found.0 } in
@@ -150,25 +141,25 @@ module _ {B : Type 0} (keys : PlacesAreOfKeys) (policy : Policy) (connection : �
       (only_at keys f.book key i found.0 is found.1 found.2) in
       let told = at ∙ ap (λ k. cond (is_full seen found.0)
       (Some (marker_of shelf user found.0 (waiver_at waivers k))) None) here in
-      subst (λ o. Gives (outcome (signing.if_shown seen (with_place i o) >>= tail))
+      subst (λ o. Gives (signing.if_shown seen (with_place i o) >>= tail)
       (test_row seen_test key (marker_with key markers))) (sym found.1)
-      (subst (λ o. Gives (outcome (signing.if_full seen n >>= tail)) (test_row seen_test key o))
+      (subst (λ o. Gives (signing.if_full seen n >>= tail) (test_row seen_test key o))
       (sym told) (by_full key n found.1 e found.2 (is_full seen found.0)))
 
   by_rule : (name : MarkerName) (o : Option ℕ)
-      → Gives (outcome (signing.if_shown seen (found_by f.book name o) >>= tail))
+      → Gives (signing.if_shown seen (found_by f.book name o) >>= tail)
       (of_rule seen_test name markers o)
-  by_rule name None = ended (ending.Refused code.NoMarker)
+  by_rule name None = refl
   by_rule name (Some rule) = by_key (key_by name rule) (place_in f.book (key_by name rule)) refl
 
   by_name_of : (name : MarkerName) → Gives
-      (outcome (signing.full_marker policy connection f name >>= tail))
+      (signing.full_marker policy connection f name >>= tail)
       (of_book seen_test name (checked_view policy connection waivers f))
   unfolding signing.full_marker named_in
   by_name_of name =
       let rules = f.planned.snapshot.deck.rules in
-      subst (λ o. Gives (outcome (signing.if_shown seen
-      (found_by f.book name (rule_place rules name.rule)) >>= tail))
+      subst (λ o. Gives (signing.if_shown seen
+      (found_by f.book name (rule_place rules name.rule)) >>= tail)
       (of_rule seen_test name markers o))
       (sym (rule_by_name rules name.rule) ∙ ap (position (λ n. name_eq n name.rule))
       (names_from seen f.book 0 rules))
@@ -196,66 +187,53 @@ unfolding least_own_cell
 sign_alike stock m who None = refl
 sign_alike stock m who (Some waiver) = refl
 
-early : (policy : Policy) (connection : ℕ) (change : Change) (waivers : List (Option Waiver))
-    (phase : Phase) (why : Ending)
-    → IsTold policy connection change phase waivers (signing.no_change (ended_by why) waivers)
-    (Err why)
-early policy connection change waivers phase why =
-    record { reply = refl; changes = refl; view = refl }
-
-behind : {B : Type 0} (policy : Policy) (connection : ℕ) (change : Change)
-    (waivers : List (Option Waiver)) (phase : Phase)
-    → (outcome : Result B Ending → signing.Outcome)
-    → ((why : Ending) → outcome (Err why) ≡ signing.no_change (ended_by why) waivers)
-    → (p : Result (Unit {0}) Ending) (row : Result B Ending) (told : Result Key Ending)
-    → IsTold policy connection change phase waivers (outcome row) told
-    → IsTold policy connection change phase waivers (outcome (p >>= (λ allowed. row)))
+-- after a test that both have
+after_test : {B : Type 0} (policy : Policy) (connection : ℕ) (change : Change)
+    (waivers : List (Option Waiver)) (phase : Phase) (behind : B → List (Option Waiver))
+    (p : Result (Unit {0}) Ending) (row : Result B Ending) (told : Result Key Ending)
+    → IsTold policy connection change phase waivers behind row told
+    → IsTold policy connection change phase waivers behind (p >>= (λ allowed. row))
     (p >>= (λ allowed. told))
-behind policy connection change waivers phase outcome errs (Ok x) row told is = is
-behind policy connection change waivers phase outcome errs (Err why) row told is =
-    subst (λ o. IsTold policy connection change phase waivers o (Err why)) (sym (errs why))
-    (early policy connection change waivers phase why)
+after_test policy connection change waivers phase behind (Ok x) row told is = is
+after_test policy connection change waivers phase behind (Err why) row told is = refl
 
 module _ (keys : PlacesAreOfKeys) (number : ℕ) (policy : Policy) (connection : ℕ)
     (waivers : List (Option Waiver)) (name : MarkerName) where
-  unfinished : (change : Name → Change) (phase : Phase)
-      → IsTold policy connection (change (user_of policy connection)) phase waivers
-      (signing.no_change (ended_by (ending.Refused code.NotFinished)) waivers)
-      (Err (ending.Refused code.NotFinished))
-  unfinished change phase =
-      early policy connection (change (user_of policy connection)) waivers phase
-      (ending.Refused code.NotFinished)
+  abbrev after_by : (ByUser → WaiverChange) → ByUser → List (Option Waiver)
+  after_by put by = signing.waivers_after waivers (put by)
 
   waive_phase : (phase : Phase) → IsPhase number phase → length waivers ≡ book_size phase
       → IsTold policy connection (asked_by (user_of policy connection)) phase waivers
-      (signing.waived_outcome waivers
-      (needed code.NotFinished (findings phase) >>= (λ f. signing.full_marker policy connection f name
+      (after_by Asked)
+      (needed code.NotFinished (findings phase)
+      >>= (λ f. signing.full_marker policy connection f name
       >>= (λ n. signing.passes (ask_test (waiver_at waivers n.place))
-      >>= (λ free. Ok (signing.by_user policy connection n))))))
+      >>= (λ free. Ok (signing.by_user policy connection n)))))
       (row_seen ask_seen name (book_view policy connection waivers phase))
-  waive_phase Idle is places = unfinished asked_by Idle
-  waive_phase (Cutting planned) is places = unfinished asked_by (Cutting planned)
-  waive_phase (Checking c) is places = unfinished asked_by (Checking c)
+  waive_phase Idle is places = refl
+  waive_phase (Cutting planned) is places = refl
+  waive_phase (Checking c) is places = refl
   waive_phase (Finished f) is places =
-      by_name_of keys policy connection f waivers asked_by (signing.waived_outcome waivers)
-      (signing.by_user policy connection) (λ why. refl) (λ n. refl)
+      by_name_of keys policy connection f waivers asked_by (signing.by_user policy connection)
+      (after_by Asked) (λ n. refl)
       (λ n. signing.passes (ask_test (waiver_at waivers n.place))) ask_seen (λ n. refl) is.1.book
       places name
 
   sign_phase : (phase : Phase) → IsPhase number phase → length waivers ≡ book_size phase
       → IsTold policy connection (signed_by (user_of policy connection)) phase waivers
-      (signing.signed_outcome waivers
-      (needed code.NotFinished (findings phase) >>= (λ f. signing.full_marker policy connection f name
+      (after_by Signed)
+      (needed code.NotFinished (findings phase)
+      >>= (λ f. signing.full_marker policy connection f name
       >>= (λ n. signing.apart f waivers n (user_of policy connection)
-      >>= (λ free. Ok (signing.by_user policy connection n))))))
+      >>= (λ free. Ok (signing.by_user policy connection n)))))
       (row_seen (sign_seen (user_of policy connection)) name
       (book_view policy connection waivers phase))
-  sign_phase Idle is places = unfinished signed_by Idle
-  sign_phase (Cutting planned) is places = unfinished signed_by (Cutting planned)
-  sign_phase (Checking c) is places = unfinished signed_by (Checking c)
+  sign_phase Idle is places = refl
+  sign_phase (Cutting planned) is places = refl
+  sign_phase (Checking c) is places = refl
   sign_phase (Finished f) is places =
-      by_name_of keys policy connection f waivers signed_by (signing.signed_outcome waivers)
-      (signing.by_user policy connection) (λ why. refl) (λ n. refl)
+      by_name_of keys policy connection f waivers signed_by (signing.by_user policy connection)
+      (after_by Signed) (λ n. refl)
       (λ n. signing.apart f waivers n (user_of policy connection))
       (sign_seen (user_of policy connection))
       (λ n. sign_alike f.planned.snapshot.shelf n.marker (user_of policy connection)
@@ -267,27 +245,23 @@ abbrev told_of : Operation → Test → MarkerName → State → ℕ → Result 
 told_of op test name s connection = permitted s.policy connection op object.Desk
     >>= (λ allowed. row_seen test name (book_view s.policy connection s.waivers s.run.phase))
 
-abbrev IsToldOf : State → ℕ → (Name → Change) → signing.Outcome → Result Key Ending → Type 0
-IsToldOf s connection change o told =
-    IsTold s.policy connection (change (user_of s.policy connection)) s.run.phase s.waivers o told
-
-abbrev waive_of : State → ℕ → MarkerName → signing.Outcome
-waive_of s connection name =
-    signing.outcome_of s.policy s.wafer s.run s.waivers connection (sign.Waive name)
-
-abbrev sign_of : State → ℕ → MarkerName → signing.Outcome
-sign_of s connection name =
-    signing.outcome_of s.policy s.wafer s.run s.waivers connection (sign.Sign name)
+abbrev IsToldOf : State → ℕ → (Name → Change) → (ByUser → WaiverChange) → Result ByUser Ending
+    → Result Key Ending → Type 0
+IsToldOf s connection change put row told =
+    IsTold s.policy connection (change (user_of s.policy connection)) s.run.phase s.waivers
+    (λ by. signing.waivers_after s.waivers (put by)) row told
 
 waive_told : PlacesAreOfKeys → (s : State) (connection : ℕ) (name : MarkerName) → IsOrderly s
-    → IsToldOf s connection asked_by (waive_of s connection name)
+    → IsToldOf s connection asked_by Asked
+    (signing.waive_row s.policy s.run s.waivers connection name)
     (told_of operation.Waive ask_seen name s connection)
 unfolding signing.waive_row
 waive_told keys s connection name orderly =
-    behind s.policy connection (asked_by (user_of s.policy connection)) s.waivers s.run.phase
-    (signing.waived_outcome s.waivers) (λ why. refl)
+    after_test s.policy connection (asked_by (user_of s.policy connection)) s.waivers s.run.phase
+    (λ by. signing.waivers_after s.waivers (Asked by))
     (permitted s.policy connection operation.Waive object.Desk)
-    (needed code.NotFinished (findings s.run.phase) >>= (λ f. signing.full_marker s.policy connection f name
+    (needed code.NotFinished (findings s.run.phase)
+    >>= (λ f. signing.full_marker s.policy connection f name
     >>= (λ n. signing.passes (ask_test (waiver_at s.waivers n.place))
     >>= (λ free. Ok (signing.by_user s.policy connection n)))))
     (row_seen ask_seen name (book_view s.policy connection s.waivers s.run.phase))
@@ -295,14 +269,16 @@ waive_told keys s connection name orderly =
     orderly.places)
 
 sign_told : PlacesAreOfKeys → (s : State) (connection : ℕ) (name : MarkerName) → IsOrderly s
-    → IsToldOf s connection signed_by (sign_of s connection name)
+    → IsToldOf s connection signed_by Signed
+    (signing.sign_row s.policy s.run s.waivers connection name)
     (told_of operation.Sign (sign_seen (user_of s.policy connection)) name s connection)
 unfolding signing.sign_row
 sign_told keys s connection name orderly =
-    behind s.policy connection (signed_by (user_of s.policy connection)) s.waivers s.run.phase
-    (signing.signed_outcome s.waivers) (λ why. refl)
+    after_test s.policy connection (signed_by (user_of s.policy connection)) s.waivers s.run.phase
+    (λ by. signing.waivers_after s.waivers (Signed by))
     (permitted s.policy connection operation.Sign object.Desk)
-    (needed code.NotFinished (findings s.run.phase) >>= (λ f. signing.full_marker s.policy connection f name
+    (needed code.NotFinished (findings s.run.phase)
+    >>= (λ f. signing.full_marker s.policy connection f name
     >>= (λ n. signing.apart f s.waivers n (user_of s.policy connection)
     >>= (λ free. Ok (signing.by_user s.policy connection n)))))
     (row_seen (sign_seen (user_of s.policy connection)) name
@@ -342,14 +318,17 @@ told_alike connection a b same op test name =
     (permits a.policy connection op object.Desk) allowed is).0 in
     λ i. row_seen (test (same_user connection a b same i)) name ((same.sight inside).book i))
 
-both_alike : (connection : ℕ) (a b : State) → SameView connection a b
-    → (change : Name → Change) (first second : signing.Outcome) (told other : Result Key Ending)
-    → IsToldOf a connection change first told → IsToldOf b connection change second other
-    → told ≡ other
-    → SameOutcome connection (over_waivers a first) (over_waivers b second)
-both_alike connection a b same change first second told other of_a of_b e = record {
-  told = ap (λ r. response.Told r) (of_a.reply ∙ ap key_reply e ∙ sym of_b.reply);
-  changes = of_a.changes ∙ ap is_ok e ∙ sym of_b.changes;
+-- the outcome of a table that changes a waiver
+abbrev put_by : State → (ByUser → WaiverChange) → Result ByUser Ending → Outcome
+put_by s put row = outcome_by (λ e. e) (over_waivers s) s (changing put (λ by. []) row)
+
+both_alike : (connection : ℕ) (a b : State) → SameView connection a b → (change : Name → Change)
+    (put : ByUser → WaiverChange) (first second : Result ByUser Ending) (told : Result Key Ending)
+    → IsToldOf a connection change put first told → IsToldOf b connection change put second told
+    → SameOutcome connection (put_by a put first) (put_by b put second)
+both_alike connection a b same change put (Ok x) (Ok y) (Ok key) of_a of_b = record {
+  told = refl;
+  changes = refl;
   view = record {
     identity = same.identity;
     sight = λ is.
@@ -359,32 +338,46 @@ both_alike connection a b same change first second told other of_a of_b e = reco
           cells = s.cells;
           run = s.run;
           book =
-              of_a.view ∙ (λ i. view_left (change (same_user connection a b same i)) (e i)
-              (s.book i))
-              ∙ sym of_b.view;
+              of_a ∙ (λ i. view_left (change (same_user connection a b same i)) (Ok key) (s.book i))
+              ∙ sym of_b;
         };
   };
 }
+both_alike connection a b same change put (Err x) (Err y) (Err why) of_a of_b = record {
+  told = ap (λ e. response.Told (ended_by e)) (of_a ∙ sym of_b);
+  changes = refl;
+  view = same;
+}
+both_alike connection a b same change put (Ok x) second (Err why) of_a of_b = absurd of_a
+both_alike connection a b same change put (Err x) second (Ok key) of_a of_b = absurd of_a
+both_alike connection a b same change put (Ok x) (Err y) (Ok key) of_a of_b = absurd of_b
+both_alike connection a b same change put (Err x) (Ok y) (Err why) of_a of_b = absurd of_b
 
 pub waive_alike : PlacesAreOfKeys → (connection : ℕ) (a b : State) → IsOrderly a → IsOrderly b
     → SameView connection a b → (name : MarkerName)
-    → SameOutcome connection (over_waivers a (waive_of a connection name))
-    (over_waivers b (waive_of b connection name))
+    → SameOutcome connection
+    (put_by a Asked (signing.waive_row a.policy a.run a.waivers connection name))
+    (put_by b Asked (signing.waive_row b.policy b.run b.waivers connection name))
 waive_alike keys connection a b orderly ordered same name =
-    both_alike connection a b same asked_by (waive_of a connection name)
-    (waive_of b connection name)
-    (told_of operation.Waive ask_seen name a connection)
-    (told_of operation.Waive ask_seen name b connection)
-    (waive_told keys a connection name orderly) (waive_told keys b connection name ordered)
-    (told_alike connection a b same operation.Waive (λ who. ask_seen) name)
+    let theirs = signing.waive_row b.policy b.run b.waivers connection name in
+    both_alike connection a b same asked_by Asked
+    (signing.waive_row a.policy a.run a.waivers connection name) theirs
+    (told_of operation.Waive ask_seen name a connection) (waive_told keys a connection name orderly)
+    (subst (λ told. IsToldOf b connection asked_by Asked theirs told)
+    (sym (told_alike connection a b same operation.Waive (λ who. ask_seen) name))
+    (waive_told keys b connection name ordered))
 
 pub sign_alike_in : PlacesAreOfKeys → (connection : ℕ) (a b : State) → IsOrderly a → IsOrderly b
     → SameView connection a b → (name : MarkerName)
-    → SameOutcome connection (over_waivers a (sign_of a connection name))
-    (over_waivers b (sign_of b connection name))
+    → SameOutcome connection
+    (put_by a Signed (signing.sign_row a.policy a.run a.waivers connection name))
+    (put_by b Signed (signing.sign_row b.policy b.run b.waivers connection name))
 sign_alike_in keys connection a b orderly ordered same name =
-    both_alike connection a b same signed_by (sign_of a connection name) (sign_of b connection name)
+    let theirs = signing.sign_row b.policy b.run b.waivers connection name in
+    both_alike connection a b same signed_by Signed
+    (signing.sign_row a.policy a.run a.waivers connection name) theirs
     (told_of operation.Sign (sign_seen (user_of a.policy connection)) name a connection)
-    (told_of operation.Sign (sign_seen (user_of b.policy connection)) name b connection)
-    (sign_told keys a connection name orderly) (sign_told keys b connection name ordered)
-    (told_alike connection a b same operation.Sign sign_seen name)
+    (sign_told keys a connection name orderly)
+    (subst (λ told. IsToldOf b connection signed_by Signed theirs told)
+    (sym (told_alike connection a b same operation.Sign sign_seen name))
+    (sign_told keys b connection name ordered))

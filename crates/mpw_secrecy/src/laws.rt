@@ -8,8 +8,7 @@ use mpw_core::Core;
 use mpw_hier::shelves_have_their_numbers;
 use mpw_laws::{
     clean_runs_are_signed_off, every_state_has_a_place_for_each_marker, places_are_left,
-    signers_stand_apart, waivers_are_left_unless_a_request_is_accepted,
-    waivers_are_of_shown_markers,
+    signers_stand_apart, waivers_are_of_shown_markers,
 };
 use mpw_markers::places_are_of_their_keys;
 
@@ -53,7 +52,6 @@ pub fn every_state_is_signed_apart()
     ensures { EveryStateIsSignedApart }
 {
     signers_stand_apart();
-    waivers_are_left_unless_a_request_is_accepted();
     waivers_are_of_shown_markers();
 }
 

@@ -1,18 +1,19 @@
 -- A second request is refused; who signs, and who asks.
-use Rattle.std.proofs.Common.{◌≡◌, ℕ, ◌<◌, Bool, true, false, cond, List, [], length, Option, None, Some, Result, Ok, Err, refl, sym, ap, subst, ◌∙◌, arith}
+use Rattle.std.proofs.Common.{◌≡◌, ◌↔◌, ℕ, ◌<◌, Bool, true, false, cond, List, [], length, Option, None, Some, Result, Ok, Err, refl, sym, ap, subst, ◌∙◌, arith}
 use Rattle.std.specs.Prelude.{slice_get}
 use Rattle.std.proofs.lemmas.Option.{slice_get_within}
 use Rattle.mpw_permissions.specs.declared.permission.Operation.TheVariants as operations
 use Rattle.mpw_rbac.specs.Policy.{Policy}
 use Rattle.mpw_rbac.specs.Rows.{user_of}
 use Rattle.mpw_requests.specs.declared.sign_off.MarkerName.{MarkerName}
+use Rattle.mpw_requests.specs.declared.sign_off.SignOffRequest.TheVariants as ask
 use Rattle.mpw_replies.specs.Sight.{is_full}
 use Rattle.mpw_access.specs.Seen.{seen_by}
 use Rattle.mpw_replies.specs.declared.reply.Code.TheVariants as code
-use Rattle.mpw_replies.specs.declared.reply.Reply.TheVariants as reply
+use Rattle.mpw_replies.specs.Rows.{changing}
 use Rattle.mpw_replies.specs.declared.row.Ending.{Ending}
 use Rattle.mpw_replies.specs.declared.row.Ending.TheVariants as ending
-use Rattle.mpw_placings.specs.declared.wafer.Wafer.{Wafer}
+use Rattle.mpw_replies.proofs.RowParts.{changed}
 use Rattle.mpw_run.specs.declared.phase.Checked.{Checked}
 use Rattle.mpw_run.specs.declared.phase.Phase.{Phase}
 use Rattle.mpw_run.specs.declared.phase.Phase.TheVariants.{Finished}
@@ -26,11 +27,12 @@ use Rattle.mpw_waiver.specs.Signing.{ask_test, sign_test}
 use Rattle.mpw_waiver.specs.Waivers.{waiver_at, with_asker, signed_by, with_signer}
 use Rattle.mpw_signoff.specs.declared.rows.ByUser.{ByUser}
 use Rattle.mpw_signoff.specs.Named.{Named, named_in, found_at, found_by, with_place, key_by, rule_place}
-use Rattle.mpw_signoff.specs.SigningOff.{if_full, if_shown, full_marker, passes, waive_row, sign_row, waived_outcome, signed_outcome, no_change}
-use Rattle.mpw_signoff_laws.specs.SignedOnce.{Reaches, IsSignable, SignedExactly, IsAskable, AskedExactly, SecondSignaturesAreRefused, SecondAskersAreRefused}
+use Rattle.mpw_signoff.specs.declared.rows.WaiverChange.{WaiverChange}
+use Rattle.mpw_signoff.specs.declared.rows.WaiverChange.TheVariants.{Asked, Signed}
+use Rattle.mpw_signoff.specs.SigningOff.{by_user, if_full, if_shown, full_marker, passes, waive_row, sign_row, row_of, waivers_after}
+use Rattle.mpw_signoff_laws.specs.SignedOnce.{Reaches, IsAccepted, IsKnown, IsSignable, SignedExactly, IsAskable, AskedExactly, SecondSignaturesAreRefused, SecondAskersAreRefused}
 use Rattle.mpw_signoff_laws.proofs.Places.{at_within, put_same}
 use Rattle.mpw_signoff_laws.proofs.Passing.{waive_passed, sign_passed, asks_none, signs_unsigned}
-use Rattle.mpw_signoff_laws.proofs.SignedOnce.{no_lines}
 
 -- ---- who comes second
 
@@ -127,16 +129,17 @@ module _ (policy : Policy) (run : Run) (waivers : List (Option Waiver)) (connect
       ) refl
 
 pub second_signatures_are_refused : SecondSignaturesAreRefused
-second_signatures_are_refused policy other wafer later run waivers connection another name e r =
-    go (sign_row policy run waivers connection name) refl e
+second_signatures_are_refused policy other wafer later run waivers connection another name first r =
+    let c =
+    changed Signed (λ by. []) (sign_row policy run waivers connection name) first.0 [] first.1
+    in
+    subst (λ w. IsKnown (row_of other later run (waivers_after waivers w) another (ask.Sign name)))
+    c.2 (ap (λ row. changing Signed (λ by. []) row) (known c.0 c.1))
   where
-    go : (row : Result ByUser Ending) → sign_row policy run waivers connection name ≡ row
-        → (signed_outcome waivers row).reply ≡ reply.Ok []
-        → signed_outcome (signed_outcome waivers row).waivers
-        (sign_row other run (signed_outcome waivers row).waivers another name)
-        ≡ no_change (reply.Refused code.Known) (signed_outcome waivers row).waivers
-    go (Err why) is told = absurd (no_lines why [] told)
-    go (Ok by) is told =
+    known : (by : ByUser) → sign_row policy run waivers connection name ≡ Ok by
+        → sign_row other run (with_signer waivers by.place by.user) another name
+        ≡ Err (ending.Refused code.Known)
+    known by is =
         let p = sign_passed policy run waivers connection name by is in
         let u =
         signs_unsigned p.f.planned.snapshot.shelf p.n.marker.met (user_of policy connection)
@@ -152,21 +155,22 @@ second_signatures_are_refused policy other wafer later run waivers connection an
         ap (waiver_at (with_signer waivers by.place by.user)) (sym place)
         ∙ put_same waivers by.place (signed_by by.user (waiver_at waivers by.place))
         (at_within waivers by.place u.waiver theirs) ∙ ap (signed_by by.user) theirs in
-        ap (signed_outcome (with_signer waivers by.place by.user))
-        (second_signs other run (with_signer waivers by.place by.user) another name r
-        u.waiver.asker by.user there)
+        second_signs other run (with_signer waivers by.place by.user) another name r
+        u.waiver.asker by.user there
 
 pub second_askers_are_refused : SecondAskersAreRefused
-second_askers_are_refused policy other wafer later run waivers connection another name long e r =
-    go (waive_row policy run waivers connection name) refl e
+second_askers_are_refused policy other wafer later run waivers connection another name long first
+    r =
+    let c =
+    changed Asked (λ by. []) (waive_row policy run waivers connection name) first.0 [] first.1
+    in
+    subst (λ w. IsKnown (row_of other later run (waivers_after waivers w) another (ask.Waive name)))
+    c.2 (ap (λ row. changing Asked (λ by. []) row) (known c.0 c.1))
   where
-    go : (row : Result ByUser Ending) → waive_row policy run waivers connection name ≡ row
-        → (waived_outcome waivers row).reply ≡ reply.Ok []
-        → waived_outcome (waived_outcome waivers row).waivers
-        (waive_row other run (waived_outcome waivers row).waivers another name)
-        ≡ no_change (reply.Refused code.Known) (waived_outcome waivers row).waivers
-    go (Err why) is told = absurd (no_lines why [] told)
-    go (Ok by) is told =
+    known : (by : ByUser) → waive_row policy run waivers connection name ≡ Ok by
+        → waive_row other run (with_asker waivers by.place by.user) another name
+        ≡ Err (ending.Refused code.Known)
+    known by is =
         let p = waive_passed policy run waivers connection name by is in
         let at : by.place ≡ p.n.place = ap (λ (b : ByUser). b.place) p.is in
         let same : p.n ≡ r.named =
@@ -181,8 +185,7 @@ second_askers_are_refused policy other wafer later run waivers connection anothe
         let there : waiver_at (with_asker waivers by.place by.user) r.named.place ≡ Some asked =
         ap (waiver_at (with_asker waivers by.place by.user)) (sym place)
         ∙ put_same waivers by.place (Some asked) (omega (arith, at, within, size)) in
-        ap (waived_outcome (with_asker waivers by.place by.user))
-        (second_asks other run (with_asker waivers by.place by.user) another name r asked there)
+        second_asks other run (with_asker waivers by.place by.user) another name r asked there
 
 -- ---- who signs, and who asks
 
@@ -192,10 +195,10 @@ passes_of told e = rw e refl
 asks_of : (o : Option Waiver) → o ≡ None → ask_test o ≡ Ok tt
 asks_of o e = rw e refl
 
-module _ (policy : Policy) (wafer : Wafer) (run : Run) (waivers : List (Option Waiver))
-    (connection : ℕ) (name : MarkerName) where
-  signs : IsSignable policy run waivers connection name
-      → (signed_outcome waivers (sign_row policy run waivers connection name)).reply ≡ reply.Ok []
+module _ (policy : Policy) (run : Run) (waivers : List (Option Waiver)) (connection : ℕ)
+    (name : MarkerName) where
+  signs : (s : IsSignable policy run waivers connection name)
+      → sign_row policy run waivers connection name ≡ Ok (by_user policy connection s.reaches.named)
   unfolding sign_row
   signs s =
       let r = s.reaches in
@@ -208,11 +211,9 @@ module _ (policy : Policy) (wafer : Wafer) (run : Run) (waivers : List (Option W
             (user_of policy connection) (waiver_at waivers r.named.place)) s.passes,
       ) refl
 
-  signable : (row : Result ByUser Ending) → sign_row policy run waivers connection name ≡ row
-      → (signed_outcome waivers row).reply ≡ reply.Ok []
+  signable : (by : ByUser) → sign_row policy run waivers connection name ≡ Ok by
       → IsSignable policy run waivers connection name
-  signable (Err why) is e = absurd (no_lines why [] e)
-  signable (Ok by) is e =
+  signable by is =
       let p = sign_passed policy run waivers connection name by is in
       record {
         reaches = record {
@@ -225,9 +226,9 @@ module _ (policy : Policy) (wafer : Wafer) (run : Run) (waivers : List (Option W
         passes = p.free;
       }
 
-  asks : IsAskable policy run waivers connection name
-      → (waived_outcome waivers (waive_row policy run waivers connection name)).reply
-      ≡ reply.Ok []
+  asks : (s : IsAskable policy run waivers connection name)
+      → waive_row policy run waivers connection name
+      ≡ Ok (by_user policy connection s.reaches.named)
   unfolding waive_row
   asks s =
       let r = s.reaches in
@@ -239,11 +240,9 @@ module _ (policy : Policy) (wafer : Wafer) (run : Run) (waivers : List (Option W
             (asks_of (waiver_at waivers r.named.place) s.none),
       ) refl
 
-  askable : (row : Result ByUser Ending) → waive_row policy run waivers connection name ≡ row
-      → (waived_outcome waivers row).reply ≡ reply.Ok []
+  askable : (by : ByUser) → waive_row policy run waivers connection name ≡ Ok by
       → IsAskable policy run waivers connection name
-  askable (Err why) is e = absurd (no_lines why [] e)
-  askable (Ok by) is e =
+  askable by is =
       let p = waive_passed policy run waivers connection name by is in
       record {
         reaches = record {
@@ -256,16 +255,24 @@ module _ (policy : Policy) (wafer : Wafer) (run : Run) (waivers : List (Option W
         none = asks_none (waiver_at waivers p.n.place) p.free;
       }
 
-pub signed_exactly : SignedExactly
-signed_exactly policy wafer run waivers connection name = (
-  λ e. signable policy wafer run waivers connection name
-      (sign_row policy run waivers connection name) refl e,
-  λ s. signs policy wafer run waivers connection name s,
+-- a table that changes the waivers is accepted exactly if it gives a user
+accepted : (put : ByUser → WaiverChange) (row : Result ByUser Ending)
+    → IsAccepted (changing put (λ by. []) row) ↔ ((by : ByUser) × (row ≡ Ok by))
+accepted put row = (
+  λ a. let c = changed put (λ by. []) row a.0 [] a.1 in (c.0, c.1),
+  λ b. (put b.0, ap (λ r. changing put (λ by. []) r) b.1),
 )
 
+pub signed_exactly : SignedExactly
+signed_exactly policy wafer run waivers connection name =
+    let row = accepted Signed (sign_row policy run waivers connection name) in (
+      λ a. let b = row.0 a in signable policy run waivers connection name b.0 b.1,
+      λ s. row.1 (_, signs policy run waivers connection name s),
+    )
+
 pub asked_exactly : AskedExactly
-asked_exactly policy wafer run waivers connection name = (
-  λ e. askable policy wafer run waivers connection name
-      (waive_row policy run waivers connection name) refl e,
-  λ s. asks policy wafer run waivers connection name s,
-)
+asked_exactly policy wafer run waivers connection name =
+    let row = accepted Asked (waive_row policy run waivers connection name) in (
+      λ a. let b = row.0 a in askable policy run waivers connection name b.0 b.1,
+      λ s. row.1 (_, asks policy run waivers connection name s),
+    )

@@ -1,5 +1,5 @@
 -- A waiver that was asked for and signed stays so: what sign-off requests leave of it.
-use Rattle.std.specs.Prelude.{◌≡◌, ◌↔◌, ℕ, List, [], length, Option, None, Some, Ok}
+use Rattle.std.specs.Prelude.{◌≡◌, ◌↔◌, ℕ, List, [], length, Option, None, Some, Result, Ok, Err}
 use Rattle.mpw_permissions.specs.declared.permission.Operation.{Operation}
 use Rattle.mpw_permissions.specs.declared.permission.Operation.TheVariants as operation
 use Rattle.mpw_permissions.specs.declared.permission.Object.TheVariants as object
@@ -8,8 +8,12 @@ use Rattle.mpw_rbac.specs.Rows.{user_of}
 use Rattle.mpw_requests.specs.declared.sign_off.MarkerName.{MarkerName}
 use Rattle.mpw_requests.specs.declared.sign_off.SignOffRequest.{SignOffRequest}
 use Rattle.mpw_requests.specs.declared.sign_off.SignOffRequest.TheVariants as ask
+use Rattle.mpw_replies.specs.Listing.{Listed}
 use Rattle.mpw_replies.specs.declared.reply.Code.TheVariants as code
-use Rattle.mpw_replies.specs.declared.reply.Reply.TheVariants as reply
+use Rattle.mpw_replies.specs.declared.row.Done.{Done}
+use Rattle.mpw_replies.specs.declared.row.Done.TheVariants.{Changes}
+use Rattle.mpw_replies.specs.declared.row.Ending.{Ending}
+use Rattle.mpw_replies.specs.declared.row.Ending.TheVariants as ending
 use Rattle.mpw_access.specs.Permitted.{permitted}
 use Rattle.mpw_placings.specs.declared.wafer.Wafer.{Wafer}
 use Rattle.mpw_run.specs.declared.phase.Checked.{Checked}
@@ -18,19 +22,21 @@ use Rattle.mpw_run.specs.Step.{Run, book_size}
 use Rattle.mpw_waiver.specs.declared.waiver.Waiver.{Waiver}
 use Rattle.mpw_waiver.specs.Signing.{sign_test}
 use Rattle.mpw_waiver.specs.Waivers.{waiver_at}
+use Rattle.mpw_signoff.specs.declared.rows.WaiverChange.{WaiverChange}
 use Rattle.mpw_signoff.specs.Named.{Named}
-use Rattle.mpw_signoff.specs.SigningOff.{Outcome, full_marker, no_change, outcome_of}
+use Rattle.mpw_signoff.specs.SigningOff.{full_marker, row_of, waivers_after}
 
--- ---- what any request leaves
+-- ---- what the change of any request leaves
 
--- A signed waiver stays as it is.
+-- A signed waiver stays as it is. Without a change, all waivers do.
 abbrev pub SignaturesStay : Type 0
 SignaturesStay =
     (policy : Policy) (wafer : Wafer) (run : Run) (waivers : List (Option Waiver)) (connection : ℕ)
-    (request : SignOffRequest) (place : ℕ) (waiver : Waiver) (signer : List ℕ)
+    (request : SignOffRequest) (change : WaiverChange) (lines : List Listed)
+    → row_of policy wafer run waivers connection request ≡ Ok (Changes change lines)
+    → (place : ℕ) (waiver : Waiver) (signer : List ℕ)
     → waiver_at waivers place ≡ Some waiver → waiver.signer ≡ Some signer
-    → waiver_at (outcome_of policy wafer run waivers connection request).waivers place
-    ≡ Some waiver
+    → waiver_at (waivers_after waivers change) place ≡ Some waiver
 
 -- The waiver of a marker still exists, and this user asked for it.
 pub record IsAskedBy (waivers : List (Option Waiver)) (place : ℕ) (asker : List ℕ) : Type 0 where
@@ -42,9 +48,10 @@ pub record IsAskedBy (waivers : List (Option Waiver)) (place : ℕ) (asker : Lis
 abbrev pub AskersStay : Type 0
 AskersStay =
     (policy : Policy) (wafer : Wafer) (run : Run) (waivers : List (Option Waiver)) (connection : ℕ)
-    (request : SignOffRequest) (place : ℕ) (asker : List ℕ)
-    → IsAskedBy waivers place asker
-    → IsAskedBy (outcome_of policy wafer run waivers connection request).waivers place asker
+    (request : SignOffRequest) (change : WaiverChange) (lines : List Listed)
+    → row_of policy wafer run waivers connection request ≡ Ok (Changes change lines)
+    → (place : ℕ) (asker : List ℕ) → IsAskedBy waivers place asker
+    → IsAskedBy (waivers_after waivers change) place asker
 
 -- ---- which session reaches a marker
 
@@ -69,12 +76,16 @@ pub record IsSignable (policy : Policy) (run : Run) (waivers : List (Option Waiv
       (user_of policy connection) (waiver_at waivers reaches.named.place)
       ≡ Ok tt
 
+-- A request is accepted: the waivers change, and the reply has no lines.
+abbrev pub IsAccepted : Result (Done WaiverChange) Ending → Type 0
+IsAccepted row = (change : WaiverChange) × (row ≡ Ok (Changes change []))
+
 -- A `sign` is accepted from such a session, and from no other.
 abbrev pub SignedExactly : Type 0
 SignedExactly =
     (policy : Policy) (wafer : Wafer) (run : Run) (waivers : List (Option Waiver)) (connection : ℕ)
     (name : MarkerName)
-    → (outcome_of policy wafer run waivers connection (ask.Sign name)).reply ≡ reply.Ok []
+    → IsAccepted (row_of policy wafer run waivers connection (ask.Sign name))
     ↔ IsSignable policy run waivers connection name
 
 -- The same for asking: the marker has no waiver.
@@ -87,14 +98,14 @@ abbrev pub AskedExactly : Type 0
 AskedExactly =
     (policy : Policy) (wafer : Wafer) (run : Run) (waivers : List (Option Waiver)) (connection : ℕ)
     (name : MarkerName)
-    → (outcome_of policy wafer run waivers connection (ask.Waive name)).reply ≡ reply.Ok []
+    → IsAccepted (row_of policy wafer run waivers connection (ask.Waive name))
     ↔ IsAskable policy run waivers connection name
 
 -- ---- who comes second
 
--- A request is refused as known, and leaves the waivers unchanged.
-abbrev pub IsKnown : Outcome → List (Option Waiver) → Type 0
-IsKnown outcome waivers = outcome ≡ no_change (reply.Refused code.Known) waivers
+-- A request is refused as known.
+abbrev pub IsKnown : Result (Done WaiverChange) Ending → Type 0
+IsKnown row = row ≡ Err (ending.Refused code.Known)
 
 -- After a marker's waiver was signed, nobody else can sign it, whatever the policy is then: a session that
 -- reaches it is refused.
@@ -102,11 +113,9 @@ abbrev pub SecondSignaturesAreRefused : Type 0
 SecondSignaturesAreRefused =
     (policy other : Policy) (wafer later : Wafer) (run : Run) (waivers : List (Option Waiver))
     (connection another : ℕ) (name : MarkerName)
-    → (outcome_of policy wafer run waivers connection (ask.Sign name)).reply ≡ reply.Ok []
+    → (signed : IsAccepted (row_of policy wafer run waivers connection (ask.Sign name)))
     → Reaches other run another operation.Sign name
-    → let after : List (Option Waiver) = (outcome_of policy wafer run waivers connection
-    (ask.Sign name)).waivers in
-    IsKnown (outcome_of other later run after another (ask.Sign name)) after
+    → IsKnown (row_of other later run (waivers_after waivers signed.0) another (ask.Sign name))
 
 -- After a waiver of a marker was asked for, nobody else can ask for one, if each marker of the book has an
 -- entry for its waiver.
@@ -114,8 +123,6 @@ abbrev pub SecondAskersAreRefused : Type 0
 SecondAskersAreRefused =
     (policy other : Policy) (wafer later : Wafer) (run : Run) (waivers : List (Option Waiver))
     (connection another : ℕ) (name : MarkerName) → length waivers ≡ book_size run.phase
-    → (outcome_of policy wafer run waivers connection (ask.Waive name)).reply ≡ reply.Ok []
+    → (asked : IsAccepted (row_of policy wafer run waivers connection (ask.Waive name)))
     → Reaches other run another operation.Waive name
-    → let after : List (Option Waiver) = (outcome_of policy wafer run waivers connection
-    (ask.Waive name)).waivers in
-    IsKnown (outcome_of other later run after another (ask.Waive name)) after
+    → IsKnown (row_of other later run (waivers_after waivers asked.0) another (ask.Waive name))

@@ -1,4 +1,4 @@
-use Rattle.mpw_laws.proofs.Leaving.{places_left}
+use Rattle.mpw_laws.proofs.PlaceLemmas.{places_left}
 use Rattle.mpw_laws.proofs.sign_off.places_are_left.Goals as goal
 
 pub returns : goal.returns

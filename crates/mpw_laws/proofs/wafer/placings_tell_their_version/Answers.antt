@@ -1,4 +1,4 @@
-use Rattle.mpw_laws.proofs.WaferLeaving.{versions_told}
+use Rattle.mpw_laws.proofs.VersionLemmas.{versions_told}
 use Rattle.mpw_laws.proofs.wafer.placings_tell_their_version.Goals as goal
 
 pub returns : goal.returns

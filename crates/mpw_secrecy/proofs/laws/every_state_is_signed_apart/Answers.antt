@@ -4,4 +4,3 @@ use Rattle.mpw_secrecy.proofs.laws.every_state_is_signed_apart.Goals as goal
 pub returns : goal.returns
 returns c =
     signers_apart c.waivers_are_of_shown_markers.ensures.waived c.signers_stand_apart.ensures
-    c.waivers_are_left_unless_a_request_is_accepted.ensures

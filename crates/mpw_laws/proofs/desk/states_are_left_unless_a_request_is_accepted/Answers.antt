@@ -1,0 +1,5 @@
+use Rattle.mpw_laws.proofs.RefusalLemmas.{negative_request}
+use Rattle.mpw_laws.proofs.desk.states_are_left_unless_a_request_is_accepted.Goals as goal
+
+pub returns : goal.returns
+returns c = negative_request
