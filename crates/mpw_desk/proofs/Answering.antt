@@ -1,6 +1,6 @@
 -- What an open desk whose history has room answers a request: never that it is closed or full. Each ending of
 -- each decision table is a case.
-use Rattle.std.proofs.Common.{◌≡◌, ℕ, Bool, true, false, List, [], ◌∷◌, Option, None, Some, Result, Ok, Err, subst, sym}
+use Rattle.std.proofs.Common.{◌≡◌, ℕ, ◌+◌, Bool, true, false, List, [], ◌∷◌, Option, None, Some, Result, Ok, Err, subst, sym}
 use Rattle.std.specs.Prelude.{◌&&◌, not, if◌then◌else◌}
 use Rattle.mpw_geom.specs.declared.placing.Placing.{Placing}
 use Rattle.mpw_hier.specs.declared.submission.Submission.{Submission}
@@ -24,12 +24,10 @@ use Rattle.mpw_run.specs.Step.{Run, findings}
 use Rattle.mpw_run.specs.declared.phase.Checked.{Checked}
 use Rattle.mpw_run.specs.declared.phase.Phase.{Phase}
 use Rattle.mpw_run.specs.declared.phase.Phase.TheVariants.{Idle, Cutting, Checking, Finished}
-use Rattle.mpw_run.specs.Run.{Planned}
 use Rattle.mpw_permissions.specs.declared.permission.Object.TheVariants as object
 use Rattle.mpw_permissions.specs.declared.permission.Operation.TheVariants as operation
 use Rattle.mpw_rbac.specs.Policy.{Policy}
 use Rattle.mpw_rbac.specs.Rows as rows
-use Rattle.mpw_rbac.specs.declared.refusal.Refusal.{Refusal}
 use Rattle.mpw_access.specs.Permitted.{permitted, session_test}
 use Rattle.mpw_access.specs.Seen.{seen_by}
 use Rattle.mpw_requests.specs.declared.request.Request.{Request}
@@ -41,28 +39,22 @@ use Rattle.mpw_requests.specs.declared.sign_off.SignOffRequest.{SignOffRequest}
 use Rattle.mpw_requests.specs.declared.sign_off.SignOffRequest.TheVariants as sign_ask
 use Rattle.mpw_requests.specs.declared.wafer.WaferRequest.{WaferRequest}
 use Rattle.mpw_requests.specs.declared.wafer.WaferRequest.TheVariants as wafer_ask
-use Rattle.mpw_replies.specs.Listing.{Listed}
 use Rattle.mpw_replies.specs.Rows.{needed}
 use Rattle.mpw_replies.specs.Sight.{is_full}
 use Rattle.mpw_replies.specs.declared.reply.Code.TheVariants as code
-use Rattle.mpw_replies.specs.declared.reply.Line.{Line}
-use Rattle.mpw_replies.specs.declared.row.Ending.{Ending}
+use Rattle.mpw_replies.specs.declared.reply.Line.TheVariants as line
 use Rattle.mpw_replies.specs.declared.row.Ending.TheVariants as ending
-use Rattle.mpw_wafer.specs.Run.Checking as checking
 use Rattle.mpw_wafer.specs.Run.Checking.{at_rest, cancel_row, cover_test, going_on, markers, planning_over, run_row, snapshot_of, status}
-use Rattle.mpw_wafer.specs.Wafers as wafers
 use Rattle.mpw_wafer.specs.Wafers.{by_table, by_text, code_of, deck_row, place_row, unplace_row}
-use Rattle.mpw_signoff.specs.SigningOff as signing
 use Rattle.mpw_signoff.specs.SigningOff.{apart, full_marker, if_shown, passes, sign_row, verdict_row, waive_row, waivers_row}
 use Rattle.mpw_signoff.specs.Named.{Named, named_in}
-use Rattle.mpw_signoff.specs.declared.rows.ByUser.{ByUser}
 use Rattle.mpw_events.specs.PolicyRows.{row_of}
 use Rattle.mpw_events.specs.declared.event.Event.{Event}
 use Rattle.mpw_events.specs.declared.event.Event.TheVariants as event
 use Rattle.mpw_events.specs.declared.event.Response.{Response}
-use Rattle.mpw_events.specs.Step.{Outcome, State, event_outcome, identity_lines, no_change, not_kept_response, outcome_of, query_outcome, response_of, step, trail_outcome}
+use Rattle.mpw_events.specs.Step.{Outcome, State, ending_of, event_outcome, no_change, not_kept_response, outcome_of, over_policy, over_run, over_wafer, over_waivers, response_of, step}
 use Rattle.mpw_desk.specs.Steps.{IsAnswer}
-use Rattle.mpw_desk.proofs.Endings.{IsTold, EndsFair, IsFairReply, IsFairResponse, fair-reply, ended-fair, row-fair, by_test-fair, permitted-fair, session-fair, needed-fair, refused-fair, policy-fair, layout-fair}
+use Rattle.mpw_desk.proofs.Endings.{IsTold, EndsFair, IsFairResponse, changing-fair, fair-reply, listing-fair, row-fair, by_test-fair, permitted-fair, session-fair, needed-fair, policy-fair, layout-fair}
 
 -- ---- the wafer
 
@@ -100,41 +92,27 @@ unplace-fair policy ps connection cell label =
     (permitted-fair policy connection operation.Place (object.Cell cell))
     (λ entered. table-fair (table.placings_without ps cell label))
 
-deck-fair : (policy : Policy) (connection : ℕ) (text : List ℕ) → EndsFair (deck_row policy connection text)
+deck-fair : (policy : Policy) (connection : ℕ) (text : List ℕ)
+    → EndsFair (deck_row policy connection text)
 unfolding deck_row
 deck-fair policy connection text =
     row-fair (permitted policy connection operation.Deck object.Desk) _
     (permitted-fair policy connection operation.Deck object.Desk)
     (λ entered. text-fair (deck_of text))
 
-placed-told : (shelf : List Submission) (wafer : Wafer) (cell label : List ℕ)
-    (r : Result (List Placement) Ending) → EndsFair r
-    → IsFairReply (wafers.placed_outcome shelf wafer cell label r).reply
-placed-told shelf wafer cell label (Ok ps) fair = tt
-placed-told shelf wafer cell label (Err e) fair = ended-fair e fair
-
-unplaced-told : (wafer : Wafer) (r : Result (List Placement) Ending) → EndsFair r
-    → IsFairReply (wafers.unplaced_outcome wafer r).reply
-unplaced-told wafer (Ok ps) fair = tt
-unplaced-told wafer (Err e) fair = ended-fair e fair
-
-decked-told : (wafer : Wafer) (r : Result Deck Ending) → EndsFair r
-    → IsFairReply (wafers.decked_outcome wafer r).reply
-decked-told wafer (Ok deck) fair = tt
-decked-told wafer (Err e) fair = ended-fair e fair
-
-wafer-fair : (policy : Policy) (shelf : List Submission) (wafer : Wafer) (connection : ℕ)
-    (request : WaferRequest)
-    → IsFairReply (wafers.outcome_of policy shelf wafer connection request).reply
-wafer-fair policy shelf wafer connection (wafer_ask.Place cell label placing) =
-    placed-told shelf wafer cell label
-    (place_row policy shelf wafer.placings connection cell label placing)
-    (place-fair policy shelf wafer.placings connection cell label placing)
-wafer-fair policy shelf wafer connection (wafer_ask.Unplace cell label) =
-    unplaced-told wafer (unplace_row policy wafer.placings connection cell label)
-    (unplace-fair policy wafer.placings connection cell label)
-wafer-fair policy shelf wafer connection (wafer_ask.Deck text) =
-    decked-told wafer (deck_row policy connection text) (deck-fair policy connection text)
+wafer-fair : (s : State) (connection : ℕ) (request : WaferRequest)
+    → IsFairResponse (outcome_of s connection (ask.Wafer request)).response
+wafer-fair s connection (wafer_ask.Place cell label placing) =
+    changing-fair (λ e. e) (over_wafer s) s _ _
+    (place_row s.policy s.shelf s.wafer.placings connection cell label placing)
+    (place-fair s.policy s.shelf s.wafer.placings connection cell label placing)
+wafer-fair s connection (wafer_ask.Unplace cell label) =
+    changing-fair (λ e. e) (over_wafer s) s _ (λ ps. [])
+    (unplace_row s.policy s.wafer.placings connection cell label)
+    (unplace-fair s.policy s.wafer.placings connection cell label)
+wafer-fair s connection (wafer_ask.Deck text) =
+    changing-fair (λ e. e) (over_wafer s) s _ (λ deck. []) (deck_row s.policy connection text)
+    (deck-fair s.policy connection text)
 
 -- ---- the run
 
@@ -169,57 +147,49 @@ run_row-fair policy shelf wafer run connection =
     (λ deck. planning-fair (snapshot_of deck wafer.placings shelf)
     (shown (snapshot_of deck wafer.placings shelf)))))
 
-cancel-fair : (policy : Policy) (run : Run) (connection : ℕ) → EndsFair (cancel_row policy run connection)
+cancel-fair : (policy : Policy) (run : Run) (connection : ℕ)
+    → EndsFair (cancel_row policy run connection)
 unfolding cancel_row
 cancel-fair policy run connection =
     row-fair (permitted policy connection operation.Run object.Desk) _
     (permitted-fair policy connection operation.Run object.Desk) (λ allowed. going-fair run.phase)
 
-status-fair : (policy : Policy) (run : Run) (connection : ℕ) → EndsFair (status policy run connection)
+status-fair : (policy : Policy) (run : Run) (connection : ℕ)
+    → EndsFair (status policy run connection)
 unfolding status
 status-fair policy run connection =
     row-fair (session_test policy connection) _ (session-fair policy connection) (λ inside. tt)
 
-markers-fair : (policy : Policy) (run : Run) (connection : ℕ) → EndsFair (markers policy run connection)
+markers-fair : (policy : Policy) (run : Run) (connection : ℕ)
+    → EndsFair (markers policy run connection)
 unfolding markers
 markers-fair policy run connection =
     row-fair (session_test policy connection) _ (session-fair policy connection)
     (λ inside. row-fair (needed code.NotFinished (findings run.phase)) _
     (needed-fair code.NotFinished (findings run.phase) tt) (λ f. tt))
 
-begun-told : (run : Run) (r : Result Planned Ending) → EndsFair r
-    → IsFairReply (checking.begun_outcome run r).reply
-begun-told run (Ok planned) fair = tt
-begun-told run (Err e) fair = ended-fair e fair
-
-left-told : (run : Run) (r : Result (Unit {0}) Ending) → EndsFair r
-    → IsFairReply (checking.left_off_outcome run r).reply
-left-told run (Ok x) fair = tt
-left-told run (Err e) fair = ended-fair e fair
-
-run_listing-told : (run : Run) (r : Result (List Listed) Ending) → EndsFair r
-    → IsFairReply (checking.listing_outcome run r).reply
-run_listing-told run (Ok lines) fair = tt
-run_listing-told run (Err e) fair = ended-fair e fair
-
-run-fair : (policy : Policy) (shelf : List Submission) (wafer : Wafer) (run : Run) (connection : ℕ)
-    (request : RunRequest)
-    → IsFairReply (checking.outcome_of policy shelf wafer run connection request).reply
-run-fair policy shelf wafer run connection run_ask.Run =
-    begun-told run (run_row policy shelf wafer run connection)
-    (run_row-fair policy shelf wafer run connection)
-run-fair policy shelf wafer run connection run_ask.Cancel =
-    left-told run (cancel_row policy run connection) (cancel-fair policy run connection)
-run-fair policy shelf wafer run connection run_ask.Status =
-    run_listing-told run (status policy run connection) (status-fair policy run connection)
-run-fair policy shelf wafer run connection run_ask.Markers =
-    run_listing-told run (markers policy run connection) (markers-fair policy run connection)
+run-fair : (s : State) (connection : ℕ) (request : RunRequest)
+    → IsFairResponse (outcome_of s connection (ask.Run request)).response
+run-fair s connection run_ask.Run =
+    changing-fair (λ e. e) (over_run s) s _ (λ planned. line.Run (s.run.number + 1) ∷ [])
+    (run_row s.policy s.shelf s.wafer s.run connection)
+    (run_row-fair s.policy s.shelf s.wafer s.run connection)
+run-fair s connection run_ask.Cancel =
+    changing-fair (λ e. e) (over_run s) s _ (λ x. []) (cancel_row s.policy s.run connection)
+    (cancel-fair s.policy s.run connection)
+run-fair s connection run_ask.Status =
+    listing-fair (λ e. e) (over_run s) s _ (status s.policy s.run connection)
+    (status-fair s.policy s.run connection)
+run-fair s connection run_ask.Markers =
+    listing-fair (λ e. e) (over_run s) s _ (markers s.policy s.run connection)
+    (markers-fair s.policy s.run connection)
 
 -- ---- waivers
 
 shown-fair : (seen : List Bool) (n : Option Named) → EndsFair (if_shown seen n)
 shown-fair seen None = tt
-shown-fair seen (Some n) = by_test-fair (is_full seen n.marker) (ending.Refused code.NoMarker) (Ok n) tt tt
+shown-fair seen (Some n) =
+    by_test-fair (is_full seen n.marker) (ending.Refused code.NoMarker) (Ok n) tt tt
 
 full-fair : (policy : Policy) (connection : ℕ) (f : Checked) (name : MarkerName)
     → EndsFair (full_marker policy connection f name)
@@ -277,63 +247,41 @@ verdict-fair policy wafer run waivers connection =
     (λ allowed. row-fair (needed code.NotFinished (findings run.phase)) _
     (needed-fair code.NotFinished (findings run.phase) tt) (λ f. tt))
 
-waived-told : (waivers : List (Option Waiver)) (r : Result ByUser Ending) → EndsFair r
-    → IsFairReply (signing.waived_outcome waivers r).reply
-waived-told waivers (Ok by) fair = tt
-waived-told waivers (Err e) fair = ended-fair e fair
-
-signed-told : (waivers : List (Option Waiver)) (r : Result ByUser Ending) → EndsFair r
-    → IsFairReply (signing.signed_outcome waivers r).reply
-signed-told waivers (Ok by) fair = tt
-signed-told waivers (Err e) fair = ended-fair e fair
-
-sign_listing-told : (waivers : List (Option Waiver)) (r : Result (List Listed) Ending) → EndsFair r
-    → IsFairReply (signing.listing_outcome waivers r).reply
-sign_listing-told waivers (Ok lines) fair = tt
-sign_listing-told waivers (Err e) fair = ended-fair e fair
-
-sign_off-fair : (policy : Policy) (wafer : Wafer) (run : Run) (waivers : List (Option Waiver))
-    (connection : ℕ) (request : SignOffRequest)
-    → IsFairReply (signing.outcome_of policy wafer run waivers connection request).reply
-sign_off-fair policy wafer run waivers connection (sign_ask.Waive marker) =
-    waived-told waivers (waive_row policy run waivers connection marker)
-    (waive-fair policy run waivers connection marker)
-sign_off-fair policy wafer run waivers connection (sign_ask.Sign marker) =
-    signed-told waivers (sign_row policy run waivers connection marker)
-    (sign-fair policy run waivers connection marker)
-sign_off-fair policy wafer run waivers connection sign_ask.Waivers =
-    sign_listing-told waivers (waivers_row policy run waivers connection)
-    (waivers-fair policy run waivers connection)
-sign_off-fair policy wafer run waivers connection sign_ask.Verdict =
-    sign_listing-told waivers (verdict_row policy wafer run waivers connection)
-    (verdict-fair policy wafer run waivers connection)
+sign_off-fair : (s : State) (connection : ℕ) (request : SignOffRequest)
+    → IsFairResponse (outcome_of s connection (ask.SignOff request)).response
+sign_off-fair s connection (sign_ask.Waive marker) =
+    changing-fair (λ e. e) (over_waivers s) s _ (λ by. [])
+    (waive_row s.policy s.run s.waivers connection marker)
+    (waive-fair s.policy s.run s.waivers connection marker)
+sign_off-fair s connection (sign_ask.Sign marker) =
+    changing-fair (λ e. e) (over_waivers s) s _ (λ by. [])
+    (sign_row s.policy s.run s.waivers connection marker)
+    (sign-fair s.policy s.run s.waivers connection marker)
+sign_off-fair s connection sign_ask.Waivers =
+    listing-fair (λ e. e) (over_waivers s) s _ (waivers_row s.policy s.run s.waivers connection)
+    (waivers-fair s.policy s.run s.waivers connection)
+sign_off-fair s connection sign_ask.Verdict =
+    listing-fair (λ e. e) (over_waivers s) s _
+    (verdict_row s.policy s.wafer s.run s.waivers connection)
+    (verdict-fair s.policy s.wafer s.run s.waivers connection)
 
 -- ---- a request
 
-query-fair : {A : Type 0} (s : State) (lines : A → List Line) (r : Result A Refusal)
-    → IsFairResponse (query_outcome s lines r).response
-query-fair s lines (Ok answer) = tt
-query-fair s lines (Err r) = refused-fair r
-
-trail-fair : (s : State) (r : Result (Unit {0}) Ending) → EndsFair r
-    → IsFairResponse (trail_outcome s r).response
-trail-fair s (Ok allowed) fair = tt
-trail-fair s (Err e) fair = ended-fair e fair
-
 outcome-fair : (s : State) (connection : ℕ) (request : Request)
     → IsFairResponse (outcome_of s connection request).response
-outcome-fair s connection (ask.Policy request) = policy-fair s (row_of s.policy connection request)
+outcome-fair s connection (ask.Policy request) =
+    changing-fair ending_of (over_policy s) s (λ next. next) (λ next. [])
+    (row_of s.policy connection request) (policy-fair (row_of s.policy connection request))
 outcome-fair s connection ask.Whoami =
-    query-fair s identity_lines (rows.whoami s.policy connection)
-outcome-fair s connection (ask.Layout request) = layout-fair s.policy s.shelf connection request
-outcome-fair s connection (ask.Wafer request) =
-    wafer-fair s.policy s.shelf s.wafer connection request
-outcome-fair s connection (ask.Run request) =
-    run-fair s.policy s.shelf s.wafer s.run connection request
-outcome-fair s connection (ask.SignOff request) =
-    sign_off-fair s.policy s.wafer s.run s.waivers connection request
+    listing-fair ending_of (over_policy s) s _ (rows.whoami s.policy connection)
+    (policy-fair (rows.whoami s.policy connection))
+outcome-fair s connection (ask.Layout request) = layout-fair s connection request
+outcome-fair s connection (ask.Wafer request) = wafer-fair s connection request
+outcome-fair s connection (ask.Run request) = run-fair s connection request
+outcome-fair s connection (ask.SignOff request) = sign_off-fair s connection request
 outcome-fair s connection ask.Trail =
-    trail-fair s (permitted s.policy connection operation.Audit object.Desk)
+    listing-fair (λ e. e) (over_policy s) s _
+    (permitted s.policy connection operation.Audit object.Desk)
     (permitted-fair s.policy connection operation.Audit object.Desk)
 
 settled-fair : (b : Bool) (s : State) (connection : ℕ) (request : Request) (o : Outcome)

@@ -24,10 +24,13 @@ use Rattle.mpw_rbac.specs.declared.refusal.Refusal.TheVariants as refusal
 use Rattle.mpw_access.specs.Permitted.{in_session, permitted, session_test}
 use Rattle.mpw_requests.specs.declared.layouts.LayoutRequest.{LayoutRequest}
 use Rattle.mpw_requests.specs.declared.layouts.LayoutRequest.TheVariants as layout_ask
+use Rattle.mpw_requests.specs.declared.request.Request.TheVariants as ask
 use Rattle.mpw_replies.specs.Listing.{Listed, stored}
-use Rattle.mpw_replies.specs.Rows.{◌>>=◌, denied, ended_by, listing_reply, needed}
+use Rattle.mpw_replies.specs.Rows.{◌>>=◌, changing, denied, ended_by, listing, needed}
 use Rattle.mpw_replies.specs.declared.reply.Code.{Code}
 use Rattle.mpw_replies.specs.declared.reply.Code.TheVariants as code
+use Rattle.mpw_replies.specs.declared.reply.Line.{Line}
+use Rattle.mpw_replies.specs.declared.reply.Line.TheVariants as line
 use Rattle.mpw_replies.specs.declared.reply.Reply.{Reply}
 use Rattle.mpw_replies.specs.declared.reply.Reply.TheVariants as reply
 use Rattle.mpw_replies.specs.declared.row.Ending.{Ending}
@@ -36,51 +39,33 @@ use Rattle.mpw_layouts.specs.Layouts as layouts
 use Rattle.mpw_layouts.specs.Layouts.{cells_of, readable_line, within_limits, submitted_library, submit_row, shapes, unnumbered_submission}
 use Rattle.mpw_events.specs.declared.event.Response.{Response}
 use Rattle.mpw_events.specs.declared.event.Response.TheVariants as response
-use Rattle.mpw_events.specs.Step.{State, policy_outcome, reply_of}
+use Rattle.mpw_events.specs.Step.{State, ending_of, outcome_by, outcome_of, over_shelf}
 
 -- ---- what ends a decision table
 
 -- a code of an answer
 abbrev pub IsTold : Code → Type 0
-IsTold (code.Read fault) = ⊤
-IsTold (code.Deck fault) = ⊤
-IsTold code.NoTop = ⊤
-IsTold code.Cycle = ⊤
-IsTold code.NoCell = ⊤
-IsTold code.Extent = ⊤
-IsTold code.Shapes = ⊤
-IsTold code.Deep = ⊤
-IsTold code.Full = ⊤
-IsTold code.Tiles = ⊤
-IsTold code.Opened = ⊤
-IsTold code.NoRun = ⊤
-IsTold code.Unknown = ⊤
-IsTold code.Known = ⊤
-IsTold code.Used = ⊤
-IsTold code.Loop = ⊤
-IsTold code.Running = ⊤
-IsTold code.NoDeck = ⊤
-IsTold code.Empty = ⊤
-IsTold code.NotFinished = ⊤
-IsTold code.NoMarker = ⊤
-IsTold code.NoWaiver = ⊤
 IsTold code.Ended = ⊥
-IsTold code.Store = ⊤
 IsTold code.Closed = ⊥
+IsTold _ = ⊤
 
 abbrev IsFair : Ending → Type 0
 IsFair (ending.Denied why) = ⊤
 IsFair (ending.Refused c) = IsTold c
 
+-- what ends a table is fair
+abbrev pub EndsBy : {A E : Type 0} → (E → Ending) → Result A E → Type 0
+EndsBy ending (Ok x) = ⊤
+EndsBy ending (Err e) = IsFair (ending e)
+
 abbrev pub EndsFair : {A : Type 0} → Result A Ending → Type 0
-EndsFair (Ok x) = ⊤
-EndsFair (Err e) = IsFair e
+EndsFair r = EndsBy (λ e. e) r
 
 abbrev AreFair : List (Bool × Ending) → Type 0
 AreFair [] = ⊤
 AreFair (test ∷ tests) = IsFair test.1 × AreFair tests
 
-abbrev pub IsFairReply : Reply → Type 0
+abbrev IsFairReply : Reply → Type 0
 IsFairReply (reply.Ok lines) = ⊤
 IsFairReply (reply.Denied why) = ⊤
 IsFairReply (reply.Refused c) = IsTold c
@@ -100,9 +85,22 @@ fair-reply response.Gone fair = absurd fair
 fair-reply response.Restarted fair = absurd fair
 fair-reply response.Ended fair = absurd fair
 
-pub ended-fair : (e : Ending) → IsFair e → IsFairReply (ended_by e)
+ended-fair : (e : Ending) → IsFair e → IsFairReply (ended_by e)
 ended-fair (ending.Denied why) fair = tt
 ended-fair (ending.Refused c) fair = fair
+
+-- the reply of a table that ends so, if it lists and if it changes a part
+pub listing-fair : {A E P : Type 0} (ending : E → Ending) (over : P → State) (s : State)
+    (lines : A → List Listed) (row : Result A E) → EndsBy ending row
+    → IsFairResponse (outcome_by ending over s (listing lines row)).response
+listing-fair ending over s lines (Ok x) fair = tt
+listing-fair ending over s lines (Err e) fair = ended-fair (ending e) fair
+
+pub changing-fair : {A E P : Type 0} (ending : E → Ending) (over : P → State) (s : State)
+    (part : A → P) (lines : A → List Line) (row : Result A E) → EndsBy ending row
+    → IsFairResponse (outcome_by ending over s (changing part lines row)).response
+changing-fair ending over s part lines (Ok x) fair = tt
+changing-fair ending over s part lines (Err e) fair = ended-fair (ending e) fair
 
 pub row-fair : {A B : Type 0} (x : Result A Ending) (f : A → Result B Ending) → EndsFair x
     → ((a : A) → EndsFair (f a)) → EndsFair (x >>= f)
@@ -123,7 +121,8 @@ decided-fair (test ∷ tests) value fair =
 pub permitted-fair : (policy : Policy) (connection : ℕ) (op : Operation) (on : Object)
     → EndsFair (permitted policy connection op on)
 permitted-fair policy connection op on =
-    decided-fair (in_session policy connection ∷ (permits policy connection op on, denied op on) ∷ [])
+    decided-fair (in_session policy connection ∷ (permits policy connection op on, denied op on)
+    ∷ [])
     tt (tt, (tt, tt))
 
 pub session-fair : (policy : Policy) (connection : ℕ) → EndsFair (session_test policy connection)
@@ -135,7 +134,7 @@ needed-fair c (Some x) told = tt
 
 -- ---- the policy
 
-pub refused-fair : (r : Refusal) → IsFairReply (reply_of r)
+refused-fair : (r : Refusal) → IsFair (ending_of r)
 refused-fair refusal.Opened = tt
 refused-fair refusal.Login = tt
 refused-fair refusal.NoSession = tt
@@ -149,9 +148,9 @@ refused-fair refusal.Known = tt
 refused-fair refusal.Used = tt
 refused-fair refusal.Full = tt
 
-pub policy-fair : (s : State) (r : Result Policy Refusal) → IsFairResponse (policy_outcome s r).response
-policy-fair s (Ok policy) = tt
-policy-fair s (Err r) = refused-fair r
+pub policy-fair : {A : Type 0} (r : Result A Refusal) → EndsBy ending_of r
+policy-fair (Ok x) = tt
+policy-fair (Err r) = refused-fair r
 
 -- ---- the layouts
 
@@ -227,21 +226,15 @@ cells-fair policy shelf connection =
     decided-fair (in_session policy connection ∷ [])
     (map stored (flat_map (readable_line policy shelf connection) (cells_of shelf))) (tt, tt)
 
-submit-told : (shelf : List Submission) (r : Result Submission Ending) → EndsFair r
-    → IsFairReply (layouts.submit_outcome shelf r).reply
-submit-told shelf (Ok s) fair = tt
-submit-told shelf (Err e) fair = ended-fair e fair
-
-listing-told : (r : Result (List Listed) Ending) → EndsFair r → IsFairReply (listing_reply r)
-listing-told (Ok lines) fair = tt
-listing-told (Err e) fair = ended-fair e fair
-
-pub layout-fair : (policy : Policy) (shelf : List Submission) (connection : ℕ) (request : LayoutRequest)
-    → IsFairReply (layouts.outcome_of policy shelf connection request).reply
-layout-fair policy shelf connection (layout_ask.Submit cell top text) =
-    submit-told shelf (submit_row policy shelf connection cell top text)
-    (submit-fair policy shelf connection cell top text)
-layout-fair policy shelf connection layout_ask.Cells =
-    listing-told (layouts.cells policy shelf connection) (cells-fair policy shelf connection)
-layout-fair policy shelf connection (layout_ask.Shapes cell) =
-    listing-told (shapes policy shelf connection cell) (shapes-fair policy shelf connection cell)
+pub layout-fair : (s : State) (connection : ℕ) (request : LayoutRequest)
+    → IsFairResponse (outcome_of s connection (ask.Layout request)).response
+layout-fair s connection (layout_ask.Submit cell top text) =
+    changing-fair (λ e. e) (over_shelf s) s _ (λ new. line.Version new.version ∷ [])
+    (submit_row s.policy s.shelf connection cell top text)
+    (submit-fair s.policy s.shelf connection cell top text)
+layout-fair s connection layout_ask.Cells =
+    listing-fair (λ e. e) (over_shelf s) s _ (layouts.cells s.policy s.shelf connection)
+    (cells-fair s.policy s.shelf connection)
+layout-fair s connection (layout_ask.Shapes cell) =
+    listing-fair (λ e. e) (over_shelf s) s _ (shapes s.policy s.shelf connection cell)
+    (shapes-fair s.policy s.shelf connection cell)

@@ -4,21 +4,19 @@ use Rattle.std.specs.Prelude.{zero, suc, ◌&&◌, not, nat_lt, slice_get, slice
 use Rattle.mpw_tiles.specs.Plan.{tiles}
 use Rattle.mpw_job.specs.Jobs.{CutWindows, FoundMarkers}
 use Rattle.mpw_markers.specs.declared.marker.Marker.{Marker}
-use Rattle.mpw_rbac.specs.Policy.{Policy}
-use Rattle.mpw_rbac.specs.Rows as rows
-use Rattle.mpw_rbac.specs.declared.refusal.Refusal.{Refusal}
-use Rattle.mpw_permissions.specs.declared.permission.Object.TheVariants as object
-use Rattle.mpw_permissions.specs.declared.permission.Operation.TheVariants as operation
-use Rattle.mpw_access.specs.Permitted.{permitted}
 use Rattle.mpw_requests.specs.declared.request.Request.{Request}
 use Rattle.mpw_requests.specs.declared.request.Request.TheVariants as ask
 use Rattle.mpw_requests.specs.declared.run.RunRequest.{RunRequest}
 use Rattle.mpw_requests.specs.declared.run.RunRequest.TheVariants as run_ask
 use Rattle.mpw_replies.specs.Listing.{Listed}
+use Rattle.mpw_replies.specs.Rows.{changing, listing}
 use Rattle.mpw_replies.specs.declared.reply.Code.{Code}
 use Rattle.mpw_replies.specs.declared.reply.Code.TheVariants as code
 use Rattle.mpw_replies.specs.declared.reply.Line.{Line}
+use Rattle.mpw_replies.specs.declared.reply.Line.TheVariants as line
 use Rattle.mpw_replies.specs.declared.reply.Reply.TheVariants as reply
+use Rattle.mpw_replies.specs.declared.row.Done.{Done}
+use Rattle.mpw_replies.specs.declared.row.Done.TheVariants.{Lists, Changes}
 use Rattle.mpw_replies.specs.declared.row.Ending.{Ending}
 use Rattle.mpw_replies.specs.declared.row.Ending.TheVariants as ending
 use Rattle.mpw_run.specs.Run.{Checks, Planned, Tile}
@@ -27,16 +25,18 @@ use Rattle.mpw_run.specs.Step.{Offer, Run, answered_by, begun, cut_in, first_of,
 use Rattle.mpw_run.specs.declared.phase.Phase.{Phase}
 use Rattle.mpw_run.specs.declared.phase.Phase.TheVariants.{Idle, Cutting, Checking, Finished}
 use Rattle.mpw_run.specs.declared.phase.RunReply.TheVariants as run_reply
+use Rattle.mpw_layouts.specs.Layouts as layouts
+use Rattle.mpw_signoff.specs.SigningOff as signing
+use Rattle.mpw_wafer.specs.Wafers as wafers
 use Rattle.mpw_wafer.specs.Run.Checking as checking
 use Rattle.mpw_wafer.specs.Run.Checking.{cancel_row, markers, run_row, status}
-use Rattle.mpw_events.specs.PolicyRows.{row_of}
 use Rattle.mpw_events.specs.declared.event.Event.{Event}
 use Rattle.mpw_events.specs.declared.event.Event.TheVariants as event
 use Rattle.mpw_events.specs.declared.event.Response.{Response}
 use Rattle.mpw_events.specs.declared.event.Response.TheVariants as response
 use Rattle.mpw_events.specs.History.{Desk, KeptDesk, IsHandled, state_of}
-use Rattle.mpw_events.specs.Step.{Outcome, State, event_outcome, identity_lines, no_change, not_kept_response, outcome_of, policy_outcome, query_outcome, refused_with, step, trail_outcome}
-use Rattle.mpw_desk.specs.Hints.{Fit, HasNoJob, asked_by, asked_of, noted}
+use Rattle.mpw_events.specs.Step.{Outcome, State, ending_of, event_outcome, no_change, not_kept_response, outcome_by, outcome_of, over_policy, over_run, over_shelf, over_wafer, over_waivers, policy_row, refused_with, step, trail_row, whoami_row}
+use Rattle.mpw_desk.specs.Hints.{Fit, HasNoJob, asked_by, asked_of, asked_of_run, noted}
 use Rattle.mpw_desk.specs.declared.hints.Asked.{Asked}
 use Rattle.mpw_desk.specs.declared.hints.Asked.TheVariants as asked
 use Rattle.mpw_desk.specs.declared.hints.Hints.{Hints}
@@ -116,7 +116,8 @@ handed-fits hints run c (Some offer) is some fit = λ rests.
     absurd (cc)
 
 taken-fits : (hints : Hints) (run : Run) (phase : Phase) → run.phase ≡ phase → Fit hints run
-    → Fit (noted asked.Take (response.Run (taken_in run phase).reply) hints) (taken_in run phase).run
+    → Fit (noted asked.Take (response.Run (taken_in run phase).reply) hints)
+    (taken_in run phase).run
 taken-fits hints run Idle is fit = λ _. no-job run Idle is refl
 taken-fits hints run (Cutting planned) is fit = fit
 taken-fits hints run (Checking c) is fit = handed-fits hints run c (next_from 0 c.tiles) is refl fit
@@ -171,7 +172,8 @@ all-answered number (t ∷ ts) zero tile none is unanswered =
     let same : t ≡ tile = cc in
     first-answered number t ts t.answer refl none (ap (λ (x : Tile). x.answer) same ∙ unanswered)
 all-answered number (t ∷ ts) (suc at) tile none is unanswered =
-    all-answered (number + 1) ts at tile (rest-answered number t ts t.answer refl none) is unanswered
+    all-answered (number + 1) ts at tile (rest-answered number t ts t.answer refl none) is
+    unanswered
 
 none-handed : (run : Run) (c : Checks) (offer : Option Offer)
     → (handed run c offer).reply ≡ run_reply.NoJob → offer ≡ None
@@ -186,7 +188,8 @@ kept-fits : (hints : Hints) (run : Run) (c : Checks) (answer : FoundMarkers) (ti
     else left_as run_reply.Stranger run).run
 kept-fits hints run c answer tile true is there unanswered fit = λ rests.
     absurd (all-answered 0 c.tiles answer.job.tile tile
-    (none-handed run c (next_from 0 c.tiles) (has-none run (Checking c) is (fit rests))) there unanswered)
+    (none-handed run c (next_from 0 c.tiles) (has-none run (Checking c) is (fit rests))) there
+    unanswered)
 kept-fits hints run c answer tile false is there unanswered fit = fit
 
 compared-fits : (hints : Hints) (run : Run) (c : Checks) (answer : FoundMarkers) (tile : Tile)
@@ -206,7 +209,8 @@ checked-fits hints run c answer (Some tile) is there fit =
     compared-fits hints run c answer tile tile.answer is there refl fit
 
 late-fits : (hints : Hints) (run : Run) (inside : Bool) → Fit hints run
-    → Fit hints (if inside then left_as run_reply.Double run else left_as run_reply.Stranger run).run
+    → Fit hints (if inside then left_as run_reply.Double run
+    else left_as run_reply.Stranger run).run
 late-fits hints run true fit = fit
 late-fits hints run false fit = fit
 
@@ -219,73 +223,82 @@ tile-fits hints run answer (Checking c) is fit =
 tile-fits hints run answer (Finished f) is fit =
     late-fits hints run (nat_lt answer.job.tile (tiles f.planned.plan)) fit
 
-tile_answered-fits : (hints : Hints) (run : Run) (answer : FoundMarkers) (same : Bool) → Fit hints run
+tile_answered-fits : (hints : Hints) (run : Run) (answer : FoundMarkers) (same : Bool)
+    → Fit hints run
     → Fit hints (if same then tile_in run answer run.phase else left_as run_reply.OldRun run).run
 tile_answered-fits hints run answer true fit = tile-fits hints run answer run.phase refl fit
 tile_answered-fits hints run answer false fit = fit
 
--- ---- requests of the run
+-- ---- requests
 
-asked-run-fits : (hints : Hints) (run : Run) (row : Result Planned Ending) → Fit hints run
-    → Fit (noted asked.Run (response.Told (checking.begun_outcome run row).reply) hints)
-    (checking.begun_outcome run row).run
-asked-run-fits hints run (Ok planned) fit = λ rests. absurd (cc)
-asked-run-fits hints run (Err (ending.Denied why)) fit = fit
-asked-run-fits hints run (Err (ending.Refused c)) fit = fit
+abbrev FitAfter : Asked → Hints → Outcome → Type 0
+FitAfter a hints o = Fit (noted a o.response hints) o.state.run
 
-asked-cancel-fits : (hints : Hints) (run : Run) (row : Result (Unit {0}) Ending) → Fit hints run
-    → Fit (noted asked.Cancel (response.Told (checking.left_off_outcome run row).reply) hints)
-    (checking.left_off_outcome run row).run
-asked-cancel-fits hints run (Ok x) fit = λ rests. refl
-asked-cancel-fits hints run (Err (ending.Denied why)) fit = fit
-asked-cancel-fits hints run (Err (ending.Refused c)) fit = fit
+-- a table that lists changes no run
+listed-fits : {A E P : Type 0} (hints : Hints) (ending : E → Ending) (over : P → State) (s : State)
+    (lines : A → List Listed) (row : Result A E) → Fit hints s.run
+    → FitAfter asked.Else hints (outcome_by ending over s (listing lines row))
+listed-fits hints ending over s lines (Ok x) fit = fit
+listed-fits hints ending over s lines (Err e) fit = fit
 
-listed-fits : (hints : Hints) (run : Run) (row : Result (List Listed) Ending) → Fit hints run
-    → Fit hints (checking.listing_outcome run row).run
-listed-fits hints run (Ok lines) fit = fit
-listed-fits hints run (Err e) fit = fit
+-- nor does one that changes another part of the desk
+other-fits : {E P : Type 0} (hints : Hints) (ending : E → Ending) (over : P → State) (s : State)
+    (row : Result (Done P) E) → ((part : P) → Fit hints (over part).run) → Fit hints s.run
+    → FitAfter asked.Else hints (outcome_by ending over s row)
+other-fits hints ending over s (Ok (Lists lines)) other fit = fit
+other-fits hints ending over s (Ok (Changes part lines)) other fit = other part
+other-fits hints ending over s (Err e) other fit = fit
 
-policy-fits : (hints : Hints) (s : State) (row : Result Policy Refusal) → Fit hints s.run
-    → Fit hints (policy_outcome s row).state.run
-policy-fits hints s (Ok policy) fit = fit
-policy-fits hints s (Err e) fit = fit
+begins-fits : (hints : Hints) (s : State) (lines : Planned → List Line)
+    (row : Result Planned Ending)
+    → Fit hints s.run
+    → FitAfter asked.Run hints (outcome_by (λ e. e) (over_run s) s
+    (changing checking.begun lines row))
+begins-fits hints s lines (Ok planned) fit = λ rests. absurd (cc)
+begins-fits hints s lines (Err (ending.Denied why)) fit = fit
+begins-fits hints s lines (Err (ending.Refused c)) fit = fit
 
-query-fits : {A : Type 0} (hints : Hints) (s : State) (lines : A → List Line) (row : Result A Refusal)
-    → Fit hints s.run → Fit hints (query_outcome s lines row).state.run
-query-fits hints s lines (Ok answer) fit = fit
-query-fits hints s lines (Err e) fit = fit
-
-trail-fits : (hints : Hints) (s : State) (row : Result (Unit {0}) Ending) → Fit hints s.run
-    → Fit hints (trail_outcome s row).state.run
-trail-fits hints s (Ok allowed) fit = fit
-trail-fits hints s (Err e) fit = fit
+leaves-fits : (hints : Hints) (s : State) (row : Result (Unit {0}) Ending) → Fit hints s.run
+    → FitAfter asked.Cancel hints
+    (outcome_by (λ e. e) (over_run s) s (changing (λ x. checking.left_off) (λ x. []) row))
+leaves-fits hints s (Ok x) fit = λ rests. refl
+leaves-fits hints s (Err (ending.Denied why)) fit = fit
+leaves-fits hints s (Err (ending.Refused c)) fit = fit
 
 run-fits : (hints : Hints) (s : State) (connection : ℕ) (request : RunRequest) → Fit hints s.run
-    → Fit (noted (asked_of (ask.Run request))
-    (outcome_of s connection (ask.Run request)).response hints)
-    (outcome_of s connection (ask.Run request)).state.run
+    → FitAfter (asked_of_run request) hints (outcome_of s connection (ask.Run request))
 run-fits hints s connection run_ask.Run fit =
-    asked-run-fits hints s.run (run_row s.policy s.shelf s.wafer s.run connection) fit
+    begins-fits hints s (λ planned. line.Run (s.run.number + 1) ∷ [])
+    (run_row s.policy s.shelf s.wafer s.run connection) fit
 run-fits hints s connection run_ask.Cancel fit =
-    asked-cancel-fits hints s.run (cancel_row s.policy s.run connection) fit
+    leaves-fits hints s (cancel_row s.policy s.run connection) fit
 run-fits hints s connection run_ask.Status fit =
-    listed-fits hints s.run (status s.policy s.run connection) fit
+    listed-fits hints (λ e. e) (over_run s) s (λ lines. lines) (status s.policy s.run connection)
+    fit
 run-fits hints s connection run_ask.Markers fit =
-    listed-fits hints s.run (markers s.policy s.run connection) fit
+    listed-fits hints (λ e. e) (over_run s) s (λ lines. lines) (markers s.policy s.run connection)
+    fit
 
 request-fits : (hints : Hints) (s : State) (connection : ℕ) (request : Request) → Fit hints s.run
-    → Fit (noted (asked_of request) (outcome_of s connection request).response hints)
-    (outcome_of s connection request).state.run
+    → FitAfter (asked_of request) hints (outcome_of s connection request)
 request-fits hints s connection (ask.Policy request) fit =
-    policy-fits hints s (row_of s.policy connection request) fit
+    other-fits hints ending_of (over_policy s) s (policy_row s.policy connection request) (λ p. fit)
+    fit
 request-fits hints s connection ask.Whoami fit =
-    query-fits hints s identity_lines (rows.whoami s.policy connection) fit
-request-fits hints s connection (ask.Layout request) fit = fit
-request-fits hints s connection (ask.Wafer request) fit = fit
+    other-fits hints ending_of (over_policy s) s (whoami_row s.policy connection) (λ p. fit) fit
+request-fits hints s connection (ask.Layout request) fit =
+    other-fits hints (λ e. e) (over_shelf s) s (layouts.row_of s.policy s.shelf connection request)
+    (λ p. fit) fit
+request-fits hints s connection (ask.Wafer request) fit =
+    other-fits hints (λ e. e) (over_wafer s) s
+    (wafers.row_of s.policy s.shelf s.wafer connection request) (λ p. fit) fit
 request-fits hints s connection (ask.Run request) fit = run-fits hints s connection request fit
-request-fits hints s connection (ask.SignOff request) fit = fit
+request-fits hints s connection (ask.SignOff request) fit =
+    other-fits hints (λ e. e) (over_waivers s) s
+    (signing.row_of s.policy s.wafer s.run s.waivers connection request) (λ p. fit) fit
 request-fits hints s connection ask.Trail fit =
-    trail-fits hints s (permitted s.policy connection operation.Audit object.Desk) fit
+    other-fits hints (λ e. e) (over_policy s) s (trail_row s.policy connection s.trail) (λ p. fit)
+    fit
 
 -- ---- events
 

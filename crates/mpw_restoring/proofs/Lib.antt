@@ -1,3 +1,4 @@
+pub mod Outcomes
 pub mod Again
 pub mod Accepted
 pub mod Planned

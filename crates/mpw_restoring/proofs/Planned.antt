@@ -12,28 +12,20 @@ use Rattle.mpw_run.specs.declared.phase.Phase.TheVariants.{Idle, Cutting, Checki
 use Rattle.mpw_run.specs.Run.{Planned, Tile, Checks, answered}
 use Rattle.mpw_run.specs.Same.{same_snapshot, same_tile_job}
 use Rattle.mpw_run.specs.Step.{Run, Offer, Outcome as RunOutcome, answered_by, next_from, handed, taken_in, cut_in, kept, job_of_tile, tile_compared, tile_checked, tile_in, restarted_phase}
-use Rattle.mpw_rbac.specs.Policy.{Policy}
-use Rattle.mpw_rbac.specs.Rows as rows
-use Rattle.mpw_rbac.specs.declared.refusal.Refusal.{Refusal}
-use Rattle.mpw_rbac.specs.declared.session.Identity.{Identity}
 use Rattle.mpw_permissions.specs.declared.permission.Object.TheVariants as object
 use Rattle.mpw_permissions.specs.declared.permission.Operation.TheVariants as operation
 use Rattle.mpw_access.specs.Permitted.{permitted}
-use Rattle.mpw_replies.specs.Listing.{Listed}
 use Rattle.mpw_replies.specs.Rows.{◌>>=◌, needed}
 use Rattle.mpw_replies.specs.declared.reply.Code.TheVariants as code
 use Rattle.mpw_replies.specs.declared.row.Ending.{Ending}
 use Rattle.mpw_wafer.specs.Run.Checking as checking
 use Rattle.mpw_requests.specs.declared.request.Request.{Request}
-use Rattle.mpw_requests.specs.declared.request.Request.TheVariants as ask
-use Rattle.mpw_requests.specs.declared.run.RunRequest.{RunRequest}
-use Rattle.mpw_requests.specs.declared.run.RunRequest.TheVariants as running
-use Rattle.mpw_events.specs.PolicyRows.{row_of}
 use Rattle.mpw_events.specs.declared.event.Call.{Call}
 use Rattle.mpw_events.specs.declared.event.Event.{Event}
 use Rattle.mpw_events.specs.declared.event.Event.TheVariants as event
 use Rattle.mpw_events.specs.History.{Desk, state_of, state_after}
-use Rattle.mpw_events.specs.Step.{State, Outcome, new_state, no_change, policy_outcome, query_outcome, trail_outcome, identity_lines, outcome_of, event_outcome, not_kept_response, settlement, step, after}
+use Rattle.mpw_events.specs.Step.{State, Outcome, new_state, no_change, outcome_of, event_outcome, not_kept_response, settlement, step, after}
+use Rattle.mpw_restoring.proofs.Outcomes.{request_keeps}
 
 abbrev pub HasPlan : Phase → Type 0
 HasPlan Idle = ⊤
@@ -127,66 +119,31 @@ row_plan p (Ok x) (Err w) c s e = absurd cc
 row_plan p (Ok x) (Ok y) (Err w) s e = absurd cc
 row_plan p (Ok x) (Ok y) (Ok deck) s e = planned_plan (s deck) p (shown (s deck)) e
 
-begun_plan : (s : State) (connection : ℕ) (row : Result Planned Ending)
-    → checking.run_row s.policy s.shelf s.wafer s.run connection ≡ row → HasPlan s.run.phase
-    → HasPlan (checking.begun_outcome s.run row).run.phase
+begun_plan : (s : State) (connection : ℕ) (p : Planned)
+    → checking.run_row s.policy s.shelf s.wafer s.run connection ≡ Ok p
+    → plan_for p.snapshot ≡ Some p.plan
 unfolding checking.run_row
-begun_plan s connection (Ok p) e h =
+begun_plan s connection p e =
     row_plan p (permitted s.policy connection operation.Run object.Desk)
     (checking.at_rest s.run.phase) (needed code.NoDeck s.wafer.deck)
     (λ deck. checking.snapshot_of deck s.wafer.placings s.shelf) e
-begun_plan s connection (Err w) e h = h
-
-left_plan : (run : Run) (row : Result (Unit {0}) Ending) → HasPlan run.phase
-    → HasPlan (checking.left_off_outcome run row).run.phase
-left_plan run (Ok x) h = tt
-left_plan run (Err w) h = h
-
-listing_plan : (run : Run) (row : Result (List Listed) Ending) → HasPlan run.phase
-    → HasPlan (checking.listing_outcome run row).run.phase
-listing_plan run (Ok lines) h = h
-listing_plan run (Err w) h = h
-
-asked_plan : (s : State) (connection : ℕ) (request : RunRequest) → HasPlan s.run.phase
-    → HasPlan (checking.outcome_of s.policy s.shelf s.wafer s.run connection request).run.phase
-asked_plan s connection running.Run h =
-    begun_plan s connection (checking.run_row s.policy s.shelf s.wafer s.run connection) refl h
-asked_plan s connection running.Cancel h =
-    left_plan s.run (checking.cancel_row s.policy s.run connection) h
-asked_plan s connection running.Status h =
-    listing_plan s.run (checking.status s.policy s.run connection) h
-asked_plan s connection running.Markers h =
-    listing_plan s.run (checking.markers s.policy s.run connection) h
 
 -- ---- every event
 
 abbrev Has : State → Type 0
 Has s = HasPlan s.run.phase
 
-policy_plan : (s : State) (row : Result Policy Refusal) → Has s → Has (policy_outcome s row).state
-policy_plan s (Ok p) h = h
-policy_plan s (Err r) h = h
-
-query_plan : (s : State) (row : Result Identity Refusal) → Has s
-    → Has (query_outcome s identity_lines row).state
-query_plan s (Ok x) h = h
-query_plan s (Err r) h = h
-
-trail_plan : (s : State) (row : Result (Unit {0}) Ending) → Has s → Has (trail_outcome s row).state
-trail_plan s (Ok x) h = h
-trail_plan s (Err r) h = h
-
 request_plan : (s : State) (connection : ℕ) (request : Request) → Has s
     → Has (outcome_of s connection request).state
-request_plan s connection (ask.Policy request) h =
-    policy_plan s (row_of s.policy connection request) h
-request_plan s connection ask.Whoami h = query_plan s (rows.whoami s.policy connection) h
-request_plan s connection (ask.Layout request) h = h
-request_plan s connection (ask.Wafer request) h = h
-request_plan s connection (ask.Run request) h = asked_plan s connection request h
-request_plan s connection (ask.SignOff request) h = h
-request_plan s connection ask.Trail h =
-    trail_plan s (permitted s.policy connection operation.Audit object.Desk) h
+request_plan s connection request h = request_keeps Has s connection request (record {
+  now = h;
+  policy = λ request p is. h;
+  shelf = λ submissions. h;
+  wafer = λ w. h;
+  begun = begun_plan s connection;
+  left = tt;
+  waivers = λ change. h;
+})
 
 outcome_plan : (s : State) (e : Event) → Has s → Has (event_outcome s e).state
 unfolding event_outcome
