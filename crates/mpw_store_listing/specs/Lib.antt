@@ -1,4 +1,5 @@
 pub mod Listing
+pub mod Part
 pub mod Checking
 pub mod Failing
 pub mod Payload
