@@ -4,3 +4,4 @@ pub mod Working
 pub mod Script
 pub mod Status
 pub mod Internal
+pub mod Terminal

@@ -43,10 +43,7 @@ pub data Stop : Type 0 where
 -- the text of a response, which is the reply to a request. The other events get no reply
 abbrev pub response_text : Response → List ℕ
 response_text (response.Told reply) = reply_text reply
-response_text (response.Run reply) = []
-response_text response.Gone = []
-response_text response.Restarted = []
-response_text response.Ended = []
+response_text _ = []
 
 abbrev pub answer_text : Answer → List ℕ
 answer_text (replied response) = response_text response
@@ -122,15 +119,12 @@ end_of unreadable = None
 end_of spent = Some end.Spent
 end_of (unwritten turn) = None
 
--- whether a text is written at the end
+-- whether a text is written at the end: a refusal, or an answer
 abbrev pub HasText : Stop → Type 0
 HasText closed = ⊥
-HasText long = ⊤
-HasText cut = ⊤
-HasText starving = ⊤
 HasText unreadable = ⊥
 HasText spent = ⊥
-HasText (unwritten turn) = ⊤
+HasText _ = ⊤
 
 -- a source or a sink that failed is returned as that fault; else the end is returned
 abbrev pub Tells : Stop → Result End WireFault → Type 0
@@ -150,10 +144,8 @@ Written output output' (Some Memory) before last = ⊥
 
 -- how many failures the sink has after a call with this fault: a fault of writing counts as one
 abbrev pub write_failures : Option WireFault → ℕ → ℕ
-write_failures None failures = failures
-write_failures (Some Read) failures = failures
 write_failures (Some Write) failures = u64_saturate (failures + 1)
-write_failures (Some Memory) failures = failures
+write_failures _ failures = failures
 
 -- ---- a connection
 

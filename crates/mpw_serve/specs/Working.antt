@@ -39,19 +39,14 @@ event_of (answers.Tile a) = event.Tile a
 
 -- The work ends with that response: the run is finished, or the desk answers nothing any more.
 abbrev pub ends : Response → Bool
-ends (response.Told reply) = false
 ends (response.Run reply) = finishes reply
-ends response.Gone = false
-ends response.Restarted = false
 ends response.Ended = true
+ends _ = false
 
--- One value by the run's reply, and another for any other response.
+-- What the run's reply gives, or `other` for any other response.
 abbrev pub by_run : {A : Type 0} → A → (RunReply → A) → Response → A
-by_run other of_reply (response.Told reply) = other
 by_run other of_reply (response.Run reply) = of_reply reply
-by_run other of_reply response.Gone = other
-by_run other of_reply response.Restarted = other
-by_run other of_reply response.Ended = other
+by_run other of_reply _ = other
 
 -- The result of an event that is handed to the desk: its response, or out of memory, which leaves the desk
 -- unchanged.
@@ -115,12 +110,7 @@ cut_of (jobs.Tile job) = None
 
 abbrev pub cut_of_reply : RunReply → Option CutJob
 cut_of_reply (told.Taken job) = cut_of job
-cut_of_reply told.NoJob = None
-cut_of_reply told.Kept = None
-cut_of_reply told.Finished = None
-cut_of_reply told.Stranger = None
-cut_of_reply told.Double = None
-cut_of_reply told.OldRun = None
+cut_of_reply _ = None
 
 abbrev pub cut_of_response : Response → Option CutJob
 cut_of_response response = by_run None cut_of_reply response
@@ -131,13 +121,8 @@ cut_of_call (Some response) = cut_of_response response
 
 -- The desk accepted the windows.
 abbrev pub keeps : RunReply → Bool
-keeps (told.Taken job) = false
-keeps told.NoJob = false
 keeps told.Kept = true
-keeps told.Finished = false
-keeps told.Stranger = false
-keeps told.Double = false
-keeps told.OldRun = false
+keeps _ = false
 
 abbrev pub is_kept : Response → Bool
 is_kept response = by_run false keeps response
@@ -180,18 +165,11 @@ pub data WorksOff (d : KeptDesk) : KeptDesk → Type 0 where
 
 abbrev pub begins : RunRequest → Bool
 begins Run = true
-begins Cancel = false
-begins Status = false
-begins Markers = false
+begins _ = false
 
 abbrev pub is_begin : Request → Bool
-is_begin (ask.Policy request) = false
-is_begin ask.Whoami = false
-is_begin (ask.Layout request) = false
-is_begin (ask.Wafer request) = false
 is_begin (ask.Run request) = begins request
-is_begin (ask.SignOff request) = false
-is_begin ask.Trail = false
+is_begin _ = false
 
 abbrev pub accepts : Reply → Bool
 accepts (reply.Ok lines) = true
@@ -200,10 +178,7 @@ accepts (reply.Refused code) = false
 
 abbrev pub is_accepted : Response → Bool
 is_accepted (response.Told reply) = accepts reply
-is_accepted (response.Run reply) = false
-is_accepted response.Gone = false
-is_accepted response.Restarted = false
-is_accepted response.Ended = false
+is_accepted _ = false
 
 abbrev pub WorksWhere : Bool → KeptDesk → KeptDesk → Type 0
 WorksWhere true d d' = WorksOff d d'

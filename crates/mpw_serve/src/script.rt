@@ -8,9 +8,9 @@ use crate::executor::Executor;
 use crate::own_desk::{OwnDesk, serve_core};
 use crate::progress::Progress;
 use crate::serve::Served;
+use mpw_devices::{Sink, Source};
 use mpw_events::{Handler, NoKeeper};
 use mpw_settings::Officer;
-use mpw_wire::{Sink, Source};
 use std::alloc::AllocError;
 use std::thread::Threads;
 

@@ -8,10 +8,11 @@ ghost use Rattle.mpw_serve.specs.Serving.{Answer, with_end, answer_text, respons
 ghost use Rattle.mpw_serve.specs.Internal.Serving.{ServesLine};
 
 use crate::responder::Responder;
+use mpw_devices::{Sink, Source};
 use mpw_events::Response;
 use mpw_reply_text::{LineRefusal, write_refusal, write_reply};
 use mpw_requests::SharedRequest;
-use mpw_wire::{Asked, Sink, Source, WireFault, read_request};
+use mpw_wire::{Asked, WireFault, read_request};
 use std::alloc::Global;
 
 /// The greatest number of lines of one connection that are answered.
