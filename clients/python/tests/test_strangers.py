@@ -126,6 +126,19 @@ class Strangers(Served):
                 lines = [json.loads(line) for line in file]
         self.assertEqual([line["limit"] for line in lines if line["event"] == "limit"], ["memory"] * 3)
 
+    def test_denied_payloads_of_two(self):
+        """Equal payloads of two users take their memory twice, so that nothing shows a user what another one sent."""
+        payloads = [b"submit pad PAD 16777216\n" + bytes([byte]) * (1 << 24) for byte in range(6)]
+        with service(8, 1, "--ongoing") as served, served.desk() as officer:
+            for user in b"ann", b"bob":
+                officer.adduser(user.decode(), "token")
+                before = memory_of(served.process)
+                with served.connect() as end:
+                    self.assertEqual(asked(end, b"open %s token\n" % user, reply=b"OK 0\n"), b"OK 0\n")
+                    for payload in payloads:
+                        self.assertEqual(asked(end, payload, reply=NO_PERMISSION), NO_PERMISSION)
+                    self.assertGreater(memory_of(served.process) - before, 80 << 10)
+
     def test_probe_is_no_call(self):
         """A client that connects and sends nothing makes no call."""
         with service(3) as served:
@@ -158,6 +171,20 @@ class Strangers(Served):
             with served.desk() as desk:
                 self.assertEqual(desk.whoami().user, "root")
             for end in idle:
+                end.close()
+
+    def test_login_next_to_strangers(self):
+        """A user can log in next to 200 strangers that ask: those that lost their places take none of the lines of the others."""
+        with service(16, 1, "--ongoing") as served:
+            ends = [served.connect() for _ in range(200)]
+            for end in ends:
+                with suppress(OSError):
+                    end.sendall(b"whoami\n" * 16)
+            begun = time.monotonic()
+            with served.desk() as desk:
+                self.assertLess(time.monotonic() - begun, 10)
+                self.assertEqual(desk.whoami().user, "root")
+            for end in ends:
                 end.close()
 
     def test_login_limit(self):

@@ -4,6 +4,7 @@
 //! are long, so each of their bytes that came with an earlier one is handed on without a look at the limits.
 ghost use Rattle.std.specs.Io.{ReadsAtMost};
 
+use crate::notice::Notice;
 use crate::rations::{Rations, own_lines};
 use crate::reception::Arrival;
 use crate::time::now;
@@ -13,7 +14,6 @@ use std::alloc::Global;
 use std::io::{self, BufRead, BufReader, ErrorKind, Read};
 use std::net::TcpStream;
 use std::sync::Wait;
-use std::thread;
 use std::time::{Clock, Duration};
 
 /// How often a system call is made in all if it is interrupted.
@@ -22,7 +22,7 @@ const TRIES: u32 = 16;
 /// How many bytes of a payload are lent to a stranger at once.
 const LOAN: u64 = 4096;
 
-/// The longest sleep of a line that waits, in milliseconds.
+/// The longest time between two looks of a line that waits, in milliseconds.
 const STEP: u64 = 1000;
 
 /// Whether the socket's time limit has passed.
@@ -39,6 +39,8 @@ struct Account {
     stage: Stage,
     /// The lines that it may still ask while it is a stranger.
     lines: Pail,
+    /// Whether its first line, which wasn't begun yet, may be read.
+    has_turn: bool,
     /// How many bytes of a payload are left of what was lent to it.
     lent: u64,
     /// The time limit that the socket has.
@@ -54,9 +56,17 @@ impl Account {
             since: None,
             stage: Stage::Rest,
             lines: own_lines(),
+            has_turn: false,
             lent: 0,
             limit: 0,
         }
+    }
+
+    /// Takes the turn that it waited for before its first byte was read, and returns whether it had one.
+    fn take_turn(&mut self) -> bool {
+        let has_turn = self.has_turn;
+        self.has_turn = false;
+        has_turn
     }
 
     /// Notes that its line was answered: the next byte begins a line.
@@ -93,6 +103,7 @@ pub struct Intake<'s, 'a, R: Wait + Clock> {
     stream: &'s TcpStream,
     input: BufReader<&'s TcpStream>,
     watch: &'s Watch,
+    notice: &'s Notice,
     /// What strangers may take together, if that is limited.
     rations: Option<&'a Rations>,
     account: Account,
@@ -107,6 +118,7 @@ impl<'s, 'a, R: Wait + Clock> Drop for Intake<'s, 'a, R> {
             stream: _,
             input,
             watch: _,
+            notice: _,
             rations: _,
             account: _,
             counted: _,
@@ -134,14 +146,29 @@ impl<'s, 'a, R: Wait + Clock> Intake<'s, 'a, R> {
             stream,
             input,
             watch: &arrival.watch,
+            notice: &*arrival.notice,
             rations,
             account,
             counted: 0,
         })
     }
 
-    /// Waits for the first byte, and returns whether one came. It isn't taken yet.
+    /// Waits for the first byte, and until the first line may be read. It returns whether a line begins. The byte isn't taken yet.
     pub fn begins(&mut self) -> bool {
+        self.has_byte() && self.await_first().is_ok()
+    }
+
+    /// Waits until the first line may be read.
+    fn await_first(&mut self) -> io::Result<()> {
+        if let Some(rations) = self.rations {
+            self.await_turn(rations)?;
+            self.account.has_turn = true;
+        }
+        Ok(())
+    }
+
+    /// Waits for the first byte, and returns whether one came.
+    fn has_byte(&mut self) -> bool {
         if self.set_limit_within(self.rations).is_err() {
             return false;
         }
@@ -185,9 +212,15 @@ impl<'s, 'a, R: Wait + Clock> Intake<'s, 'a, R> {
         Ok(())
     }
 
-    /// Waits until a stranger's line may be read.
+    /// Waits until a stranger's line may be read. One that has to leave its place takes no turn.
     fn await_turn(&mut self, rations: &Rations) -> io::Result<()> {
+        if self.account.take_turn() {
+            return Ok(());
+        }
         for _ in self.rt.forever() {
+            if self.notice.is_given(self.rt) {
+                return Err(io::Error::from(ErrorKind::ConnectionAborted));
+            }
             let now = now(self.rt)?;
             let wait = rations.take_line(self.rt, &mut self.account.lines, now);
             if wait == 0 {
@@ -196,7 +229,7 @@ impl<'s, 'a, R: Wait + Clock> Intake<'s, 'a, R> {
             if now.saturating_sub(self.account.begun) >= rations.times.login {
                 return Err(self.end(Limit::Time));
             }
-            thread::sleep(self.rt, Duration::from_millis(wait.min(STEP)));
+            self.notice.wait(self.rt, wait.min(STEP));
         }
         unreachable!()
     }

@@ -6,6 +6,7 @@
 
 mod accepting;
 mod intake;
+mod notice;
 mod outflow;
 mod rations;
 mod reception;

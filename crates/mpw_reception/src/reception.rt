@@ -1,11 +1,12 @@
 //! Hands connections that were accepted to threads that serve them, and sees to their places.
 ghost use Rattle.std.specs.Prelude.{◌≡◌, ◌==◌, not, filter};
 
+use crate::notice::Notice;
 use crate::watch::Watch;
 use mpw_admission::{Placed, leaving};
 use std::alloc::{AllocError, Global};
 use std::net::{Net, Shutdown, SocketAddr, TcpStream};
-use std::sync::{Condvar, Mutex, Wait};
+use std::sync::{Arc, Condvar, Mutex, Wait};
 
 /// A connection that was accepted.
 #[derive(Drop)]
@@ -16,6 +17,8 @@ pub struct Arrival {
     pub stream: TcpStream,
     /// What is known of it while it is served.
     pub watch: Watch,
+    /// Whether it has to leave its place.
+    pub(crate) notice: Arc<Notice>,
 }
 
 /// A connection that has a place, with a second handle of its socket.
@@ -24,6 +27,25 @@ struct Open {
     ticket: u64,
     is_stranger: bool,
     stream: TcpStream,
+    notice: Arc<Notice>,
+}
+
+impl Open {
+    /// A stranger that was just accepted. There is none if its socket has no second handle, so that it can't be shut.
+    fn of(arrival: &Arrival) -> Option<Open> {
+        Some(Open {
+            ticket: arrival.ticket,
+            is_stranger: true,
+            stream: arrival.stream.try_clone().ok()?,
+            notice: Arc::try_clone(&arrival.notice).ok()?,
+        })
+    }
+
+    /// Ends the connection: its client gets no more answers, and it waits for no turn.
+    fn shut<R: Wait>(&self, rt: &R) {
+        let _ = self.stream.shutdown(Shutdown::Both);
+        self.notice.give(rt);
+    }
 }
 
 impl Placed for Open {
@@ -58,6 +80,7 @@ struct Waiting {
 pub struct Reception {
     waiting: Mutex<Waiting>,
     changed: Condvar,
+    alloc: Global,
     /// The address at which connections are accepted.
     address: SocketAddr,
     /// How many workers execute runs.
@@ -69,14 +92,10 @@ pub struct Reception {
 }
 
 impl Waiting {
-    /// Notes that the connection is served, so that it can be shut. It can't be shut if its socket has no second handle.
+    /// Notes that the connection is served, so that it can be shut.
     fn note_open(&mut self, arrival: &Arrival) {
-        if let Ok(stream) = arrival.stream.try_clone() {
-            let _ = self.served.push(Open {
-                ticket: arrival.ticket,
-                is_stranger: true,
-                stream,
-            });
+        if let Some(open) = Open::of(arrival) {
+            let _ = self.served.push(open);
         }
     }
 
@@ -91,18 +110,18 @@ impl Waiting {
         );
     }
 
-    /// Which connection leaves for a newcomer, by its ticket.
-    fn leaver(&self, places: u32) -> Option<u64> {
+    /// Ends the connection that leaves for a newcomer, and returns its ticket.
+    fn leaver<R: Wait>(&self, rt: &R, places: u32) -> Option<u64> {
         let taken = u32::try_from(self.served.len()).unwrap_or(u32::MAX);
         let index = leaving(places, places.saturating_sub(taken), self.served.as_slice())?;
         let leaver = self.served.get(index)?;
-        let _ = leaver.stream.shutdown(Shutdown::Both);
+        leaver.shut(rt);
         Some(leaver.ticket)
     }
 
     /// Makes room for a newcomer: if no more places are free than are kept for connections with a session, the oldest stranger is ended.
-    fn make_room(&mut self, places: u32) {
-        if let Some(ticket) = self.leaver(places) {
+    fn make_room<R: Wait>(&mut self, rt: &R, places: u32) {
+        if let Some(ticket) = self.leaver(rt, places) {
             self.forget(ticket);
         }
     }
@@ -122,9 +141,9 @@ impl Waiting {
     }
 
     /// Ends all connections that are served: their clients get no more answers.
-    fn shut_all(&self) {
+    fn shut_all<R: Wait>(&self, rt: &R) {
         for other in &self.served {
-            let _ = other.stream.shutdown(Shutdown::Both);
+            other.shut(rt);
         }
     }
 }
@@ -153,6 +172,7 @@ impl Reception {
                 served,
             }),
             changed: Condvar::new(),
+            alloc,
             address,
             workers,
             places,
@@ -204,11 +224,14 @@ impl Reception {
         unreachable!()
     }
 
-    /// Hands over a connection that was accepted.
+    /// Hands over a connection that was accepted. If there is no memory for it, it is closed.
     pub fn hand_over<R: Wait>(&self, rt: &R, stream: TcpStream) {
+        let Ok(notice) = Arc::new(self.alloc, Notice::new()) else {
+            return;
+        };
         let mut waiting = self.waiting.lock(rt);
         if self.keeps_places {
-            waiting.make_room(self.places);
+            waiting.make_room(rt, self.places);
         }
         let ticket = waiting.accepted;
         waiting.accepted = ticket.wrapping_add(1);
@@ -216,6 +239,7 @@ impl Reception {
             ticket,
             stream,
             watch: Watch::new(),
+            notice,
         };
         waiting.note_open(&arrival);
         waiting.arrival = Some(arrival);
@@ -261,7 +285,7 @@ impl Reception {
     pub fn shut<R: Wait>(&self, rt: &R) {
         let mut waiting = self.waiting.lock(rt);
         waiting.is_closed = true;
-        waiting.shut_all();
+        waiting.shut_all(rt);
         drop(waiting);
         self.changed.notify_all();
     }

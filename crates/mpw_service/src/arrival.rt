@@ -4,10 +4,10 @@ use crate::hall::Hall;
 use crate::lobby::Lobby;
 use crate::scribe::{Asks, Scribe, Stay, Tally};
 use mpw_desk::{Caller, Pass, Room, serve_caller};
+use mpw_devices::Counted;
 use mpw_events::{Handler, Keeper};
 use mpw_log::Peer;
 use mpw_reception::{Arrival, Intake, Outflow};
-use mpw_wire::Counted;
 use std::io::BufWriter;
 use std::sync::Wait;
 use std::time::Clock;
@@ -15,7 +15,7 @@ use std::time::Clock;
 /// What came of a connection that was accepted.
 #[derive(Drop)]
 pub(crate) enum Served<N: Room> {
-    /// It sent no byte, so it was never a connection of the desk.
+    /// It began no line, so it was never a connection of the desk.
     Silent,
     /// No pass was left for it.
     NoPass,
@@ -23,8 +23,8 @@ pub(crate) enum Served<N: Room> {
     Ended(Pass<N>, bool),
 }
 
-/// Serves a connection until it ends. It gets its pass with its first byte: so a client that only connects makes no call. If there is no room for its buffers,
-/// nothing of it is read.
+/// Serves a connection until it ends. It gets its pass when its first line may be read: so a client that only connects makes no call, nor does a stranger that
+/// has to leave before its turn. If there is no room for its buffers, nothing of it is read.
 pub(crate) fn serve_arrival<'a, H, K, N, R>(
     hall: &Hall<'a, H, K, N, R>,
     arrival: &Arrival,

@@ -1,5 +1,5 @@
 //! What sessions sent in submissions that weren't accepted. The desk's history has these payloads for as long as it is served, so a user may send so many
-//! bytes that are denied, and equal payloads share their memory.
+//! bytes that are denied, and equal payloads of one user share their memory. Each user has its own, so no time of a reply shows what another user sent.
 ghost use Rattle.std.specs.Prelude.{◌≡◌, IfOk, IfSome};
 ghost use Rattle.mpw_requests.specs.declared.layouts.LayoutRequest.TheVariants.{Submit};
 ghost use Rattle.mpw_requests.specs.declared.request.Request.TheVariants.{Layout};
@@ -21,49 +21,77 @@ pub(crate) enum Fate {
     Refused,
 }
 
-/// What users have left for submissions that are denied, and the texts of those that weren't accepted.
+/// What a user has left for submissions that are denied, and its texts that weren't accepted.
+#[derive(Drop)]
+struct Account {
+    budget: Budget,
+    /// The texts by their digests.
+    texts: IndexMap<[u8; 32], LibraryText>,
+}
+
+impl Account {
+    /// Of a user whose submissions so far were accepted.
+    fn new(alloc: Global) -> Account {
+        Account {
+            budget: Budget::new(DENIED_BYTES),
+            texts: IndexMap::new(alloc),
+        }
+    }
+
+    /// Takes so many bytes out of what is left, and returns whether nothing is left.
+    fn charge(&mut self, bytes: u64) -> bool {
+        let _ = self.budget.lend(bytes);
+        self.budget.left == 0
+    }
+}
+
+/// The accounts of the users who had a submission that wasn't accepted.
 #[derive(Drop)]
 pub(crate) struct Ledger {
-    /// Who had a submission that wasn't accepted, with the bytes that are left.
-    left: Mutex<IndexMap<Name, Budget>>,
-    /// The texts by their digests.
-    texts: Mutex<IndexMap<[u8; 32], LibraryText>>,
+    alloc: Global,
+    accounts: Mutex<IndexMap<Name, Account>>,
 }
 
 impl Ledger {
     /// Nothing was submitted yet.
     pub(crate) fn new(alloc: Global) -> Ledger {
         Ledger {
-            left: Mutex::new(IndexMap::new(alloc)),
-            texts: Mutex::new(IndexMap::new(alloc)),
+            alloc,
+            accounts: Mutex::new(IndexMap::new(alloc)),
         }
     }
 
     /// What a user has left. There is none if each submission so far was accepted.
     fn left<R: Wait>(&self, rt: &R, user: &Name) -> Option<Budget> {
-        self.left.lock(rt).get(user).copied()
+        Some(self.accounts.lock(rt).get(user)?.budget)
     }
 
-    /// Takes so many bytes out of what a user has left, and returns whether nothing is left. If there is no memory to note it, nothing is.
-    fn charge<R: Wait>(&self, rt: &R, user: &Name, bytes: u64) -> bool {
+    /// Takes so many bytes out of what a user has left, and notes the text, so that equal ones of that user can share its memory. It returns whether nothing
+    /// is left. If there is no memory to note it, nothing is.
+    fn charge<R: Wait>(&self, rt: &R, user: &Name, bytes: u64, text: LibraryText) -> bool {
+        let digest = digest_of(text.as_bytes());
         let Ok(name) = user.copy() else {
             return true;
         };
-        let mut budgets = self.left.lock(rt);
-        let mut budget = match budgets.get(user) {
-            Some(budget) => *budget,
-            None => Budget::new(DENIED_BYTES),
+        let mut accounts = self.accounts.lock(rt);
+        if accounts.get(user).is_none()
+            && accounts.insert(name, Account::new(self.alloc)).is_err()
+        {
+            return true;
+        }
+        let Some(account) = accounts.get_mut(user) else {
+            return true;
         };
-        let _ = budget.lend(bytes);
-        budgets.insert(name, budget).is_err() || budget.left == 0
+        let _ = account.texts.insert(digest, text);
+        account.charge(bytes)
     }
 
-    /// An equal text that was noted before. Cost: the digest of the text, and a comparison.
-    fn find<R: Wait>(&self, rt: &R, text: &LibraryText) -> Option<LibraryText>
+    /// An equal text of this user that was noted before. Cost: the digest of the text, and a comparison.
+    fn find<R: Wait>(&self, rt: &R, user: &Name, text: &LibraryText) -> Option<LibraryText>
         ensures { IfSome result (λ found. found ≡ text.now) }
     {
         let digest = digest_of(text.as_bytes());
-        let found = self.noted(rt, &digest)?;
+        let found = self.noted(rt, user, &digest)?;
         if found.as_bytes() == text.as_bytes() {
             Some(found)
         } else {
@@ -71,15 +99,10 @@ impl Ledger {
         }
     }
 
-    /// The text that was noted with a digest.
-    fn noted<R: Wait>(&self, rt: &R, digest: &[u8; 32]) -> Option<LibraryText> {
-        self.texts.lock(rt).get(digest)?.alone().ok()
-    }
-
-    /// Notes a text, so that equal ones can share its memory.
-    fn note<R: Wait>(&self, rt: &R, text: LibraryText) {
-        let digest = digest_of(text.as_bytes());
-        let _ = self.texts.lock(rt).insert(digest, text);
+    /// The text of this user that was noted with a digest.
+    fn noted<R: Wait>(&self, rt: &R, user: &Name, digest: &[u8; 32]) -> Option<LibraryText> {
+        let accounts = self.accounts.lock(rt);
+        accounts.get(user)?.texts.get(digest)?.alone().ok()
     }
 }
 
@@ -129,7 +152,7 @@ impl Payer {
         }
     }
 
-    /// Notes a request, and returns it. If it submits a text that was noted before, it shares the memory of that one.
+    /// Notes a request, and returns it. If it submits a text of the same user that was noted before, it shares the memory of that one.
     pub(crate) fn ask<R: Wait>(
         &mut self,
         rt: &R,
@@ -155,13 +178,13 @@ impl Payer {
         }
     }
 
-    /// An equal text that was noted before. It is looked for only if the user had a submission that wasn't accepted, since that takes the text's digest.
+    /// An equal text of the user that was noted before. It is looked for only if the user had a submission that wasn't accepted, since that takes the text's digest.
     fn find<R: Wait>(&self, rt: &R, ledger: &Ledger, text: &LibraryText) -> Option<LibraryText>
         ensures { IfSome result (λ found. found ≡ text.now) }
     {
         let user = self.user.as_ref()?;
         let _ = ledger.left(rt, user)?;
-        ledger.find(rt, text)
+        ledger.find(rt, user, text)
     }
 
     /// Notes what came of the request. It returns whether the user may send no more payloads, and `None` if that is as before.
@@ -178,8 +201,6 @@ impl Payer {
             Fate::Denied => text.as_bytes().len() as u64,
             _ => 0,
         };
-        let is_spent = ledger.charge(rt, self.user.as_ref()?, bytes);
-        ledger.note(rt, text);
-        Some(is_spent)
+        Some(ledger.charge(rt, self.user.as_ref()?, bytes, text))
     }
 }
