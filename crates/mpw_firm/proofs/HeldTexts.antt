@@ -8,10 +8,10 @@ use Rattle.mpw_firm.specs.declared.checked.Checked.{Checked}
 use Rattle.mpw_firm.specs.declared.found.Findings.{Findings}
 use Rattle.mpw_firm.specs.declared.found.Held.{Held}
 use Rattle.mpw_firm.specs.declared.found.Held.TheVariants as held
-use Rattle.mpw_limits.specs.Limits.{FirstMarkersAreListed, limited_text}
+use Rattle.mpw_listing.specs.Limited.{FirstMarkersAreListed, limited_text}
+use Rattle.mpw_listing.specs.Listing.{listing_text as all_text}
 use Rattle.mpw_markers.specs.declared.marker.Marker.{Marker}
 use Rattle.mpw_outputs.specs.Counted.{counts_text, rule_counts}
-use Rattle.mpw_outputs.specs.Listed.{listed_text}
 use Rattle.mpw_outputs.specs.Outputs.{in_file, on_output}
 use Rattle.mpw_report.specs.Report.{FirstMarkersHaveTheItems, full_text}
 
@@ -61,7 +61,7 @@ module _ (law : FirstMarkersAreListed) (c : Checked) (book : List Marker) where
   listing_same : (report : Option (List ℕ)) (h : Held) (limit : Option ℕ) → c.found.now.held ≡ h
       → c.limit ≡ limit → AreHeld (enough_listed report false limit) h book
       → held_listing c limit h ≡ listing_by (shown_of c book) limit
-  listing_same report (held.All all) None of by are = ap (listed_text c.layout.now) are
+  listing_same report (held.All all) None of by are = ap (all_text c.top.now c.rules.now) are
   listing_same None (held.First first) None of by are = absurd are
   listing_same (Some file) (held.First first) None of by are = absurd are
   listing_same None h (Some limit) of by are = rw (of, by) (limited_same h limit are)
@@ -71,8 +71,8 @@ module _ (law : FirstMarkersAreListed) (c : Checked) (book : List Marker) where
       → IsOfBook (enough_listed report summary c.limit) c book
       → held_printed c summary ≡ printed_text (shown_of c book) summary
   printed_same report true is =
-      ap (λ counts. counts_text c.layout.now.deck.rules counts c.found.now.all) is.counts
-      ∙ ap (counts_text c.layout.now.deck.rules (rule_counts (length c.layout.now.deck.rules) book))
+      ap (λ counts. counts_text c.rules.now counts c.found.now.all) is.counts
+      ∙ ap (counts_text c.rules.now (rule_counts (length c.rules.now) book))
       is.all
   printed_same report false is = listing_same report c.found.now.held c.limit refl refl is.held
 
@@ -81,14 +81,14 @@ module _ (law : FirstMarkersAreListed) (c : Checked) (book : List Marker) where
 module _ (law : FirstMarkersHaveTheItems) (c : Checked) (book : List Marker) where
   items_same : (h : Held) (limit : Option ℕ) → c.limit ≡ limit → AreHeld limit h book
       → full_text (content_with (shown_of c (markers_of h))
-      (rule_counts (length c.layout.now.deck.rules) book))
+      (rule_counts (length c.rules.now) book))
       ≡ full_text (content_of (shown_of c book))
   items_same (held.All all) limit by are =
       ap (λ ms. full_text (content_with (shown_of c ms)
-      (rule_counts (length c.layout.now.deck.rules) book))) are
+      (rule_counts (length c.rules.now) book))) are
   items_same (held.First first) None by are = absurd are
   items_same (held.First first) (Some limit) by are =
-      law (content_of (shown_of c book)) (rule_counts (length c.layout.now.deck.rules) book)
+      law (content_of (shown_of c book)) (rule_counts (length c.rules.now) book)
       first.items refl (rw by are)
 
   report_same : (report : Option (List ℕ))

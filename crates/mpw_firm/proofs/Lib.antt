@@ -3,4 +3,4 @@ mod Capped
 pub mod Flat
 pub mod HeldTexts
 mod KeyTexts
-pub mod SameLines
+pub mod ListedWholes

@@ -11,6 +11,7 @@ use Rattle.mpw_picture.specs.declared.picture.Picture.{Picture}
 use Rattle.mpw_picture.specs.declared.picture.View.{View}
 use Rattle.mpw_report.specs.Content.{Noted}
 use Rattle.mpw_report.specs.Report.{full_text}
+use Rattle.mpw_tiles.specs.Snapshots.{Snapshot}
 use Rattle.mpw_spread.specs.Spread.{IsPartOf}
 use Rattle.mpw_spread.specs.declared.range.ColumnRange.{ColumnRange}
 use Rattle.mpw_asked.specs.Commands.{IsOfWord, telling_of}
@@ -53,22 +54,21 @@ listing_texts report s = on_output (listing_text s) ∷ report_texts report s
 
 -- ---- of a check
 
--- The picture that is wanted stands behind them.
-abbrev pub PutsPicture : Option Wanted → Shown → Option (List Kept) → Option (List Kept)
+-- The picture of the layout that is wanted comes after them.
+abbrev pub PutsPicture : Option Wanted → Snapshot → Shown → Option (List Kept) → Option (List Kept)
     → List Kept → Type 0
-PutsPicture None s old new texts = Grows old new texts
-PutsPicture (Some wanted) s old new texts =
+PutsPicture None layout s old new texts = Grows old new texts
+PutsPicture (Some wanted) layout s old new texts =
     (view : View) × (picture : Picture)
-    × IsViewOf (option_map string_bytes wanted.key) s.layout s.book (most_of s.limit) view
-    × IsDrawnWith s.layout s.book (areas_of s.faults) (length s.faults) view picture
+    × IsViewOf (option_map string_bytes wanted.key) s.rules layout s.book (most_of s.limit) view
+    × IsDrawnWith layout s.book (areas_of s.faults) (length s.faults) view picture
     × Grows old new
-    (texts ++ (in_file (string_bytes wanted.file) (picture_text s.layout.deck.rules s.top picture)
-    ∷ []))
+    (texts ++ (in_file (string_bytes wanted.file) (picture_text s.rules s.top picture) ∷ []))
 
 -- What is printed, and the report and the picture that are wanted.
-abbrev pub PutsAll : Options → Shown → Option (List Kept) → Option (List Kept) → Type 0
-PutsAll options s old new =
-    PutsPicture options.picture s old new
+abbrev pub PutsAll : Options → Snapshot → Shown → Option (List Kept) → Option (List Kept) → Type 0
+PutsAll options layout s old new =
+    PutsPicture options.picture layout s old new
     (listing_texts (option_map string_bytes options.report) s)
 
 -- What is shown of a check: the library's file, the limit that is chosen, what is told of what is looked at, whether the numbers are chosen,
@@ -77,7 +77,7 @@ abbrev pub shown_by : Options → Choices → Drawn → List Marker → Shown
 shown_by options choices drawn book = record {
   original = Some (string_bytes options.file);
   top = drawn.top;
-  layout = drawn.layout;
+  rules = drawn.layout.deck.rules;
   book = book;
   limit = choices.limit;
   notes = notes_of drawn.layout;
@@ -90,7 +90,7 @@ abbrev pub shown_with : List Noted → Option ℕ → Whole → Shown
 shown_with notes limit whole = record {
   original = None;
   top = whole.top;
-  layout = whole.layout;
+  rules = whole.deck.rules;
   book = whole.book;
   limit = limit;
   notes = notes;
@@ -100,7 +100,7 @@ shown_with notes limit whole = record {
 
 -- They don't tell which layers have shapes.
 abbrev pub shown_whole : Option ℕ → Whole → Shown
-shown_whole limit whole = shown_with (rule_notes whole.layout.deck.rules) limit whole
+shown_whole limit whole = shown_with (rule_notes whole.deck.rules) limit whole
 
 -- A deck and a library were checked, their markers are told in all that is wanted, and they and the elements that are left out for their
 -- faults are so many, up to 2^64 - 1. The markers are those of the flat list of the structure in the library without these elements, whatever the side of the tiles is.
@@ -115,7 +115,7 @@ pub record IsChecked (options : Options) (choices : Choices) (old new : Option (
   pub markers : AreLayoutMarkers drawn.layout book
   pub flat : AreFlatOf deck drawn.top (kept_text read.source) book
   pub count : found ≡ capped (length book + length drawn.left_out.items)
-  pub kept : PutsAll options (shown_by options choices drawn book) old new
+  pub kept : PutsAll options drawn.layout (shown_by options choices drawn book) old new
 
 -- Some columns of them were, and their part is printed.
 pub record IsPartChecked (options : Options) (range : ColumnRange) (old new : Option (List Kept))

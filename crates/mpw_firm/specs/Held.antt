@@ -57,4 +57,4 @@ IsFoundIn enough layout found =
 
 -- It is that of what was checked.
 abbrev pub IsOfBook : (enough : Option ℕ) → Checked → List Marker → Type 0
-IsOfBook enough c book = IsFoundOf enough (length c.layout.now.deck.rules) c.found.now book
+IsOfBook enough c book = IsFoundOf enough (length c.rules.now) c.found.now book

@@ -3,12 +3,12 @@ use Rattle.std.specs.Prelude.{◌≡◌, ◌⊎◌, ◌++◌, codes, ℕ, Bool, 
 use Rattle.std.specs.List.{find}
 use Rattle.mpw_deck.specs.declared.rule.Rule.{Rule}
 use Rattle.mpw_geom.specs.Names.{name_eq}
+use Rattle.mpw_listing.specs.Keys.{key_text}
 use Rattle.mpw_markers.specs.declared.marker.Marker.{Marker}
 use Rattle.mpw_markers.specs.Markers.{key_of}
 use Rattle.mpw_picture.specs.Windows.{marker_window, whole_window}
 use Rattle.mpw_picture.specs.declared.picture.View.{View}
 use Rattle.mpw_tiles.specs.Snapshots.{Snapshot, shown_extent}
-use Rattle.mpw_wire.specs.Keys.{key_text, spot_of}
 use Rattle.mpw_told.specs.declared.fault.FirmFault.{FirmFault}
 use Rattle.mpw_told.specs.declared.fault.FirmFault.TheVariants.{Memory}
 use Rattle.mpw_told.specs.Told.{Misuses}
@@ -16,7 +16,7 @@ use Rattle.mpw_told.specs.Told.{Misuses}
 -- Whether a marker of that rule has the key, as the listing prints it.
 abbrev pub is_keyed : List ℕ → Marker → Option Rule → Bool
 is_keyed word m None = false
-is_keyed word m (Some rule) = name_eq (key_text rule.name (spot_of (key_of m))) word
+is_keyed word m (Some rule) = name_eq (key_text rule.name (key_of m)) word
 
 abbrev pub has_key : List Rule → List ℕ → Marker → Bool
 has_key rules word m = is_keyed word m (slice_get rules m.rule)
@@ -44,14 +44,15 @@ IsUnknown rules word markers fault =
     (fault ≡ Memory)
     ⊎ ((marker_named rules word markers ≡ None) × Misuses (unknown_text word) fault)
 
--- ---- the view of the picture that is asked for: round the marker of its key, or round all where it names none
+-- ---- the view of the picture that is asked for: round the marker of its key, or round all if it names none
 
-abbrev pub IsViewOf : Option (List ℕ) → Snapshot → List Marker → (limit : ℕ) → View → Type 0
-IsViewOf None s markers limit view =
+abbrev pub IsViewOf : Option (List ℕ) → List Rule → Snapshot → List Marker → (limit : ℕ) → View
+    → Type 0
+IsViewOf None rules s markers limit view =
     view ≡ record { window = whole_window (shown_extent s); wanted = None; limit = limit }
-IsViewOf (Some word) s markers limit view = IsRound s.deck.rules word markers limit view
+IsViewOf (Some word) rules s markers limit view = IsRound rules word markers limit view
 
 -- It isn't there: no marker has the key.
-abbrev pub IsOfKey : Option (List ℕ) → Snapshot → List Marker → FirmFault → Type 0
-IsOfKey None s markers fault = ⊥
-IsOfKey (Some word) s markers fault = IsUnknown s.deck.rules word markers fault
+abbrev pub IsOfKey : Option (List ℕ) → List Rule → List Marker → FirmFault → Type 0
+IsOfKey None rules markers fault = ⊥
+IsOfKey (Some word) rules markers fault = IsUnknown rules word markers fault

@@ -1,4 +1,3 @@
-pub mod Blanks
 pub mod Came
 pub mod Counts
 pub mod Drawings

@@ -3,7 +3,7 @@ use Rattle.std.specs.Prelude.{◌≡◌, ◌⊎◌, ◌+◌, List, length, take,
 use Rattle.mpw_columns.specs.Plan.{AreColumnsOfLayout}
 use Rattle.mpw_keys.specs.declared.column.Column.{Column}
 use Rattle.mpw_parts.specs.Parts.{Found}
-use Rattle.mpw_spread.specs.Ranges.{span_of}
+use Rattle.mpw_spread.specs.Ranges.{IsSpanOf}
 use Rattle.mpw_spread.specs.declared.range.ColumnRange.{ColumnRange}
 use Rattle.mpw_tiles.specs.Snapshots.{Snapshot}
 use Rattle.mpw_told.specs.declared.fault.FirmFault.{FirmFault}
@@ -16,8 +16,8 @@ pub record HasColumnsOf (s : Snapshot) (range : ColumnRange) (part : Found) : Ty
   pub columns : List Column
   pub cut : AreColumnsOfLayout s columns
   pub told : part.subject.columns ≡ length columns
-  pub span : span_of range (length columns)
-      ≡ Some (record { first = part.first; end = part.first + length part.lists })
+  pub span : IsSpanOf range (length columns)
+      (Some (record { first = part.first; end = part.first + length part.lists }))
   pub own : part.columns ≡ take (length part.lists) (drop part.first columns)
 
 -- The layout is cut into columns and hasn't those that are asked for, and that is told; or there is no room.
@@ -26,5 +26,5 @@ IsOfRange s range fault =
     (fault ≡ Memory)
     ⊎ ((columns : List Column)
     × AreColumnsOfLayout s columns
-    × (span_of range (length columns) ≡ None)
+    × IsSpanOf range (length columns) None
     × Misuses (range_text (length columns)) fault)

@@ -2,29 +2,29 @@
 use Rattle.std.specs.Prelude.{ℕ, ◌-◌, ◌^◌, Bool, true, false, List, [], ◌∷◌, length, map, Option, None, Some, option_map}
 use Rattle.std.specs.List.{flat_map}
 use Rattle.mpw_outputs.specs.Counted.{counts_text, rule_counts, summary_text}
-use Rattle.mpw_outputs.specs.Listed.{listed_text}
 use Rattle.mpw_outputs.specs.Outputs.{Kept, in_file}
 use Rattle.mpw_firm.specs.declared.checked.Checked.{Checked}
 use Rattle.mpw_firm.specs.declared.found.Held.{Held}
 use Rattle.mpw_firm.specs.declared.found.Held.TheVariants as held
-use Rattle.mpw_limits.specs.Limits.{Limited, limited_text}
+use Rattle.mpw_deck.specs.declared.rule.Rule.{Rule}
+use Rattle.mpw_listing.specs.Limited.{Limited, limited_text}
+use Rattle.mpw_listing.specs.Listing.{listing_text as all_text}
 use Rattle.mpw_markers.specs.declared.marker.Marker.{Marker}
 use Rattle.mpw_geom.specs.declared.plane.Box2.{Box2}
 use Rattle.mpw_report.specs.Content.{Content, Noted, Told, fault_of, note_of}
 use Rattle.mpw_report.specs.Report.{full_text}
-use Rattle.mpw_tiles.specs.Snapshots.{Snapshot}
 
 -- A limit as a number: without one the greatest.
 abbrev pub most_of : Option ℕ → ℕ
 most_of None = 2 ^ 64 - 1
 most_of (Some limit) = limit
 
--- What is shown of markers: the name of the layout's file, the structure's, the layout, the markers, the limit, what is told of what was
--- looked at, whether their numbers stand in the place of their listing, and the elements that are left out for their faults.
+-- What is shown of markers: the name of the layout's file, the structure's, the rules, the markers, the limit, the notes about what was
+-- looked at, whether their numbers are printed instead of their listing, and the elements that are left out for their faults.
 pub record Shown : Type 0 where
   pub original : Option (List ℕ)
   pub top : List ℕ
-  pub layout : Snapshot
+  pub rules : List Rule
   pub book : List Marker
   pub limit : Option ℕ
   pub notes : List Noted
@@ -36,7 +36,7 @@ abbrev pub shown_of : Checked → List Marker → Shown
 shown_of c book = record {
   original = option_map (λ file. file.now) c.original;
   top = c.top.now;
-  layout = c.layout.now;
+  rules = c.rules.now;
   book = book;
   limit = c.limit;
   notes = map note_of c.notes.now;
@@ -54,18 +54,18 @@ areas_of faults = flat_map (λ (f : Told). area_listed f.area) faults
 
 abbrev pub limited_of : Shown → ℕ → Limited
 limited_of s limit =
-    record { top = s.top; rules = s.layout.deck.rules; markers = s.book; limit = limit }
+    record { top = s.top; rules = s.rules; markers = s.book; limit = limit }
 
 abbrev pub listing_by : Shown → Option ℕ → List ℕ
-listing_by s None = listed_text s.layout s.book
+listing_by s None = all_text s.top s.rules s.book
 listing_by s (Some limit) = limited_text (limited_of s limit)
 
 -- The numbers by rule, or the listing.
 abbrev pub printed_text : Shown → (summary : Bool) → List ℕ
-printed_text s true = summary_text s.layout.deck.rules s.book
+printed_text s true = summary_text s.rules s.book
 printed_text s false = listing_by s s.limit
 
--- What is printed: a desk's listing, or that of the first of each rule, or the numbers.
+-- What is printed: the listing of all markers, or of the first of each rule, or the numbers.
 abbrev pub listing_text : Shown → List ℕ
 listing_text s = printed_text s s.summary
 
@@ -74,7 +74,7 @@ abbrev pub content_with : Shown → List ℕ → Content
 content_with s counts = record {
   original = s.original;
   top = s.top;
-  rules = s.layout.deck.rules;
+  rules = s.rules;
   markers = s.book;
   counts = Some counts;
   limit = most_of s.limit;
@@ -84,7 +84,7 @@ content_with s counts = record {
 
 -- What the report tells: all markers, with how many each rule has.
 abbrev pub content_of : Shown → Content
-content_of s = content_with s (rule_counts (length s.layout.deck.rules) s.book)
+content_of s = content_with s (rule_counts (length s.rules) s.book)
 
 -- ---- the same by the markers that are held
 
@@ -102,14 +102,14 @@ held_limited c = limited_of (held_shown c) (most_of c.limit)
 abbrev pub held_content : Checked → Content
 held_content c = content_with (held_shown c) c.found.now.counts.items
 
--- All are listed as a desk lists them, where there is no limit.
+-- All are listed, if there is no limit.
 abbrev pub held_listing : Checked → Option ℕ → Held → List ℕ
-held_listing c None (held.All book) = listed_text c.layout.now book
+held_listing c None (held.All book) = all_text c.top.now c.rules.now book
 held_listing c None (held.First first) = limited_text (held_limited c)
 held_listing c (Some limit) h = limited_text (held_limited c)
 
 abbrev pub held_printed : Checked → (summary : Bool) → List ℕ
-held_printed c true = counts_text c.layout.now.deck.rules c.found.now.counts.items c.found.now.all
+held_printed c true = counts_text c.rules.now c.found.now.counts.items c.found.now.all
 held_printed c false = held_listing c c.limit c.found.now.held
 
 abbrev pub held_report : Option (List ℕ) → Checked → List Kept

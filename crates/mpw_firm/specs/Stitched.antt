@@ -1,7 +1,5 @@
 -- What comes of parts that are stitched, and what is refused.
 use Rattle.std.specs.Prelude.{◌≡◌, ◌⊎◌, ℕ, Bool, true, false, List, [], ◌∷◌, codes, length, slice_get, All, None, Some, Ok}
-use Rattle.mpw_check.specs.Drawn.{IsDrawnFrom, IsOfText}
-use Rattle.mpw_check.specs.declared.fault.CheckFault.{CheckFault}
 use Rattle.mpw_deck.specs.Reading.{deck_of}
 use Rattle.mpw_job.specs.Layout.{AreLayoutMarkers}
 use Rattle.mpw_markers.specs.declared.marker.Marker.{Marker}
@@ -10,14 +8,12 @@ use Rattle.mpw_parts.specs.Reading.{part_of, is_older, begins_as_part}
 use Rattle.mpw_parts.specs.Stitching.{IsBookOf, IsFaultOf}
 use Rattle.mpw_parts.specs.declared.fault.PartsFault.{PartsFault}
 use Rattle.mpw_spread.specs.Spread.{Texts, IsPartOf, IsPartBeside}
-use Rattle.mpw_tiles.specs.Snapshots.{Snapshot}
 use Rattle.mpw_told.specs.declared.fault.FirmFault.{FirmFault}
 use Rattle.mpw_told.specs.declared.fault.FirmFault.TheVariants.{Memory}
 use Rattle.mpw_firm.specs.declared.whole.Subject.{Subject}
 use Rattle.mpw_firm.specs.declared.whole.Whole.{Whole}
-use Rattle.mpw_firm.specs.Blanks.{blank_text}
-use Rattle.mpw_told.specs.ToldFaults.{IsOfDeck, check_told}
-use Rattle.mpw_outputs.specs.Listed.{listed_text}
+use Rattle.mpw_listing.specs.Listing.{listing_text}
+use Rattle.mpw_told.specs.ToldFaults.{IsOfDeck}
 use Rattle.mpw_told.specs.Told.{Refuses, Tells}
 use Rattle.mpw_told.specs.ToldParts.{Holder, no_markers_text, no_part_text, older_text, damaged_text, fault_text}
 
@@ -64,55 +60,34 @@ IsOfFirst holders parts fault =
     × (slice_get parts 0 ≡ Some first)
     × IsOfDeck (first_name holders) first.subject.deck fault)
 
--- The library with an empty structure of that name isn't checked, and why is told.
-abbrev pub IsOfBlank : List ℕ → FirmFault → Type 0
-IsOfBlank top fault =
-    (why : CheckFault) × IsOfText top (blank_text top) why
-    × Tells (check_told (codes "mpw stitch") top why []) fault
-
--- The first of the parts tells nothing; or it does, and the parts have no book under its deck, or there is one and no layout of the
--- structure's name.
+-- The first of the parts has no deck, name and columns; or it has, and the parts have no book under its deck.
 abbrev pub IsOfWhole : List Holder → List Found → FirmFault → Type 0
 IsOfWhole holders parts fault =
     IsOfFirst holders parts fault
     ⊎ ((subject : Subject)
     × IsSubjectOf parts subject
-    × (IsOfParts holders subject.columns (length subject.deck.rules) parts fault
-    ⊎ ((book : List Marker)
-    × IsBookOf (length subject.deck.rules) parts book
-    × IsOfBlank subject.top fault)))
+    × IsOfParts holders subject.columns (length subject.deck.rules) parts fault)
 
--- The layout is drawn of some library's structure of that name.
-abbrev pub IsNamed : List ℕ → Snapshot → Type 0
-IsNamed top layout = (text : List ℕ) × IsDrawnFrom layout.deck top text layout
-
--- The book is that of the parts; beside it stand the structure's name that the first of them tells, and
--- a layout of that name under its deck.
+-- The book is that of the parts. The deck, the structure's name and the number of columns are those of the first part.
 pub record IsWholeOf (parts : List Found) (whole : Whole) : Type 0 where
   pub first : Found
   pub at : slice_get parts 0 ≡ Some first
-  pub deck : deck_of first.subject.deck ≡ Ok whole.layout.deck
+  pub deck : deck_of first.subject.deck ≡ Ok whole.deck
   pub top : whole.top ≡ first.subject.top
   pub columns : whole.columns ≡ first.subject.columns
-  pub named : IsNamed whole.top whole.layout
-  pub book : IsBookOf (length whole.layout.deck.rules) parts whole.book
-
--- The listing of its markers is that of each layout of its name under its deck.
-abbrev pub IsListedAsEach : Whole → Type 0
-IsListedAsEach whole =
-    (text : List ℕ) (layout : Snapshot) → IsDrawnFrom whole.layout.deck whole.top text layout
-    → listed_text whole.layout whole.book ≡ listed_text layout whole.book
+  pub book : IsBookOf (length whole.deck.rules) parts whole.book
 
 -- ---- law
 
--- Of parts, each made of files anywhere, what is listed of the whole is what a check lists of the files that the first was made of, where
+-- Of parts, each made of files anywhere, what is listed of the whole is what a check lists of the files that the first was made of, if
 -- no other library has the SHA-256 of theirs.
 abbrev pub IsListedAsCheck : List Found → Whole → Type 0
 IsListedAsCheck parts whole =
     (texts : Texts) (first : Found) (book : List Marker) → slice_get parts 0 ≡ Some first
     → (made : IsPartOf texts first) → All (IsPartBeside texts) parts
     → AreLayoutMarkers made.snapshot book
-    → listed_text whole.layout whole.book ≡ listed_text made.snapshot book
+    → listing_text whole.top whole.deck.rules whole.book
+    ≡ listing_text texts.top made.snapshot.deck.rules book
 
 abbrev pub WholesAreListedAsChecks : Type 0
 WholesAreListedAsChecks =

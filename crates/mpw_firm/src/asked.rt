@@ -13,12 +13,13 @@ use crate::drawing::drawn_by;
 use crate::found::{enough_for, found_in};
 use crate::laws::markers_are_flat;
 use crate::line::Line;
-use crate::picture::{picture, view_of};
+use crate::picture::{drawn_in, put_picture, view_of};
 use crate::progress::tell_summary;
 use crate::report::write_listed;
 use mpw_asked::{Choices, Options};
 use mpw_outputs::Outputs;
 use mpw_sources::{Target, look, notes_of, report_faults, tell_notes};
+use mpw_tiles::Snapshot;
 use mpw_told::FirmFault;
 use rayon::current_num_threads;
 use std::alloc::Global;
@@ -30,18 +31,19 @@ fn write_all<O: Outputs>(
     outputs: &mut O,
     alloc: Global,
     options: &Options,
+    layout: &Snapshot,
     checked: &Checked<'_>,
 ) -> Result<(), FirmFault>
     ensures { (book : List Marker) → IsOfBook (enough_for options.now checked.now.summary checked.now.limit) checked.now book
-        → IfOk result (λ _. PutsAll options.now (shown_of checked.now book) (O.kept outputs.old) (O.kept outputs.new)) }
+        → IfOk result (λ _. PutsAll options.now layout.now (shown_of checked.now book) (O.kept outputs.old) (O.kept outputs.new)) }
 {
     let Some(wanted) = &options.picture else {
         return write_listed(outputs, alloc, &options.report, checked);
     };
-    let view = view_of(alloc, wanted, checked)?;
+    let view = view_of(alloc, wanted, layout, checked)?;
     write_listed(outputs, alloc, &options.report, checked)?;
-    let file = wanted.file.as_str();
-    picture(outputs, alloc, file, view, checked)
+    let drawn = drawn_in(alloc, layout, view, checked)?;
+    put_picture(outputs, alloc, wanted.file.as_str(), checked, &drawn)
 }
 
 /// Refuses a check of which a rule looks at nothing, with `--strict`.
@@ -84,9 +86,10 @@ pub fn check<O: Outputs>(
     let faults = left_out.as_slice();
     let layout = &given.layout;
     let found = &found_in(rt, threads, layout, enough_for(options, choices), &mut line)?;
+    let rules = layout.deck().rules().as_slice();
     let checked = Checked {
         top: &given.top,
-        layout,
+        rules,
         found,
         original: Some(file),
         limit: choices.limit,
@@ -94,9 +97,9 @@ pub fn check<O: Outputs>(
         summary: choices.summary,
         faults,
     };
-    let _ = tell_summary(rt, &checked, &line);
+    let _ = tell_summary(rt, layout, &checked, &line);
     markers_are_flat();
-    write_all(outputs, rt.alloc(), options, &checked)?;
+    write_all(outputs, rt.alloc(), options, layout, &checked)?;
     line.tell_times();
     Ok(found.all.saturating_add(faults.len()))
 }

@@ -4,18 +4,19 @@ ghost use Rattle.std.specs.Prelude.{◌≡◌};
 ghost use Rattle.mpw_firm.specs.Shown.{most_of};
 
 use crate::found::Findings;
+use mpw_deck::Rule;
 use mpw_geom::Name;
 use mpw_report::{Fault, Note};
 use mpw_sources::SeenFault;
 use mpw_tiles::Snapshot;
 
-/// A layout that was checked: the structure's name, the layout, and what was found.
+/// What was checked: the structure's name, the rules, and what was found.
 #[derive(Clone, Copy, Drop)]
 pub struct Checked<'a> {
     /// The structure.
     pub top: &'a Name,
-    /// The structure under the deck, as it was checked.
-    pub layout: &'a Snapshot,
+    /// The deck's rules.
+    pub rules: &'a [Rule],
     /// Its markers, as many as are held, and how many it has.
     pub found: &'a Findings,
     /// The name of the layout's file, where it is known.

@@ -2,18 +2,18 @@
 ghost use Rattle.std.specs.Prelude.{◌≡◌, IfOk, Some, option_copied};
 ghost use Rattle.std.specs.String.{string_bytes};
 ghost use Rattle.mpw_markers.specs.Markers.{key_of};
-ghost use Rattle.mpw_wire.specs.Keys.{key_text, spot_of};
 ghost use Rattle.mpw_firm.specs.Keys.{is_keyed, has_key, marker_named};
+ghost use Rattle.mpw_listing.specs.Keys.{key_text};
 
 use mpw_deck::Rule;
 use mpw_geom::Name;
+use mpw_listing::axis_letter;
 use mpw_markers::Marker;
-use mpw_reply_text::axis_letter;
 use std::alloc::{AllocError, Global};
 
 /// The key of a marker of the rule of that name.
 fn key_text(alloc: Global, rule: &Name, marker: &Marker) -> Result<String, AllocError>
-    ensures { IfOk result (λ text. string_bytes text ≡ key_text rule.now (spot_of (key_of marker.now))) }
+    ensures { IfOk result (λ text. string_bytes text ≡ key_text rule.now (key_of marker.now)) }
 {
     let name = rule.as_str();
     let axis = axis_letter(&marker.axis);

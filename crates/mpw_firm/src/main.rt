@@ -13,7 +13,6 @@ ghost use Rattle.mpw_told.specs.Told.{IsMisuse, OutputFails};
 
 mod apart;
 mod asked;
-mod blank;
 mod checked;
 mod drawing;
 mod faulty;

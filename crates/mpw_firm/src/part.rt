@@ -70,12 +70,13 @@ fn part_of(
     let columns = columns_for_shares(alloc, snapshot)?;
     let columns = columns.as_slice();
     let total = count(columns);
-    let Some(span) = range.span(total) else {
+    let plan = Plan { snapshot, columns };
+    let found = plan.span(alloc, range)?;
+    let Some(span) = found else {
         return Err(beyond_plan(alloc, total));
     };
     let (deck, top) = (copy_of(alloc, asked.deck)?, asked.target.top.copy()?);
     let subject = subject_of(asked.library, deck, top, snapshot.extent(), total);
-    let plan = Plan { snapshot, columns };
     let part = check_part(threads, alloc, subject, plan, span, line);
     line.end();
     Ok(part?)

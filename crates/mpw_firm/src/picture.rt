@@ -4,7 +4,6 @@ ghost use Rattle.std.specs.String.{string_bytes};
 ghost use Rattle.mpw_geom.specs.Plane.{IsBoxInPlane};
 ghost use Rattle.mpw_picture.specs.Drawn.{IsDrawnWith};
 ghost use Rattle.mpw_picture.specs.Text.{picture_text};
-ghost use Rattle.mpw_picture.specs.declared.picture.Picture.{Picture};
 ghost use Rattle.mpw_outputs.specs.Outputs.{in_file, Grows};
 ghost use Rattle.mpw_firm.specs.Keys.{IsOfKey, IsRound, IsUnknown, IsViewOf, unknown_text};
 ghost use Rattle.mpw_firm.specs.Shown.{area_listed, areas_of, markers_of, most_of};
@@ -16,8 +15,9 @@ use crate::key::find_marker;
 use mpw_asked::Wanted;
 use mpw_geom::Box2;
 use mpw_outputs::{Outputs, Place, Text, put};
-use mpw_picture::{LeftOut, View, draw_with, marker_window, whole_window};
+use mpw_picture::{LeftOut, Picture, View, draw_with, marker_window, whole_window};
 use mpw_report::Fault;
+use mpw_tiles::Snapshot;
 use mpw_told::{FirmFault, misuse};
 use std::alloc::{AllocError, Global};
 
@@ -34,10 +34,10 @@ fn unknown_marker(alloc: Global, key: &str) -> FirmFault
 /// The view round the marker of that key.
 fn view_round(alloc: Global, checked: &Checked<'_>, key: &str) -> Result<View, FirmFault>
     ensures plane { IfOk result (λ view. IsBoxInPlane view.window) }
-    ensures round { IfOk result (IsRound checked.now.layout.now.deck.rules key.now (markers_of checked.now.found.now.held) (most_of checked.now.limit)) }
-    ensures refused { IfErr result (IsUnknown checked.now.layout.now.deck.rules key.now (markers_of checked.now.found.now.held)) }
+    ensures round { IfOk result (IsRound checked.now.rules.now key.now (markers_of checked.now.found.now.held) (most_of checked.now.limit)) }
+    ensures refused { IfErr result (IsUnknown checked.now.rules.now key.now (markers_of checked.now.found.now.held)) }
 {
-    let rules = checked.layout.deck().rules().as_slice();
+    let rules = checked.rules;
     match find_marker(alloc, rules, checked.found.markers(), key) {
         Ok(Some(marker)) => Ok(View {
             window: marker_window(rules, marker),
@@ -50,29 +50,34 @@ fn view_round(alloc: Global, checked: &Checked<'_>, key: &str) -> Result<View, F
 }
 
 /// The view of all.
-fn whole_view(checked: &Checked<'_>) -> View
+fn whole_view(layout: &Snapshot, checked: &Checked<'_>) -> View
     ensures plane { IsBoxInPlane result.window }
-    ensures view { IsViewOf None checked.now.layout.now (markers_of checked.now.found.now.held) (most_of checked.now.limit) result }
+    ensures view { IsViewOf None checked.now.rules.now layout.now (markers_of checked.now.found.now.held) (most_of checked.now.limit) result }
 {
     View {
-        window: whole_window(checked.layout),
+        window: whole_window(layout),
         wanted: None,
         limit: checked.most(),
     }
 }
 
-/// The view of the picture that is asked for: round the marker of its key, or round all where it names none.
+/// The view of the picture that is asked for: round the marker of its key, or round all if it names none.
 ///
 /// # Errors
-/// `Usage` where no marker has the key, and `Memory`.
-pub fn view_of(alloc: Global, wanted: &Wanted, checked: &Checked<'_>) -> Result<View, FirmFault>
+/// `Usage` if no marker has the key, and `Memory`.
+pub fn view_of(
+    alloc: Global,
+    wanted: &Wanted,
+    layout: &Snapshot,
+    checked: &Checked<'_>,
+) -> Result<View, FirmFault>
     ensures plane { IfOk result (λ view. IsBoxInPlane view.window) }
-    ensures view { IfOk result (IsViewOf (option_map string_bytes wanted.now.key) checked.now.layout.now (markers_of checked.now.found.now.held) (most_of checked.now.limit)) }
-    ensures refused { IfErr result (IsOfKey (option_map string_bytes wanted.now.key) checked.now.layout.now (markers_of checked.now.found.now.held)) }
+    ensures view { IfOk result (IsViewOf (option_map string_bytes wanted.now.key) checked.now.rules.now layout.now (markers_of checked.now.found.now.held) (most_of checked.now.limit)) }
+    ensures refused { IfErr result (IsOfKey (option_map string_bytes wanted.now.key) checked.now.rules.now (markers_of checked.now.found.now.held)) }
 {
     match &wanted.key {
         Some(key) => view_round(alloc, checked, key.as_str()),
-        None => Ok(whole_view(checked)),
+        None => Ok(whole_view(layout, checked)),
     }
 }
 
@@ -97,28 +102,41 @@ fn areas_of(alloc: Global, faults: &[Fault<'_>]) -> Result<Vec<Box2>, AllocError
     Ok(areas)
 }
 
-/// Draws a view of what was checked into a file.
+/// The picture of a view of a layout, with what was found in it.
 ///
 /// # Errors
-/// `Device` where the file can't be written, and `Memory`.
-pub fn picture<O: Outputs>(
-    outputs: &mut O,
+/// Out of memory.
+pub fn drawn_in(
     alloc: Global,
-    file: &str,
+    layout: &Snapshot,
     view: View,
     checked: &Checked<'_>,
-) -> Result<(), FirmFault>
+) -> Result<Picture, AllocError>
     requires { IsBoxInPlane view.window }
-    ensures kept { IfOk result (λ _. (drawn : Picture) × IsDrawnWith checked.now.layout.now (markers_of checked.now.found.now.held) (areas_of (map fault_of checked.now.faults.now)) (length (map fault_of checked.now.faults.now)) view drawn
-        × Grows (O.kept outputs.old) (O.kept outputs.new) (in_file file.now (picture_text checked.now.layout.now.deck.rules checked.now.top.now drawn) ∷ [])) }
-    ensures refused { IfErr result (CannotBeWritten file.now) }
+    ensures { IfOk result (IsDrawnWith layout.now (markers_of checked.now.found.now.held) (areas_of (map fault_of checked.now.faults.now)) (length (map fault_of checked.now.faults.now)) view) }
 {
     let areas = areas_of(alloc, checked.faults)?;
     let left = LeftOut {
         areas: areas.as_slice(),
         all: checked.faults.len(),
     };
-    let drawn = draw_with(alloc, checked.layout, checked.found.markers(), left, view)?;
-    let text = Text::Picture(checked.layout, checked.top, &drawn);
+    draw_with(alloc, layout, checked.found.markers(), left, view)
+}
+
+/// Writes a picture of what was checked into a file.
+///
+/// # Errors
+/// `Device` if the file can't be written, and `Memory`.
+pub fn put_picture<O: Outputs>(
+    outputs: &mut O,
+    alloc: Global,
+    file: &str,
+    checked: &Checked<'_>,
+    drawn: &Picture,
+) -> Result<(), FirmFault>
+    ensures kept { IfOk result (λ _. Grows (O.kept outputs.old) (O.kept outputs.new) (in_file file.now (picture_text checked.now.rules.now checked.now.top.now drawn.now) ∷ [])) }
+    ensures refused { IfErr result (CannotBeWritten file.now) }
+{
+    let text = Text::Picture(checked.rules, checked.top, drawn);
     put(outputs, alloc, Place::File(file), &text)
 }

@@ -18,9 +18,8 @@ const MAX_ON_DESK: u64 = 1 << 20;
 
 /// Tells how many markers there are, and how many of each rule.
 pub fn tell_markers(rt: &HostRuntime, checked: &Checked<'_>) -> io::Result<()> {
-    let rules = checked.layout.deck().rules().as_slice();
     eprint!(rt; "{} markers", checked.found.all)?;
-    for (rule, count) in rules.iter().zip(checked.found.counts.iter()) {
+    for (rule, count) in checked.rules.iter().zip(checked.found.counts.iter()) {
         eprint!(rt; ", {} {count}", rule.name.as_str())?;
     }
     Ok(())
@@ -38,13 +37,18 @@ fn tell_taken(rt: &HostRuntime, taken: Option<u64>) -> io::Result<()> {
 }
 
 /// Ends a line with the memory that a check was reckoned to take, where the system told what reading took.
-fn tell_reckoned(rt: &HostRuntime, checked: &Checked<'_>, line: &Line<'_>) -> io::Result<()> {
+fn tell_reckoned(
+    rt: &HostRuntime,
+    layout: &Snapshot,
+    checked: &Checked<'_>,
+    line: &Line<'_>,
+) -> io::Result<()> {
     // A check by tiles has the whole book first.
-    let held = match checked_tiles(checked.layout) {
+    let held = match checked_tiles(layout) {
         Some(_) => checked.found.all,
         None => checked.found.markers().len(),
     };
-    if let Some(most) = line.reckoned(checked.layout, held) {
+    if let Some(most) = line.reckoned(layout, held) {
         eprint!(rt; " of {most} MB reckoned")?;
     }
     eprintln!(rt; "")
@@ -68,14 +72,18 @@ fn tell_left(rt: &HostRuntime, checked: &Checked<'_>) -> io::Result<()> {
 }
 
 /// Tells what was checked and found, the time and the memory that it took; and of a layout that shows more shapes than a desk takes, that.
-pub fn tell_summary(rt: &HostRuntime, checked: &Checked<'_>, line: &Line<'_>) -> io::Result<()> {
-    let layout = checked.layout;
+pub fn tell_summary(
+    rt: &HostRuntime,
+    layout: &Snapshot,
+    checked: &Checked<'_>,
+    line: &Line<'_>,
+) -> io::Result<()> {
     let shapes = layout.shelf().count(0);
     eprint!(rt; "{shapes} shapes, ")?;
     tell_way(rt, layout)?;
     tell_markers(rt, checked)?;
     tell_taken(rt, line.taken())?;
-    tell_reckoned(rt, checked, line)?;
+    tell_reckoned(rt, layout, checked, line)?;
     tell_left(rt, checked)?;
     if shapes > MAX_ON_DESK {
         eprintln!(rt; "note: more than 1048576 shapes: the desk takes no more")?;
@@ -88,9 +96,8 @@ pub fn tell_summary(rt: &HostRuntime, checked: &Checked<'_>, line: &Line<'_>) ->
 /// # Errors
 /// Out of memory, or that of the standard error.
 pub fn tell_limit(rt: &HostRuntime, checked: &Checked<'_>) -> io::Result<()> {
-    let rules = checked.layout.deck().rules().as_slice();
     let counts = checked.found.counts.as_slice();
-    let notes = left_out_text(rt.alloc(), rules, counts, checked.limit)?;
+    let notes = left_out_text(rt.alloc(), checked.rules, counts, checked.limit)?;
     eprint!(rt; "{}", notes.as_str())
 }
 

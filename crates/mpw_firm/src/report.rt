@@ -3,8 +3,9 @@ ghost use Rattle.std.specs.Prelude.{◌≡◌, ◌∷◌, ◌⊎◌, [], List, t
 ghost use Rattle.std.specs.String.{string_bytes};
 ghost use Rattle.mpw_firm.specs.Came.{listing_texts};
 ghost use Rattle.mpw_firm.specs.Held.{enough_listed, IsOfBook};
-ghost use Rattle.mpw_firm.specs.Shown.{held_content, held_limited, held_printed, held_report, shown_of};
-ghost use Rattle.mpw_limits.specs.Limits as listing;
+ghost use Rattle.mpw_firm.specs.Shown.{held_content, held_limited, held_printed, held_report, markers_of, shown_of};
+ghost use Rattle.mpw_listing.specs.Limited as limits;
+ghost use Rattle.mpw_listing.specs.Listing as listing;
 ghost use Rattle.mpw_markers.specs.declared.marker.Marker.{Marker};
 ghost use Rattle.mpw_outputs.specs.Outputs.{on_output, Grows, IsUnwritten};
 ghost use Rattle.mpw_report.specs.Content as told;
@@ -12,20 +13,31 @@ ghost use Rattle.mpw_told.specs.Told.{OutputFails};
 
 use crate::checked::Checked;
 use crate::found::Held;
-use mpw_limits::{Limited, first_markers_are_listed};
+use mpw_listing::{Limited, Listing, first_markers_are_listed};
 use mpw_outputs::{Counts, Outputs, Place, Text, put};
 use mpw_report::{Report, first_markers_have_the_items};
 use mpw_told::FirmFault;
 use std::alloc::Global;
 
+/// The listing of all markers that are held.
+fn listing<'a>(checked: &Checked<'a>) -> Listing<'a>
+    ensures { listing.listing_of result ≡ listing.listing_text checked.now.top.now checked.now.rules.now (markers_of checked.now.found.now.held) }
+{
+    Listing {
+        top: checked.top,
+        rules: checked.rules,
+        markers: checked.found.markers(),
+    }
+}
+
 /// The first markers of each rule.
 fn limited<'a>(checked: &Checked<'a>) -> Limited<'a>
-    ensures { listing.limited_of result ≡ held_limited checked.now }
+    ensures { limits.limited_of result ≡ held_limited checked.now }
 {
     let limit = checked.most();
     Limited {
         top: checked.top,
-        rules: checked.layout.deck().rules().as_slice(),
+        rules: checked.rules,
         markers: checked.found.markers(),
         limit,
     }
@@ -38,7 +50,7 @@ fn report_of<'a>(checked: &Checked<'a>) -> Report<'a>
     Report {
         original: checked.original,
         top: checked.top,
-        rules: checked.layout.deck().rules().as_slice(),
+        rules: checked.rules,
         markers: checked.found.markers(),
         counts: Some(checked.found.counts.as_slice()),
         limit: checked.most(),
@@ -47,7 +59,7 @@ fn report_of<'a>(checked: &Checked<'a>) -> Report<'a>
     }
 }
 
-/// Prints the markers of a layout: all, or the first of each rule where there is a limit or no more are held.
+/// Prints the markers: all, or the first of each rule if there is a limit or no more are held.
 fn list_markers<O: Outputs>(
     outputs: &mut O,
     alloc: Global,
@@ -57,9 +69,9 @@ fn list_markers<O: Outputs>(
     ensures refused { IfErr result OutputFails }
 {
     match (checked.limit, &checked.found.held) {
-        (None, Held::All(book)) => {
-            let text = Text::Listing(checked.layout, book);
-            put(outputs, alloc, Place::Standard, &text)
+        (None, Held::All(_)) => {
+            let listing = listing(checked);
+            put(outputs, alloc, Place::Standard, &Text::Listing(&listing))
         }
         (None, Held::First(_)) | (Some(_), _) => {
             let listing = limited(checked);
@@ -77,12 +89,11 @@ fn list_counts<O: Outputs>(
     ensures kept { IfOk result (λ _. Grows (O.kept outputs.old) (O.kept outputs.new) (on_output (held_printed checked.now true) ∷ [])) }
     ensures refused { IfErr result OutputFails }
 {
-    let rules = checked.layout.deck().rules().as_slice();
     let counts = Counts {
         rules: checked.found.counts.as_slice(),
         all: checked.found.all,
     };
-    let text = Text::Counts(rules, &counts);
+    let text = Text::Counts(checked.rules, &counts);
     put(outputs, alloc, Place::Standard, &text)
 }
 
@@ -118,12 +129,11 @@ fn report<O: Outputs>(
     }
 }
 
-/// Prints the markers of a layout on the standard output: all, or the first of each rule where there is a limit; or how many each rule has,
-/// where that is asked for. Then it writes the report into a file, where one is named. Where what is held is enough for both, they are
-/// those of all markers.
+/// Prints the markers on the standard output: all, or the first of each rule if there is a limit; or how many each rule has, if that is
+/// asked for. Then it writes the report into a file, if one is named. If what is held is enough for both, they are those of all markers.
 ///
 /// # Errors
-/// `Device` where that failed or the file can't be written, and `Memory`.
+/// `Device` if that failed or the file can't be written, and `Memory`.
 pub fn write_listed<O: Outputs>(
     outputs: &mut O,
     alloc: Global,

@@ -93,16 +93,16 @@ pub fn stitch<O: Outputs>(
     let Whole {
         top,
         columns,
-        layout,
+        deck,
         book,
     } = whole_in(rt, options.files.as_slice())?;
-    let rules = layout.deck().rules().as_slice();
+    let rules = deck.rules().as_slice();
     let notes = rule_notes(alloc, rules)?;
     let many = book.len();
     let found = Findings::of_book(alloc, rules, book)?;
     let checked = Checked {
         top: &top,
-        layout: &layout,
+        rules,
         found: &found,
         original: None,
         limit: options.limit,

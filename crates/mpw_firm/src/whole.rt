@@ -1,17 +1,15 @@
 //! The whole that parts make.
 ghost use Rattle.std.specs.Prelude.{◌≡◌, ◌≤◌, length, IfOk, IfErr};
 ghost use Rattle.mpw_parts.specs.Stitching.{IsBookOf};
-ghost use Rattle.mpw_firm.specs.Stitched.{first_name, IsListedAsCheck, IsListedAsEach, IsNamed, IsSubjectOf, IsWholeOf, IsOfBlank, IsOfFirst, IsOfParts, IsOfWhole};
+ghost use Rattle.mpw_firm.specs.Stitched.{first_name, IsListedAsCheck, IsSubjectOf, IsWholeOf, IsOfFirst, IsOfParts, IsOfWhole};
 
-use crate::blank::blank_layout;
 use crate::laws::wholes_are_listed_as_checks;
 use mpw_deck::Deck;
 use mpw_geom::Name;
 use mpw_markers::Book;
 use mpw_parts::{Part, stitch_parts};
 use mpw_sources::deck_of;
-use mpw_tiles::Snapshot;
-use mpw_told::{FirmFault, PartFile, check_fault, no_markers, parts_fault};
+use mpw_told::{FirmFault, PartFile, no_markers, parts_fault};
 use std::alloc::Global;
 
 /// What was checked: the deck, the structure's name, and the number of columns.
@@ -22,13 +20,12 @@ pub struct Subject {
     pub columns: u32,
 }
 
-/// The markers of a whole, with the structure's name, the number of columns, and a layout of that name under the deck, which stands
-/// for the one that was checked where the markers are listed.
+/// The markers of a whole, with the structure's name, the number of columns, and the deck.
 #[derive(Drop)]
 pub struct Whole {
     pub top: Name,
     pub columns: u32,
-    pub layout: Snapshot,
+    pub deck: Deck,
     pub book: Book,
 }
 
@@ -85,18 +82,6 @@ fn book_of(
     }
 }
 
-/// A layout of a structure of that name under that deck.
-fn layout_of(alloc: Global, deck: Deck, top: &Name) -> Result<Snapshot, FirmFault>
-    ensures deck { IfOk result (λ layout. layout.deck ≡ deck) }
-    ensures named { IfOk result (IsNamed top.now) }
-    ensures refused { IfErr result (IsOfBlank top.now) }
-{
-    match blank_layout(alloc, deck, top) {
-        Ok(layout) => Ok(layout),
-        Err(fault) => Err(check_fault(alloc, "mpw stitch", top.as_str(), &fault, &[])),
-    }
-}
-
 /// The same, without what the law tells of it.
 fn make_whole(alloc: Global, files: &[PartFile<'_>], parts: Vec<Part>) -> Result<Whole, FirmFault>
     ensures whole { IfOk result (IsWholeOf parts.items) }
@@ -104,11 +89,10 @@ fn make_whole(alloc: Global, files: &[PartFile<'_>], parts: Vec<Part>) -> Result
 {
     let Subject { deck, top, columns } = subject_of(alloc, files, parts.as_slice())?;
     let book = book_of(alloc, files, columns, &deck, parts)?;
-    let layout = layout_of(alloc, deck, &top)?;
     Ok(Whole {
         top,
         columns,
-        layout,
+        deck,
         book,
     })
 }
@@ -116,11 +100,10 @@ fn make_whole(alloc: Global, files: &[PartFile<'_>], parts: Vec<Part>) -> Result
 /// The whole that parts of these files make. What is listed of it is what a check lists of the files that the first part was made of.
 ///
 /// # Errors
-/// `Refused` without parts, where the first one's deck has a fault, and where the parts don't fit, in this order; and `Memory`.
+/// `Refused` without parts, if the first one's deck has a fault, and if the parts don't fit, in this order; and `Memory`.
 pub fn whole_of(alloc: Global, files: &[PartFile<'_>], parts: Vec<Part>) -> Result<Whole, FirmFault>
     ensures whole { IfOk result (IsWholeOf parts.items) }
     ensures listed { IfOk result (IsListedAsCheck parts.items) }
-    ensures each { IfOk result IsListedAsEach }
     ensures refused { IfErr result (IsOfWhole files.now parts.items) }
 {
     wholes_are_listed_as_checks();

@@ -3,7 +3,7 @@ use Rattle.std.proofs.Common.{◌≡◌, ◌<◌, ◌≤◌, ◌+◌, ◌-◌, �
 use Rattle.std.specs.Prelude.{min, not, slice_index}
 use Rattle.std.proofs.lemmas.List.{length-take-le}
 use Rattle.std.proofs.lemmas.List.Filters.{length-filter_both, length-filter_more}
-use Rattle.mpw_limits.specs.Limits.{count_of}
+use Rattle.mpw_listing.specs.Limited.{count_of}
 use Rattle.mpw_markers.specs.declared.marker.Marker.{Marker}
 use Rattle.mpw_outputs.specs.Counted.{capped}
 use Rattle.mpw_outputs.specs.Internal.Counted.{AreCounts}

@@ -2,7 +2,6 @@ pub mod Apart
 pub mod Counted
 pub mod Internal
 pub mod LeftOut
-pub mod Listed
 pub mod Outputs
 pub mod Texts
 pub mod Written

@@ -4,8 +4,8 @@ use Rattle.std.specs.List.{list_any}
 use Rattle.mpw_geom.specs.Names.{name_eq}
 use Rattle.mpw_told.specs.declared.fault.FirmFault.{FirmFault}
 use Rattle.mpw_told.specs.declared.fault.FirmFault.TheVariants.{Memory}
-use Rattle.mpw_wire.specs.declared.fault.WireFault.{WireFault}
-use Rattle.mpw_wire.specs.declared.fault.WireFault.TheVariants as wire
+use Rattle.mpw_outputs.specs.declared.texts.WriteFault.{WriteFault}
+use Rattle.mpw_outputs.specs.declared.texts.WriteFault.TheVariants as write
 use Rattle.mpw_told.specs.Told.{Fails, OutputFails, output_text, reason_text, unwritten_text, CannotBeWritten}
 
 -- ---- what was put
@@ -51,10 +51,9 @@ IsUntaken None full fault = Fails (output_text full) fault
 IsUntaken (Some file) full fault = Fails (unwritten_text file (reason_text full)) fault
 
 -- By what came of writing: out of memory as such, and each other fault as that of the place.
-abbrev pub IsOfWrite : Option (List ℕ) → WireFault → (full : Bool) → FirmFault → Type 0
-IsOfWrite place wire.Memory full fault = fault ≡ Memory
-IsOfWrite place wire.Write full fault = IsUntaken place full fault
-IsOfWrite place wire.Read full fault = IsUntaken place full fault
+abbrev pub IsOfWrite : Option (List ℕ) → WriteFault → (full : Bool) → FirmFault → Type 0
+IsOfWrite place write.Memory full fault = fault ≡ Memory
+IsOfWrite place write.Device full fault = IsUntaken place full fault
 
 -- ---- which file a name leads to
 

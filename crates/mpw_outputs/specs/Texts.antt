@@ -5,9 +5,9 @@ use Rattle.mpw_outputs.specs.declared.outputs.Place.TheVariants as place
 use Rattle.mpw_outputs.specs.declared.texts.Text.{Text}
 use Rattle.mpw_outputs.specs.declared.texts.Text.TheVariants as text
 use Rattle.mpw_outputs.specs.Counted.{counts_text}
-use Rattle.mpw_outputs.specs.Listed.{listed_text}
 use Rattle.mpw_outputs.specs.Outputs.{Kept}
-use Rattle.mpw_limits.specs.Limits.{limited_of, limited_text}
+use Rattle.mpw_listing.specs.Limited.{limited_of, limited_text}
+use Rattle.mpw_listing.specs.Listing.{listing_of}
 use Rattle.mpw_parts.specs.Text.{part_text}
 use Rattle.mpw_picture.specs.Text.{picture_text}
 use Rattle.mpw_report.specs.Content.{content_of}
@@ -19,11 +19,11 @@ place_of place.Standard = None
 place_of (place.File name) = Some name.now
 
 abbrev pub text_of : Text → List ℕ
-text_of (text.Listing layout book) = listed_text layout.now book.now
+text_of (text.Listing listing) = listing_of listing.now
 text_of (text.Limited listing) = limited_text (limited_of listing.now)
 text_of (text.Counts rules counts) = counts_text rules.now counts.now.rules.now counts.now.all
 text_of (text.Report report) = full_text (content_of report.now)
-text_of (text.Picture layout top picture) = picture_text layout.now.deck.rules top.now picture.now
+text_of (text.Picture rules top picture) = picture_text rules.now top.now picture.now
 text_of (text.Part part) = part_text part.now
 text_of (text.Told told) = told.now
 

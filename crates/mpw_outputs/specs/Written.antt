@@ -3,13 +3,13 @@ use Rattle.std.specs.Prelude.{Result, Ok, Err, if◌then◌else◌}
 use Rattle.std.specs.IoError.{error_kind}
 use Rattle.std.specs.declared.io.Error.{Error}
 use Rattle.mpw_told.specs.Status.{is_memory}
-use Rattle.mpw_wire.specs.declared.fault.WireFault.{WireFault}
-use Rattle.mpw_wire.specs.declared.fault.WireFault.TheVariants as wire
+use Rattle.mpw_outputs.specs.declared.texts.WriteFault.{WriteFault}
+use Rattle.mpw_outputs.specs.declared.texts.WriteFault.TheVariants as write
 
 -- Out of memory stays that, and every other error is one of the sink.
-abbrev pub fault_of : Error → WireFault
-fault_of error = if is_memory (error_kind error) then wire.Memory else wire.Write
+abbrev pub fault_of : Error → WriteFault
+fault_of error = if is_memory (error_kind error) then write.Memory else write.Device
 
-abbrev pub outcome_of : Result Unit Error → Result Unit WireFault
+abbrev pub outcome_of : Result Unit Error → Result Unit WriteFault
 outcome_of (Ok done) = Ok done
 outcome_of (Err error) = Err (fault_of error)

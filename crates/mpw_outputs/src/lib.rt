@@ -7,7 +7,6 @@
 #![tactic(auto)]
 
 mod host;
-mod listing;
 mod outputs;
 mod spot;
 mod summary;

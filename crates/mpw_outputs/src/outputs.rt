@@ -4,9 +4,9 @@ ghost use Rattle.mpw_outputs.specs.Outputs.{Kept, Spot, Grows, IsOfWrite, IsUnpu
 ghost use Rattle.mpw_outputs.specs.Texts.{kept_of, place_of, text_of};
 
 use crate::spot::FileSpot;
-use crate::texts::{Text, Writer, write_text};
+use crate::texts::{Text, WriteFault, Writer, write_text};
+use mpw_devices::Sink;
 use mpw_told::{FirmFault, output_fault, unwritten, write_reason};
-use mpw_wire::{Sink, WireFault};
 use std::alloc::{AllocError, Global};
 
 /// A place for a text.
@@ -117,12 +117,12 @@ fn untaken(alloc: Global, to: Place<'_>, is_full: bool) -> FirmFault
 
 /// The result of writing a text to a place, and whether no space was left there.
 #[tactic(auto, using(crate::proofs::Unput::untaken_is_unput, crate::proofs::Unput::memory_is_unput))]
-pub fn unput(alloc: Global, to: Place<'_>, why: WireFault, is_full: bool) -> FirmFault
+pub fn unput(alloc: Global, to: Place<'_>, why: WriteFault, is_full: bool) -> FirmFault
     ensures place { IsUnput (place_of to.entry) result }
     ensures told { IsOfWrite (place_of to.entry) why is_full result }
 {
     match why {
-        WireFault::Memory => FirmFault::Memory,
-        WireFault::Read | WireFault::Write => untaken(alloc, to, is_full),
+        WriteFault::Memory => FirmFault::Memory,
+        WriteFault::Device => untaken(alloc, to, is_full),
     }
 }

@@ -2,15 +2,15 @@
 ghost use Rattle.std.specs.Prelude.{◌≡◌, ◌==◌, ◌<◌, ◌+◌, ◌^◌, ◌++◌, ℕ, if◌then◌else◌, get_or, length, replicate, slice_index, IfOk};
 ghost use Rattle.std.specs.String.{string_bytes};
 ghost use Rattle.mpw_outputs.specs.Counted.{count_line, counts_text, rule_counts, rule_lines};
+ghost use Rattle.mpw_text.specs.Writing.{Adds};
 ghost use Rattle.mpw_outputs.specs.LeftOut.{left_out_line, left_out_lines, left_out_note, left_out_text};
-ghost use Rattle.mpw_outputs.specs.Listed.{Lists};
 
 use itoa::Buffer;
 use mpw_deck::Rule;
 use mpw_markers::Marker;
-use mpw_reply_text::write_bytes;
-use mpw_wire::{Sink, WireFault};
+use mpw_text::put;
 use std::alloc::{AllocError, Global};
+use std::io::{self, Write};
 
 /// How many markers each rule has, by its place in the deck, and how many there are, both up to 2^64 - 1.
 #[derive(Clone, Copy, Drop)]
@@ -58,15 +58,12 @@ pub fn rule_counts(
     Ok(counts)
 }
 
-/// Puts the line of a name and a number behind a text.
+/// Writes the line of a name and a number.
 #[tactic(auto, unfolding(crate::specs::Counted::count_line))]
-fn add_line(text: &mut String, name: &str, count: usize) -> Result<(), AllocError>
-    ensures { IfOk result (λ _. string_bytes text.new ≡ string_bytes text.old ++ count_line name.now count) }
+fn put_line<W: Write>(writer: &mut W, name: &str, count: usize) -> io::Result<()>
+    ensures { Adds W.contents writer.old writer.new result (count_line name.now count) }
 {
-    text.push_str(name)?;
-    text.push_str(" ")?;
-    text.push_str(Buffer::new().format(count))?;
-    text.push_str("\n")
+    put(writer, &[name, " ", Buffer::new().format(count), "\n"])
 }
 
 /// The number at a place, or 0.
@@ -79,24 +76,14 @@ fn number_at(numbers: &[usize], place: usize) -> usize
     }
 }
 
-/// The lines of the rules that have so many markers.
-fn rule_lines(alloc: Global, rules: &[Rule], counts: &[usize]) -> Result<String, AllocError>
-    ensures { IfOk result (λ text. string_bytes text ≡ rule_lines rules.now counts.now) }
+/// Writes the lines of rules that have so many markers.
+fn put_rules<W: Write>(writer: &mut W, rules: &[Rule], counts: &[usize]) -> io::Result<()>
+    ensures { Adds W.contents writer.old writer.new result (rule_lines rules.now counts.now) }
 {
-    let mut text = String::new(alloc);
     for (place, rule) in rules.iter().enumerate() {
-        add_line(&mut text, rule.name.as_str(), number_at(counts, place))?;
+        put_line(writer, rule.name.as_str(), number_at(counts, place))?;
     }
-    Ok(text)
-}
-
-/// A line for each rule of a deck, with its name and how many markers it has, and one for all.
-fn counts_text(alloc: Global, rules: &[Rule], counts: &Counts<'_>) -> Result<String, AllocError>
-    ensures { IfOk result (λ text. string_bytes text ≡ counts_text rules.now counts.now.rules.now counts.now.all) }
-{
-    let mut text = rule_lines(alloc, rules, counts.rules)?;
-    add_line(&mut text, "all", counts.all)?;
-    Ok(text)
+    Ok(())
 }
 
 /// The note of a rule of whose markers some are left out.
@@ -160,19 +147,14 @@ pub fn left_out_text(
     }
 }
 
-/// Writes a line for each rule of a deck, with its name and how many markers it has, and one for all. A rule without a number has 0. It takes
-/// the text's size, some 20 bytes and a name for each rule.
+/// Writes a line for each rule of a deck, with its name and how many markers it has, and one for all. A rule without a number has 0. It takes no
+/// memory.
 ///
 /// # Errors
-/// `Write` where the sink failed, and `Memory`.
-pub fn write_counts<W: Sink>(
-    alloc: Global,
-    rules: &[Rule],
-    counts: &Counts<'_>,
-    writer: &mut W,
-) -> Result<(), WireFault>
-    ensures { Lists W.contents W.failures writer.old writer.new result (counts_text rules.now counts.now.rules.now counts.now.all) }
+/// Those of the writer, which then has a part of the text.
+pub fn write_counts<W: Write>(writer: &mut W, rules: &[Rule], counts: &Counts<'_>) -> io::Result<()>
+    ensures { Adds W.contents writer.old writer.new result (counts_text rules.now counts.now.rules.now counts.now.all) }
 {
-    let text = counts_text(alloc, rules, counts)?;
-    write_bytes(writer, text.as_bytes())
+    put_rules(writer, rules, counts.rules)?;
+    put_line(writer, "all", counts.all)
 }

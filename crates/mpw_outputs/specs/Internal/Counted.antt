@@ -1,6 +1,6 @@
 -- Markers counted by rules, while they are counted.
 use Rattle.std.specs.Prelude.{◌≡◌, ◌<◌, ℕ, List, length, slice_index}
-use Rattle.mpw_limits.specs.Limits.{count_of}
+use Rattle.mpw_listing.specs.Limited.{count_of}
 use Rattle.mpw_markers.specs.declared.marker.Marker.{Marker}
 
 -- Each number is that of the markers of the rule at its place.

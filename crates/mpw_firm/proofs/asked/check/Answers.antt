@@ -1,6 +1,8 @@
-use Rattle.std.proofs.Common.{◌∙◌, ◌+◌, ◌-◌, ◌^◌, min, List, ℕ, Option, Some, ap, length, map, subst, sym}
+use Rattle.std.proofs.Common.{◌≡◌, ◌∙◌, ◌+◌, ◌-◌, ◌^◌, min, List, ℕ, Option, Some, ap, length, map, subst, sym}
 use Rattle.std.proofs.lemmas.List.{length-map}
 use Rattle.std.specs.String.{string_bytes}
+use Rattle.mpw_deck.specs.Decks.{Deck}
+use Rattle.mpw_deck.specs.declared.rule.Rule.{Rule}
 use Rattle.mpw_outputs.specs.Outputs.{Kept}
 use Rattle.mpw_report.specs.Content.{Noted, Told, fault_of, note_of}
 use Rattle.mpw_sources.specs.Notes.{notes_of}
@@ -34,24 +36,40 @@ returns g c =
     let many = sym (length-map c.as_slice-faults.result.now fault_of)
     ∙ ap (λ (ts : List Told). length ts) same
     ∙ length-map drawn.left_out.items told_seen in
-    let enough = subst (λ (e : Option ℕ). IsFoundOf e (length drawn.layout.deck.rules)
-    c.in_ok-found.field-0 book) c.enough_for.ensures is.2 in
-    let written = subst (λ (file : List ℕ). PutsAll options
+    let rules = c.as_slice-rules.result.now in
+    let given : rules ≡ drawn.layout.deck.rules =
+    c.as_slice-rules.ensures ∙ c.rules.ensures ∙ ap (λ (d : Deck). d.rules) c.deck.ensures in
+    let held = subst (λ (rs : List Rule). IsFoundOf c.enough_for.result (length rs)
+    c.in_ok-found.field-0 book) (sym given) is.2 in
+    let enough = subst (λ (e : Option ℕ). IsFoundOf e (length rules) c.in_ok-found.field-0 book)
+    c.enough_for.ensures held in
+    let ruled = subst (λ (rs : List Rule). PutsAll options drawn.layout
     (record {
-      original = Some file;
+      original = Some c.as_str-file.result.now;
       top = drawn.top;
-      layout = drawn.layout;
+      rules = rs;
       book = book;
       limit = choices.limit;
       notes = told;
       summary = choices.summary;
       faults = faults;
-    }) begun new) c.as_str-file.ensures.value (c.in_ok-write_all.ensures book enough) in
-    let noted = subst (λ (notes : List Noted). PutsAll options
+    }) begun new) given (c.in_ok-write_all.ensures book enough) in
+    let written = subst (λ (file : List ℕ). PutsAll options drawn.layout
+    (record {
+      original = Some file;
+      top = drawn.top;
+      rules = drawn.layout.deck.rules;
+      book = book;
+      limit = choices.limit;
+      notes = told;
+      summary = choices.summary;
+      faults = faults;
+    }) begun new) c.as_str-file.ensures.value ruled in
+    let noted = subst (λ (notes : List Noted). PutsAll options drawn.layout
     (record {
       original = Some (string_bytes options.file);
       top = drawn.top;
-      layout = drawn.layout;
+      rules = drawn.layout.deck.rules;
       book = book;
       limit = choices.limit;
       notes = notes;
@@ -59,11 +77,11 @@ returns g c =
       faults = faults;
     }) begun new)
     (ap (map note_of) c.as_slice-told.ensures.value ∙ c.in_ok-notes.ensures) written in
-    let left = subst (λ (ts : List Told). PutsAll options
+    let left = subst (λ (ts : List Told). PutsAll options drawn.layout
     (record {
       original = Some (string_bytes options.file);
       top = drawn.top;
-      layout = drawn.layout;
+      rules = drawn.layout.deck.rules;
       book = book;
       limit = choices.limit;
       notes = notes_of drawn.layout;
@@ -83,6 +101,6 @@ returns g c =
       count = capped_more (length book) (length drawn.left_out.items) c.in_ok-found.field-0.all _
           is.2.all (c.saturating_add.ensures
           ∙ ap (λ (n : ℕ). min (c.in_ok-found.field-0.all + n) (2 ^ 64 - 1)) many);
-      kept = subst (λ (old : Option (List Kept)). PutsAll options
+      kept = subst (λ (old : Option (List Kept)). PutsAll options drawn.layout
           (shown_by options choices drawn book) old new) c.in_ok-drawn.ensures.kept left;
     }

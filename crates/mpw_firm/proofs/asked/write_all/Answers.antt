@@ -15,7 +15,8 @@ pub returns : goal.returns
 returns g c = λ book is.
     let checked = c.args.checked.now in
     let report = option_map string_bytes c.args.options.now.report in
-    let rules = length checked.layout.now.deck.rules in
+    let rules = length checked.rules.now in
+    let layout = c.args.layout.now in
     let found = checked.found.now in
     let faults = map fault_of checked.faults.now in
     let all =
@@ -26,15 +27,16 @@ returns g c = λ book is.
     all_for (enough_listed report checked.summary checked.limit) rules found book all in
     let listed = c.in_ok-write_listed.ensures.kept book enough in
     let seen = subst (λ (ms : List Marker). IsViewOf
-    (option_map string_bytes c.in-Some.wanted.key) checked.layout.now ms (most_of checked.limit)
+    (option_map string_bytes c.in-Some.wanted.key) checked.rules.now layout ms (most_of checked.limit)
     view) same c.in_ok-view.ensures.view in
-    IfOk-weaker c.picture.result _ _
+    let picture = c.in_ok-drawn.drawn in
+    IfOk-weaker c.put_picture.result _ _
     (λ x p. rw c.in-Some.is (
       view,
-      p.0,
+      picture,
       seen,
-      subst (λ (ms : List Marker). IsDrawnWith checked.layout.now ms (areas_of faults) (length faults)
-          view p.0) same p.1,
-      grows_named _ _ _ _ _ _ _ c.as_str-file.ensures.value listed p.2,
+      subst (λ (ms : List Marker). IsDrawnWith layout ms (areas_of faults) (length faults) view picture)
+          same c.in_ok-drawn.ensures,
+      grows_named _ _ _ _ _ _ _ c.as_str.ensures.value listed p,
     ))
-    c.picture.ensures.kept
+    c.put_picture.ensures.kept

@@ -1,4 +1,4 @@
-use Rattle.mpw_firm.proofs.SameLines.{listed_as_checks}
+use Rattle.mpw_firm.proofs.ListedWholes.{listed_as_checks}
 use Rattle.mpw_firm.proofs.laws.wholes_are_listed_as_checks.Goals as goal
 
 pub returns : goal.returns

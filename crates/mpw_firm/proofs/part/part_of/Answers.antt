@@ -1,6 +1,6 @@
 use Rattle.std.proofs.Common.{◌≡◌, ◌∙◌, ◌+◌, ◌-◌, ℕ, List, length, take, drop, Option, Some, ap, sym, subst, arith}
 use Rattle.mpw_keys.specs.declared.column.Column.{Column}
-use Rattle.mpw_spread.specs.Ranges.{span_of}
+use Rattle.mpw_spread.specs.Ranges.{IsSpanOf}
 use Rattle.mpw_spread.specs.declared.range.Span.{Span}
 use Rattle.mpw_firm.proofs.part.part_of.Goals as goal
 
@@ -24,12 +24,15 @@ returns-clause-asked g c =
       columns = columns;
       cut = c.in_ok-columns.ensures.columns;
       told = ap (λ subject. subject.columns) (c.in_ok-part.ensures.subject ∙ c.subject_of-subject.ensures) ∙ all;
-      span = subst (λ n. span_of c.args.range n ≡ Some (record {
+      span = subst (λ (cs : List Column). IsSpanOf c.args.range (length cs) (Some (record {
         first = part.first;
         end = part.first + length part.lists;
-      })) all (sym c.in-Some.ensures.span
-          ∙ ap Some (span_by span part.first (length part.lists) c.in_ok-part.ensures.first
-          c.in_ok-part.ensures.count));
+      }))) c.as_slice-columns.ensures.value
+          (subst (λ s. IsSpanOf c.args.range (length c.as_slice-columns.result.now) (Some s))
+          (span_by span part.first (length part.lists) c.in_ok-part.ensures.first
+          c.in_ok-part.ensures.count)
+          (subst (IsSpanOf c.args.range (length c.as_slice-columns.result.now)) c.in-Some.is
+          c.in_ok-found.ensures.span));
       own = subst (λ n. part.columns ≡ take n (drop part.first columns)) (sym many)
           (subst (λ n. part.columns ≡ take (span.end - span.first) (drop n columns))
           (sym c.in_ok-part.ensures.first)

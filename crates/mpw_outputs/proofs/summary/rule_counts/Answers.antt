@@ -1,7 +1,7 @@
 use Rattle.std.proofs.Common.{List, ap, ◌∙◌, arith}
 use Rattle.std.proofs.lemmas.List.{take_all}
 use Rattle.std.proofs.lemmas.List.FromFn.{fill_by_all}
-use Rattle.mpw_limits.specs.Limits.{count_of}
+use Rattle.mpw_listing.specs.Limited.{count_of}
 use Rattle.mpw_markers.specs.declared.marker.Marker.{Marker}
 use Rattle.mpw_outputs.specs.Counted.{capped}
 use Rattle.mpw_outputs.proofs.Counted.{counts_few, counts_on, count_whole}

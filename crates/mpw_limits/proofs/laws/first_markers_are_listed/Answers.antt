@@ -1,5 +1,0 @@
-use Rattle.mpw_limits.proofs.First.{first_are_listed}
-use Rattle.mpw_limits.proofs.laws.first_markers_are_listed.Goals as goal
-
-pub returns : goal.returns
-returns c = first_are_listed

@@ -1,7 +1,0 @@
-//! A law about the definitions.
-ghost use Rattle.mpw_limits.specs.Limits.{FirstMarkersAreListed};
-
-/// The first markers of each rule, up to the limit, have the same listing as all markers.
-pub fn first_markers_are_listed()
-    ensures { FirstMarkersAreListed }
-{}

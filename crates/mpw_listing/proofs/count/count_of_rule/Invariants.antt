@@ -1,0 +1,7 @@
+use Rattle.std.proofs.Common.{◌≡◌, ◌≤◌, take}
+use Rattle.mpw_listing.specs.Limited.{count_of}
+use Rattle.mpw_listing.proofs.count.count_of_rule.Given as goal
+
+abbrev pub invariant-loop-marker : goal.invariant-loop-marker
+invariant-loop-marker l =
+    (l.count ≡ count_of (take l.marker-index l.markers) l.place) × (l.count ≤ l.marker-index)

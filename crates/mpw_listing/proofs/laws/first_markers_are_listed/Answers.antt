@@ -1,0 +1,5 @@
+use Rattle.mpw_listing.proofs.First.{first_are_listed}
+use Rattle.mpw_listing.proofs.laws.first_markers_are_listed.Goals as goal
+
+pub returns : goal.returns
+returns c = first_are_listed

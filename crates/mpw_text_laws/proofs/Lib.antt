@@ -1,0 +1,4 @@
+-- The lemmas about listings and replies.
+mod Lines
+mod Replies
+mod Touched

@@ -1,0 +1,6 @@
+use Rattle.mpw_text_laws.proofs.Replies.{desks_list}
+use Rattle.mpw_text_laws.proofs.laws.desks_list_as_checks.Goals as goal
+
+pub returns : goal.returns
+returns c =
+    desks_list c.shelves_have_their_numbers.ensures.origins c.each_marker_meets_some.ensures
