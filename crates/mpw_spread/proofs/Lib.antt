@@ -1,4 +1,5 @@
 mod Listed
 mod Made
+mod Reach
 mod Shares
 mod Zipped

@@ -1,47 +1,67 @@
 -- Which columns are asked for.
-use Rattle.std.specs.Prelude.{◌≡◌, ◌==◌, ◌+◌, ◌-◌, ◌*◌, ◌/◌, ◌&&◌, ℕ, nat_le, nat_lt, List, [], ◌∷◌, Option, None, Some, option_map, option_and_then, if◌then◌else◌}
+use Rattle.std.specs.Prelude.{◌≡◌, ◌==◌, ◌≤◌, ◌+◌, ◌-◌, ◌*◌, ◌&&◌, ℕ, zero, suc, nat_le, nat_lt, List, [], ◌∷◌, length, take, drop, sum, All, Option, None, Some, option_map, option_and_then, if◌then◌else◌}
 use Rattle.std.specs.List.{slice_split}
 use Rattle.mpw_text.specs.Text.{number_of}
 use Rattle.mpw_spread.specs.declared.range.Span.{Span}
 use Rattle.mpw_spread.specs.declared.range.ColumnRange.{ColumnRange}
 use Rattle.mpw_spread.specs.declared.range.ColumnRange.TheVariants as ranges
 
--- ---- the columns of a layout with so many
+-- ---- the columns of a layout, of which each has an estimated cost
 
--- the column behind the first so many of shares that are as equal as whole columns can be
-abbrev pub border_of : (shares count total : ℕ) → ℕ
-border_of shares count total = shares * total / count
+-- how many of the first columns it takes until their costs, each `count` times, reach so much
+unfoldable pub reach_of : (count wanted : ℕ) → List ℕ → ℕ
+reach_of count zero costs = 0
+reach_of count (suc wanted) [] = 0
+reach_of count (suc wanted) (cost ∷ costs) =
+    suc (reach_of count (suc wanted - count * cost) costs)
+
+-- the first column before which the costs reach so many of `count` equal shares of all
+abbrev pub border_of : (shares count : ℕ) → List ℕ → ℕ
+border_of shares count costs = reach_of count (shares * sum costs) costs
 
 -- a share, counted from 1
-unfoldable pub share_of : (number count total : ℕ) → Option Span
-share_of number count total =
+unfoldable pub share_of : (number count : ℕ) → List ℕ → Option Span
+share_of number count costs =
     if nat_le 1 number && nat_le number count
     then Some (record {
-      first = border_of (number - 1) count total;
-      end = border_of number count total;
+      first = border_of (number - 1) count costs;
+      end = border_of number count costs;
     })
     else None
 
--- the columns from one to another, both included, where all are there
+-- the columns from one to another, both included, if all are there
 unfoldable pub columns_from : (first last total : ℕ) → Option Span
 columns_from first last total =
     if nat_le first last && nat_lt last total then Some (record { first = first; end = last + 1 })
     else None
 
-abbrev pub span_of : ColumnRange → ℕ → Option Span
-span_of (ranges.Columns first last) total = columns_from first last total
-span_of (ranges.Share number count) total = share_of number count total
+abbrev pub span_of : ColumnRange → List ℕ → Option Span
+span_of (ranges.Columns first last) costs = columns_from first last (length costs)
+span_of (ranges.Share number count) costs = share_of number count costs
 
--- The shares of one number begin at column 0, each where the one before ends, up to the last column.
+-- The columns of a range, of so many that each cost something.
+pub record IsSpanOf (range : ColumnRange) (total : ℕ) (span : Option Span) : Type 0 where
+  pub costs : List ℕ
+  pub each : length costs ≡ total
+  pub some : All (λ cost. 1 ≤ cost) costs
+  pub span_is : span_of range costs ≡ span
+
+-- The shares of one number begin at column 0, each where the one before ends, up to the last column if each column costs something.
+-- None costs more than an equal share of all and the dearest column together.
 pub record SharesFollowOn : Type 0 where
-  pub begin : (count total : ℕ) (one : Span) → span_of (ranges.Share 1 count) total ≡ Some one
-      → one.first ≡ 0
-  pub follow : (number count total : ℕ) (one next : Span)
-      → span_of (ranges.Share number count) total ≡ Some one
-      → span_of (ranges.Share (number + 1) count) total ≡ Some next
+  pub begin : (count : ℕ) (costs : List ℕ) (one : Span)
+      → span_of (ranges.Share 1 count) costs ≡ Some one → one.first ≡ 0
+  pub follow : (number count : ℕ) (costs : List ℕ) (one next : Span)
+      → span_of (ranges.Share number count) costs ≡ Some one
+      → span_of (ranges.Share (number + 1) count) costs ≡ Some next
       → next.first ≡ one.end
-  pub finish : (count total : ℕ) (one : Span)
-      → span_of (ranges.Share count count) total ≡ Some one → one.end ≡ total
+  pub finish : (count : ℕ) (costs : List ℕ) (one : Span) → All (λ cost. 1 ≤ cost) costs
+      → span_of (ranges.Share count count) costs ≡ Some one → one.end ≡ length costs
+  pub even : (number count most : ℕ) (costs : List ℕ) (one : Span)
+      → All (λ cost. cost ≤ most) costs
+      → span_of (ranges.Share number count) costs ≡ Some one
+      → count * sum (take (one.end - one.first) (drop one.first costs))
+      ≤ sum costs + count * most
 
 -- ---- what a text names
 

@@ -1,5 +1,5 @@
 //! Which columns are asked for.
-ghost use Rattle.std.specs.Prelude.{◌≡◌, ◌≤◌, ◌*◌, ◌/◌, IfOk, IfSome, map};
+ghost use Rattle.std.specs.Prelude.{◌≡◌, ◌≤◌, ◌^◌, length, sum, IfOk, IfSome, map};
 ghost use Rattle.mpw_spread.specs.Ranges.{border_of, share_of, columns_from, span_of, range_of, share_by, columns_by};
 
 use mpw_text::{parts, read_number};
@@ -29,29 +29,48 @@ pub struct Span {
     pub end: u32,
 }
 
-/// The column behind the first so many of shares.
-fn border(shares: u32, count: u32, total: u32) -> u32
-    requires some { 1 ≤ count }
-    requires within { shares ≤ count }
-    ensures border { result ≡ border_of shares count total }
-    ensures within { result ≤ total }
+/// The sum of costs: less than 2^54, since there are at most 2^22.
+fn sum_of(costs: &[u32]) -> u64
+    requires { length costs.now ≤ 2 ^ 22 }
+    ensures { result ≡ sum costs.now }
 {
-    (u64::from(shares) * u64::from(total) / u64::from(count)) as u32
+    let mut sum = 0u64;
+    for index in 0..costs.len() {
+        sum += u64::from(costs[index]);
+    }
+    sum
+}
+
+/// The first column before which the costs reach so many of `count` equal shares of all.
+fn border(shares: u32, count: u32, costs: &[u32]) -> u32
+    requires { length costs.now ≤ 2 ^ 22 }
+    ensures border { result ≡ border_of shares count costs.now }
+    ensures within { result ≤ length costs.now }
+{
+    let mut wanted = u128::from(shares) * u128::from(sum_of(costs));
+    for index in 0..costs.len() {
+        if wanted == 0 {
+            return index as u32;
+        }
+        wanted = wanted.saturating_sub(u128::from(count) * u128::from(costs[index]));
+    }
+    costs.len() as u32
 }
 
 /// The columns of a share.
 #[tactic(auto, unfolding(crate::specs::Ranges::share_of))]
-fn share(number: u32, count: u32, total: u32) -> Option<Span>
-    ensures span { result ≡ share_of number count total }
+fn share(number: u32, count: u32, costs: &[u32]) -> Option<Span>
+    requires { length costs.now ≤ 2 ^ 22 }
+    ensures span { result ≡ share_of number count costs.now }
     ensures ordered { IfSome result (λ s. s.first ≤ s.end) }
-    ensures within { IfSome result (λ s. s.end ≤ total) }
+    ensures within { IfSome result (λ s. s.end ≤ length costs.now) }
 {
     if number == 0 || number > count {
         return None;
     }
     Some(Span {
-        first: border(number - 1, count, total),
-        end: border(number, count, total),
+        first: border(number - 1, count, costs),
+        end: border(number, count, costs),
     })
 }
 
@@ -72,16 +91,17 @@ fn columns(first: u32, last: u32, total: u32) -> Option<Span>
 }
 
 impl ColumnRange {
-    /// The columns that these are of a layout with that many: none where it has not all of them, or there is no such share. A share
-    /// of a layout with fewer columns may have none.
-    pub fn span(self, total: u32) -> Option<Span>
-        ensures span { result ≡ span_of self total }
+    /// The columns that these are of a layout whose columns have these estimated costs: none if it has not all of them, or if there is no
+    /// such share. A share of a layout with fewer columns may have none. Cost: three passes over the costs.
+    pub(crate) fn span(self, costs: &[u32]) -> Option<Span>
+        requires { length costs.now ≤ 2 ^ 22 }
+        ensures span { result ≡ span_of self costs.now }
         ensures ordered { IfSome result (λ s. s.first ≤ s.end) }
-        ensures within { IfSome result (λ s. s.end ≤ total) }
+        ensures within { IfSome result (λ s. s.end ≤ length costs.now) }
     {
         match self {
-            ColumnRange::Columns(first, last) => columns(first, last, total),
-            ColumnRange::Share(number, count) => share(number, count, total),
+            ColumnRange::Columns(first, last) => columns(first, last, costs.len() as u32),
+            ColumnRange::Share(number, count) => share(number, count, costs),
         }
     }
 }

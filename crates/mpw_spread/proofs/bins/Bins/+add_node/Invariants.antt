@@ -1,0 +1,4 @@
+use Rattle.mpw_spread.proofs.bins.Bins.+add_node.Given as goal
+
+abbrev pub decreases-add_node : goal.decreases-add_node
+decreases-add_node l = l.depth

@@ -1,0 +1,9 @@
+use Rattle.std.proofs.Common.{◌≡◌, ◌≤◌, ◌+◌, ◌*◌, length, drop}
+use Rattle.mpw_spread.specs.Ranges.{reach_of, border_of}
+use Rattle.mpw_spread.proofs.range.border.Given as goal
+
+abbrev pub invariant-loop-index : goal.invariant-loop-index
+invariant-loop-index l =
+    (l.index ≤ length l.costs)
+    × (l.index + reach_of l.count l.wanted (drop l.index l.costs) ≡ border_of l.shares l.count
+    l.costs)
