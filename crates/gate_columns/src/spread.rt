@@ -100,15 +100,15 @@ fn part_of<T: Threads + Sync>(
     let Some(range) = read_range(alloc, text.as_bytes())? else {
         return Ok(None);
     };
-    let Some(span) = range.span(total) else {
-        return Ok(None);
-    };
-    let (library, deck, top) = (&layout.library, layout.deck.clone()?, layout.top.copy()?);
-    let subject = subject_of(library.as_slice(), deck, top, snapshot.extent(), total);
     let plan = Plan {
         snapshot,
         columns: columns.as_slice(),
     };
+    let Some(span) = plan.span(alloc, range)? else {
+        return Ok(None);
+    };
+    let (library, deck, top) = (&layout.library, layout.deck.clone()?, layout.top.copy()?);
+    let subject = subject_of(library.as_slice(), deck, top, snapshot.extent(), total);
     Ok(Some(check_part(threads, alloc, subject, plan, span, &mut Silent)?))
 }
 

@@ -1,7 +1,7 @@
 //! A source and a sink in memory that fail at a place.
 ghost use Rattle.std.specs.Prelude.{◌≡◌, [], None, false};
 
-use mpw_wire::{DeviceFault, Sink, Source};
+use mpw_devices::{DeviceFault, Sink, Source};
 use std::alloc::Global;
 
 /// A text that a source gives, byte by byte, and the place at which it fails.

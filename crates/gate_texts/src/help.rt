@@ -1,5 +1,8 @@
-//! The table of `mpw help` as the tables of docs/: requests, commands, denials and codes, each with its columns.
+//! The table of `mpw help` as the tables of docs/: requests, commands, denials and codes, each with its columns. Before it is printed, its
+//! requests are compared with the table of `mpw_requests`.
+use anyhow::{Result, bail};
 use mpw_help::{Detail, Entry, Table, tables};
+use mpw_requests::{ALL, Verb, form_of};
 use std::io;
 
 /// The head of a table whose entries are like this one.
@@ -36,10 +39,37 @@ fn print_table(rt: &HostRuntime, table: &Table) -> io::Result<()> {
     Ok(())
 }
 
+/// Whether the help's form is the verb's word and its operands.
+fn is_form(form: &str, verb: Verb) -> bool {
+    let row = form_of(verb);
+    form.len() == row.word.len().saturating_add(row.operands.len())
+        && form.starts_with(row.word)
+        && form.ends_with(row.operands)
+}
+
+/// Compares the requests of a table with the verbs from that one on, and returns the place after them.
+fn compare(table: &Table, from: usize) -> Result<usize> {
+    let mut place = from;
+    for entry in table.entries {
+        if let Detail::Request { .. } = entry.detail {
+            match ALL.get(place) {
+                Some(verb) if is_form(entry.form, *verb) => place = place.saturating_add(1),
+                _ => bail!("a form of the help"),
+            }
+        }
+    }
+    Ok(place)
+}
+
 /// Prints all tables of the help.
-pub(crate) fn run(rt: &HostRuntime) -> io::Result<()> {
+pub(crate) fn run(rt: &HostRuntime) -> Result<()> {
+    let mut place = 0;
     for table in tables().iter() {
+        place = compare(table, place)?;
         print_table(rt, table)?;
+    }
+    if place != ALL.len() {
+        bail!("a request that the help lacks");
     }
     Ok(())
 }

@@ -19,7 +19,7 @@ fn run(rt: &HostRuntime, name: &str, lines: &str) -> Result<()> {
         "stored" => stored::run(rt, lines),
         "report" => report::run(rt, lines),
         "picture" => picture::run(rt, lines),
-        "help" => Ok(help::run(rt)?),
+        "help" => help::run(rt),
         _ => bail!("no table has this name"),
     }
 }

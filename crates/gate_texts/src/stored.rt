@@ -6,11 +6,9 @@
 //!   are a request's;
 //! - `grant` tells the stored lines of grants whose objects are of either kind, and reads them back.
 use anyhow::{Context, Result, bail};
-use mpw_deck::DeckText;
 use mpw_geom::Name;
-use mpw_library::LibraryText;
 use mpw_permissions::{Grant, Object, Operation};
-use mpw_requests::{LayoutRequest, PolicyRequest, Request, SharedRequest, WaferRequest};
+use mpw_requests::{PolicyRequest, Request, SharedRequest};
 use mpw_stored_text::{read_stored, stored_line, stored_payload};
 use mpw_wire::{LineAsk, parse_line};
 use std::alloc::{AllocError, Global};
@@ -19,24 +17,11 @@ fn zeros(alloc: Global, count: usize) -> Result<Vec<u8>, AllocError> {
     vec![in alloc; 0u8; count.min(65535)]
 }
 
-/// The submission of that many zeros.
-fn submission(alloc: Global, cell: Name, top: Name, count: usize) -> Result<Request, AllocError> {
-    let text = LibraryText::read(alloc, zeros(alloc, count)?)?;
-    Ok(Request::Layout(LayoutRequest::Submit { cell, top, text }))
-}
-
-/// The deck of that many zeros.
-fn deck(alloc: Global, count: usize) -> Result<Request, AllocError> {
-    let text = DeckText::read(alloc, zeros(alloc, count)?)?;
-    Ok(Request::Wafer(WaferRequest::Deck { text }))
-}
-
 /// The request of a line; it submits zeros.
 fn request_of(alloc: Global, line: &str) -> Result<SharedRequest> {
     let request = match parse_line(alloc, line.as_bytes())? {
         LineAsk::Request(request) => return Ok(request),
-        LineAsk::Submission { cell, top, length } => submission(alloc, cell, top, length)?,
-        LineAsk::Deck { length } => deck(alloc, length)?,
+        LineAsk::Upload { upload, length } => upload.with(alloc, zeros(alloc, length)?)?,
         LineAsk::Long | LineAsk::Form => bail!("a request's line"),
     };
     Ok(SharedRequest::new(alloc, request)?)

@@ -2,7 +2,7 @@
 ghost use Rattle.std.specs.Prelude.{None};
 
 use anyhow::Result as Told;
-use mpw_wire::{Counted, Sink};
+use mpw_devices::{Counted, Sink};
 use std::io;
 use std::io::Write;
 
