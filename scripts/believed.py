@@ -30,6 +30,8 @@ LAWS = {
     ("mpw_hier/specs/Reach.antt", "is_cyclic"): ("mpw_hier/specs/Reach.antt", "CyclesAreFound"),
     ("mpw_hier/specs/Reach.antt", "external_names"): ("mpw_hier/specs/Reach.antt", "NamesOutsideAreFound"),
     ("mpw_hier/specs/Reach.antt", "is_far"): ("mpw_hier/specs/Reach.antt", "FarExtentsAreFound"),
+    ("mpw_requests/specs/Parts.antt", "request_of"): ("mpw_requests/specs/Parts.antt", "RequestsHaveTheirParts"),
+    ("mpw_requests/specs/Parts.antt", "upload_of"): ("mpw_requests/specs/Parts.antt", "RequestsHaveTheirParts"),
 }
 ITEM = re.compile(r"(?:(?:pub|abbrev|unfoldable|opaque|record|data)\s+)+(?P<name>[^\s:({]+)")
 USE = re.compile(r"^(?:pub )?use (?P<path>[\w.]+?)(?:\.\{(?P<names>[^}]*)\})?(?: as (?P<alias>[\w.]+))?\s*$", re.S)

@@ -140,8 +140,7 @@ def lacking_requests(words):
         for variant in variants(f"crates/mpw_requests/src/{file}.rt", enum)
         if enum != "Request" or variant in ("Whoami", "Trail")
     }
-    for file in ("form", "request"):
-        asked |= set(re.findall(r'is\(verb, "(\w+)"\)', read(f"crates/mpw_wire/src/{file}.rt")))
+    asked |= set(re.findall(r'Verb::\w+ => \w+\("(\w+)"', read("crates/mpw_requests/src/table.rt")))
     return [f"request {word}" for word in sorted(asked ^ words)]
 
 

@@ -166,7 +166,7 @@ def tried_together(tree, batch, seconds):
             before[file] = old.read()
         with open(file, "w", encoding="utf-8") as new:
             new.write(text)
-    words = ["rt", "check", *(word for function in batch for word in ("--only", function))]
+    words = [f"{tree}/scripts/rt", "check", "--jobs", "1", *(word for function in batch for word in ("--only", function))]
     try:
         ran = subprocess.run(words, cwd=f"{tree}/crates/{crate}", stdout=subprocess.PIPE, stderr=subprocess.STDOUT, text=True, timeout=seconds,
                              check=False) if texts else None
