@@ -15,13 +15,13 @@ ghost use Rattle.std.specs.Io.Iter.{u64_saturate};
 ghost use Rattle.std.specs.Io.KnownBytes.{Appends};
 
 use crate::fault::AuditFault;
+use mpw_devices::Sink;
 use mpw_events::Handler;
 use mpw_replay::{Replayed, replay};
 use mpw_serve::{Executor, Progress};
 use mpw_store::{StoreFault, find_table};
 use mpw_store_file::FileFault;
 use mpw_store_listing::{payload_at, write_head, write_rows};
-use mpw_wire::Sink;
 use sqlite::{Alter, Connection, Error as SqlError, ErrorCode};
 use std::alloc::Global;
 use std::thread::Threads;

@@ -11,13 +11,13 @@ ghost use Rattle.sqlite.specs.Held.{state};
 ghost use Rattle.sqlite.specs.State.{HasCleanDisk};
 
 use crate::fault::StoredFault;
+use mpw_devices::{Sink, Source};
 use mpw_events::Handler;
 use mpw_keeper::StoreKeeper;
 use mpw_reopen::{Reopened, reopen};
 use mpw_serve::{Executor, OwnDesk, Progress, Served, serve_core};
 use mpw_settings::Officer;
 use mpw_store::StoreFault;
-use mpw_wire::{Sink, Source};
 use sqlite::{Alter, Connection};
 use std::thread::Threads;
 
