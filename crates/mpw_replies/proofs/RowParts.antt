@@ -40,8 +40,3 @@ pub changed : {A E P : Type 0} (part : A → P) (lines : A → List Line) (row :
     → (x : A) × (row ≡ Ok x) × (part x ≡ p)
 changed part lines (Ok x) p ls is = (x, refl, cc)
 changed part lines (Err why) p ls is = absurd cc
-
-pub changing_lists_nothing : {A E P : Type 0} (part : A → P) (lines : A → List Line)
-    (row : Result A E) (ls : List Listed) → changing part lines row ≡ Ok (Lists ls) → ⊥
-changing_lists_nothing part lines (Ok x) ls is = absurd cc
-changing_lists_nothing part lines (Err why) ls is = absurd cc
