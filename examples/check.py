@@ -5,7 +5,8 @@
                                NAME.fault, which is on the standard error; what failed.awk
                                prints of NAME.txt with NAME.replies, for each NAME.failed; and what
                                becomes of a check's outputs (outputs.py), of what it is given
-                               besides its files (choices.py), the rules' pictures (rules.py), what
+                               besides its files (choices.py), units below 1 nm (units.py), the rules'
+                               pictures (rules.py), what
                                the paths cover that KLayout draws otherwise (paths.py), and arrays of
                                overlapping cells next to the same layouts flat (overlaps.py)
   examples/check.py --desk     then also NAME.txt by mpw script, for each NAME.replies, and what
@@ -28,6 +29,7 @@ import pages
 import paths
 import rules
 import stores
+import units
 import words as told_words
 
 HERE = os.path.dirname(os.path.abspath(__file__))
@@ -98,7 +100,7 @@ def main(words):
         for path in sorted(glob.glob(os.path.join(HERE, f"*.{kind}"))):
             told.append(is_same(path, run))
     of_desk = {**told_words.CASES, **stores.CASES, **pages.CASES} if words else {}
-    cases = {**outputs.CASES, **choices.CASES, **rules.CASES, **paths.CASES, **overlaps.CASES, **of_desk}
+    cases = {**outputs.CASES, **choices.CASES, **units.CASES, **rules.CASES, **paths.CASES, **overlaps.CASES, **of_desk}
     told += [is_as_expected(name, case) for name, case in cases.items()]
     return 0 if told and all(told) else 1
 

@@ -9,7 +9,7 @@ REPLIES = "OK ", "masked "
 REQUESTS = "waive", "sign"
 
 
-def earlier_of(text):
+def earlier_of(text, key_of=Key.of):
     """The keys of an earlier listing, each with the words after it. Replies to `waivers` and to `markers` are listings,
     and so are lines `waive KEY` and `sign KEY`."""
     found = {}
@@ -20,7 +20,7 @@ def earlier_of(text):
         if words[0] in REQUESTS:
             del words[0]
         try:
-            found[Key.of("".join(words[:1]))] = words[1:]
+            found[key_of("".join(words[:1]))] = words[1:]
         except BadWord:
             raise ValueError(f"line {number}: {shortened(line)}: no line of markers or waivers: give a reply to one of these as it was printed") from None
     return found

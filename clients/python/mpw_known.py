@@ -1,9 +1,21 @@
 """Markers that are accepted already: a listing of them, and what another listing has of them."""
+import re
+
 from mpw_carry import earlier_of
+from mpw_desk import BadWord
 from mpw_files import text_of
 
 # How many new markers are named.
 LISTED = 20
+# In nm. A check of a unit below 1 nm prints decimals.
+LENGTH = r"(?:0|-?[1-9][0-9]{0,9}|-?(?:0|[1-9][0-9]{0,9})\.[0-9]{0,8}[1-9])"
+
+
+def key_of(word):
+    """The key that a word of a check's listing is."""
+    if not re.fullmatch(r"[!-~]{1,255}:[VH]:[01]" + f":{LENGTH}" * 4, word):
+        raise BadWord(f"{word}: no key")
+    return word
 
 
 class Known:
@@ -18,7 +30,7 @@ class Known:
     @classmethod
     def of(cls, path):
         """Those of a file: a listing of markers or of waivers, or lines `waive KEY`. Comments begin with #."""
-        return cls([str(key) for key in earlier_of(text_of(path))])
+        return cls(earlier_of(text_of(path), key_of))
 
     @property
     def has_others(self):

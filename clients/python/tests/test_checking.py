@@ -147,6 +147,16 @@ class Checking(unittest.TestCase):
             told = [f"mpw: {line}" for line in expected]
             self.assertEqual((found[0], found[1], found[2].splitlines()[1:]), (status, LISTING, told))
 
+    def test_known_of_a_unit_below_1_nm(self):
+        listing = "OK 2\nw:V:0:-0.5:12.5:0:150 TOP\ns:V:0:12.5:22.5:0:150 TOP\n"
+        self.write("known.txt", "w:V:0:-0.5:12.5:0:150 TOP\n")
+        found = self.check("--known", "known.txt", "--deck", "plain.deck", "f.gds", LISTING=listing)
+        self.assertEqual(found[:2], (1, listing))
+        self.assertEqual(found[2].splitlines()[1:], ["mpw: 2 markers: 1 known, 1 new; known and gone: 0", "mpw: new: s:V:0:12.5:22.5:0:150 TOP"])
+        for word in "12.50", "-0", ".5", "1.", "0.1234567891":
+            self.write("known.txt", f"w:V:0:{word}:13:0:150 TOP\n")
+            self.assertEqual(self.check("--known", "known.txt", "--deck", "plain.deck", "f.gds")[0], 3, word)
+
     def test_known_of_many(self):
         """The first new markers are named, and the others counted."""
         self.write("known.txt", "")

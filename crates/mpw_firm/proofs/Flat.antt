@@ -1,5 +1,5 @@
 -- The markers of a structure, whatever the side of the tiles is.
-use Rattle.std.proofs.Common.{◌≡◌, ℕ, false, List, [], Option, None, Some, subst, refl}
+use Rattle.std.proofs.Common.{◌≡◌, ◌∙◌, ℕ, false, List, [], Option, None, Some, ap, subst, refl}
 use Rattle.mpw_check.specs.Drawn.{drawn_shelf, IsDrawnFrom}
 use Rattle.mpw_check.specs.Tiled.{MarkersAreTheLibrarys}
 use Rattle.mpw_choices.specs.Sides.{with_side}
@@ -8,27 +8,35 @@ use Rattle.mpw_deck.specs.declared.rule.Rule.{Rule}
 use Rattle.mpw_hier.specs.Values.{flat}
 use Rattle.mpw_job.specs.Layout.{AreFlatMarkers, AreLayoutMarkers}
 use Rattle.mpw_firm.specs.Drawings.{AreFlatByEachSide, AreFlatOf, IsDeckOf, IsDrawnBy, IsDrawnOf, IsReadBy, IsReadFrom, IsTopOf}
+use Rattle.mpw_firm.specs.Grids.{deck_for, rules_for}
 use Rattle.mpw_sources.specs.Sources.{Source, IsSourceOf, kept_text}
 use Rattle.mpw_firm.specs.declared.checked.Drawn.{Drawn}
+use Rattle.mpw_grid.specs.Texts.{grid_parts}
 use Rattle.mpw_asked.specs.declared.choices.Choices.{Choices}
 use Rattle.mpw_markers.specs.declared.marker.Marker.{Marker}
 use Rattle.mpw_tiles.specs.Snapshots.{Snapshot}
 
--- A side changes no rule.
-same_rules : (side : Option ℕ) (deck : Deck) → (with_side side deck).rules ≡ deck.rules
-same_rules None deck = refl
-same_rules (Some side) deck = refl
+-- A side changes no rule, on no grid.
+same_rules : (grid side : Option ℕ) (deck : Deck)
+    → (deck_for grid (with_side side deck)).rules ≡ rules_for grid deck.rules
+same_rules None None deck = refl
+same_rules None (Some side) deck = refl
+same_rules (Some parts) None deck = refl
+same_rules (Some parts) (Some side) deck = refl
 
 pub flat_by : MarkersAreTheLibrarys → AreFlatByEachSide
-flat_by law side deck top library made layout book of drawn are =
+flat_by law grid side deck top library made layout book of drawn are =
     let by_made = law made top drawn.library layout book drawn.drawn are in
     let items = flat (drawn_shelf top drawn.library) 0 in
-    let by_side = subst (λ (d : Deck). AreFlatMarkers d.rules items book) of.2 by_made in (
-      of.0,
+    let read = of.1 in
+    let same = of.2 ∙ ap (deck_for grid) read.2 in
+    let by_side = subst (λ (d : Deck). AreFlatMarkers d.rules items book) same by_made in (
+      read.0,
       drawn.library,
-      of.1,
+      read.1,
       drawn.read,
-      subst (λ (rules : List Rule). AreFlatMarkers rules items book) (same_rules side of.0) by_side,
+      subst (λ (rules : List Rule). AreFlatMarkers rules items book)
+          (same_rules grid side read.0) by_side,
     )
 
 -- Without a side of its own the texts are read as a part's are.
@@ -72,7 +80,7 @@ part_named top side deck library source drawn is of =
 pub flat_of : AreFlatByEachSide → (top : Option (List ℕ)) (choices : Choices)
     (deck library : List ℕ) (drawn : Drawn) (book : List Marker)
     → (read : IsReadBy top choices deck library drawn) → AreLayoutMarkers drawn.layout book
-    → AreFlatOf deck drawn.top (kept_text read.source) book
+    → AreFlatOf (grid_parts library) deck drawn.top (kept_text read.source) book
 flat_of law top choices deck library drawn book read are =
-    law choices.tile deck drawn.top (kept_text read.source) read.of.made drawn.layout book
-    read.of.read read.of.by.from are
+    law (grid_parts library) choices.tile deck drawn.top (kept_text read.source) read.made
+    drawn.layout book read.read read.by.from are

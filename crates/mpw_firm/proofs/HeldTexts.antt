@@ -61,7 +61,7 @@ module _ (law : FirstMarkersAreListed) (c : Checked) (book : List Marker) where
   listing_same : (report : Option (List ℕ)) (h : Held) (limit : Option ℕ) → c.found.now.held ≡ h
       → c.limit ≡ limit → AreHeld (enough_listed report false limit) h book
       → held_listing c limit h ≡ listing_by (shown_of c book) limit
-  listing_same report (held.All all) None of by are = ap (all_text c.top.now c.rules.now) are
+  listing_same report (held.All all) None of by are = ap (all_text c.parts.now c.top.now c.rules.now) are
   listing_same None (held.First first) None of by are = absurd are
   listing_same (Some file) (held.First first) None of by are = absurd are
   listing_same None h (Some limit) of by are = rw (of, by) (limited_same h limit are)

@@ -2,5 +2,4 @@
 mod Capped
 pub mod Flat
 pub mod HeldTexts
-mod KeyTexts
 pub mod ListedWholes

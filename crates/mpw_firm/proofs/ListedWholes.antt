@@ -25,9 +25,9 @@ listed_as_checks make one parts whole w texts first book at made beside are =
     read_once _ _ _ _ (ap deck_of (ap (λ (c : Checked). c.deck) told)) w.deck made.made.read
     ∙ sym (ap (λ (s : Snapshot). s.deck) made.made.drawn.drawn.snapshot_is) in
     let tops : whole.top ≡ texts.top = w.top ∙ ap (λ (c : Checked). c.top) told in
-    ap (λ top. listing_text top whole.deck.rules whole.book) tops
-    ∙ ap (λ (d : Deck). listing_text texts.top d.rules whole.book) decks
-    ∙ ap (listing_text texts.top made.snapshot.deck.rules)
+    ap (λ top. listing_text 1 top whole.deck.rules whole.book) tops
+    ∙ ap (λ (d : Deck). listing_text 1 texts.top d.rules whole.book) decks
+    ∙ ap (listing_text 1 texts.top made.snapshot.deck.rules)
     (one made.snapshot whole.book book (make texts first parts whole.book at made beside
     (subst (λ (d : Deck). IsBookOf (length d.rules) parts whole.book) decks w.book)) are)
 

@@ -1,6 +1,7 @@
 -- What came of a command: the texts that stand in their places, and how many markers were found.
 use Rattle.std.specs.Prelude.{◌≡◌, ℕ, ◌+◌, List, [], ◌∷◌, ◌++◌, false, length, map, slice_get, Option, None, Some, option_map, Result, IfOk}
 use Rattle.std.specs.String.{string_bytes}
+use Rattle.mpw_grid.specs.Texts.{grid_parts}
 use Rattle.mpw_job.specs.Layout.{AreLayoutMarkers}
 use Rattle.mpw_markers.specs.declared.marker.Marker.{Marker}
 use Rattle.mpw_parts.specs.Parts.{Found}
@@ -60,7 +61,7 @@ abbrev pub PutsPicture : Option Wanted → Snapshot → Shown → Option (List K
 PutsPicture None layout s old new texts = Grows old new texts
 PutsPicture (Some wanted) layout s old new texts =
     (view : View) × (picture : Picture)
-    × IsViewOf (option_map string_bytes wanted.key) s.rules layout s.book (most_of s.limit) view
+    × IsViewOf (option_map string_bytes wanted.key) s.parts s.rules layout s.book (most_of s.limit) view
     × IsDrawnWith layout s.book (areas_of s.faults) (length s.faults) view picture
     × Grows old new
     (texts ++ (in_file (string_bytes wanted.file) (picture_text s.rules s.top picture) ∷ []))
@@ -78,6 +79,7 @@ shown_by options choices drawn book = record {
   original = Some (string_bytes options.file);
   top = drawn.top;
   rules = drawn.layout.deck.rules;
+  parts = drawn.parts;
   book = book;
   limit = choices.limit;
   notes = notes_of drawn.layout;
@@ -91,6 +93,7 @@ shown_with notes limit whole = record {
   original = None;
   top = whole.top;
   rules = whole.deck.rules;
+  parts = 1;
   book = whole.book;
   limit = limit;
   notes = notes;
@@ -103,7 +106,8 @@ abbrev pub shown_whole : Option ℕ → Whole → Shown
 shown_whole limit whole = shown_with (rule_notes whole.deck.rules) limit whole
 
 -- A deck and a library were checked, their markers are told in all that is wanted, and they and the elements that are left out for their
--- faults are so many, up to 2^64 - 1. The markers are those of the flat list of the structure in the library without these elements, whatever the side of the tiles is.
+-- faults are so many, up to 2^64 - 1. The markers are those of the flat list of the structure in the library without these elements, whatever
+-- the side of the tiles is. If the library's unit is a part of a nanometre, they are so on that grid.
 pub record IsChecked (options : Options) (choices : Choices) (old new : Option (List Kept))
     (found : ℕ) : Type 0 where
   pub deck : List ℕ
@@ -113,7 +117,7 @@ pub record IsChecked (options : Options) (choices : Choices) (old new : Option (
   pub read : IsReadBy options.top choices deck library drawn
   pub looked : IsLookedAt options.strict drawn.layout
   pub markers : AreLayoutMarkers drawn.layout book
-  pub flat : AreFlatOf deck drawn.top (kept_text read.source) book
+  pub flat : AreFlatOf (grid_parts library) deck drawn.top (kept_text read.source) book
   pub count : found ≡ capped (length book + length drawn.left_out.items)
   pub kept : PutsAll options drawn.layout (shown_by options choices drawn book) old new
 

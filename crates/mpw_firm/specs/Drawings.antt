@@ -1,5 +1,5 @@
 -- What is checked, by the texts of a deck and a library; and why it can't be.
-use Rattle.std.specs.Prelude.{◌≡◌, ◌⊎◌, ◌++◌, ℕ, Bool, true, false, List, codes, map, Option, None, Some, Ok, Err}
+use Rattle.std.specs.Prelude.{◌≡◌, ◌⊎◌, ◌++◌, ℕ, Bool, true, false, List, codes, map, Option, None, Some, unwrap_or, Ok, Err}
 use Rattle.std.specs.String.{string_bytes}
 use Rattle.mpw_check.specs.Drawn.{drawn_shelf, IsDrawnFrom, IsOfText}
 use Rattle.mpw_check.specs.declared.fault.CheckFault.{CheckFault}
@@ -9,7 +9,9 @@ use Rattle.mpw_deck.specs.Decks.{Deck}
 use Rattle.mpw_deck.specs.Reading.{deck_of}
 use Rattle.mpw_told.specs.declared.fault.FirmFault.{FirmFault}
 use Rattle.mpw_told.specs.declared.fault.FirmFault.TheVariants.{Memory}
+use Rattle.mpw_firm.specs.Grids.{deck_for, library_on, rules_for}
 use Rattle.mpw_firm.specs.declared.checked.Drawn.{Drawn}
+use Rattle.mpw_grid.specs.Texts.{grid_parts}
 use Rattle.mpw_asked.specs.declared.choices.Choices.{Choices}
 use Rattle.mpw_asked.specs.declared.options.Options.{Options}
 use Rattle.mpw_sources.specs.Seen.{told_left_out, told_seen}
@@ -36,7 +38,7 @@ abbrev pub IsTopOf : Option (List ℕ) → (text top : List ℕ) → Type 0
 IsTopOf (Some name) text top = top ≡ name
 IsTopOf None text top = only_top text ≡ Some top
 
--- It is drawn under the deck, of a library's text as it is read; beside it stand the elements that are left out for their faults.
+-- It is drawn under the deck, of a library's text as it is read. With it are the elements that are left out for their faults.
 pub record IsDrawnBy (top : Option (List ℕ)) (deck : Deck) (source : Source) (drawn : Drawn) :
     Type 0 where
   pub named : IsTopOf top (kept_text source) drawn.top
@@ -46,6 +48,11 @@ pub record IsDrawnBy (top : Option (List ℕ)) (deck : Deck) (source : Source) (
 -- The deck is that of the text, with that side where there is one.
 abbrev pub IsDeckOf : Option ℕ → List ℕ → Deck → Type 0
 IsDeckOf side text deck = (rules : Deck) × (deck_of text ≡ Ok rules) × (deck ≡ with_side side rules)
+
+-- The same on a grid, if there is one.
+abbrev pub IsDeckOn : (grid : Option ℕ) → Option ℕ → List ℕ → Deck → Type 0
+IsDeckOn grid side text deck =
+    (made : Deck) × IsDeckOf side text made × (deck ≡ deck_for grid made)
 
 -- It is drawn of the texts of a deck and a library, with that side where there is one.
 pub record IsDrawnOf (top : Option (List ℕ)) (side : Option ℕ) (deck : List ℕ) (source : Source)
@@ -59,31 +66,36 @@ abbrev pub above : Bool → Option (List ℕ) → Option (List ℕ)
 above false top = None
 above true top = top
 
--- The same as it is chosen: without the elements on some layers, the structures that aren't reached, and the elements with faults.
+-- The same as it is chosen: without the elements on some layers, the structures that aren't reached, and the elements with faults. If the
+-- library's unit is a part of a nanometre, all is on that grid.
 pub record IsReadBy (top : Option (List ℕ)) (choices : Choices) (deck library : List ℕ)
     (drawn : Drawn) : Type 0 where
   pub source : Source
-  pub left : IsSourceOf choices.skip.items (above choices.unreached top) choices.faultless library
-      source
-  pub of : IsDrawnOf top choices.tile deck source drawn
+  pub made : Deck
+  pub left : IsSourceOf choices.skip.items (above choices.unreached top) choices.faultless
+      (library_on (grid_parts library) library) source
+  pub read : IsDeckOn (grid_parts library) choices.tile deck made
+  pub by : IsDrawnBy top made source drawn
+  pub counts : drawn.parts ≡ unwrap_or (grid_parts library) 1
 
 -- ---- the markers of it
 
--- They are those of the flat list of a library's structure, by itself, under the deck's rules: no tile has a part in them.
-abbrev pub AreFlatOf : (deck top library : List ℕ) → List Marker → Type 0
-AreFlatOf deck top library book =
+-- They are those of the flat list of a library's structure, by itself, under the deck's rules, on a grid if there is one: no tile has a part
+-- in them.
+abbrev pub AreFlatOf : (grid : Option ℕ) → (deck top library : List ℕ) → List Marker → Type 0
+AreFlatOf grid deck top library book =
     (rules : Deck) × (structures : List Structure) × (deck_of deck ≡ Ok rules)
     × (library_of library ≡ Ok structures)
-    × AreFlatMarkers rules.rules (flat (drawn_shelf top structures) 0) book
+    × AreFlatMarkers (rules_for grid rules.rules) (flat (drawn_shelf top structures) 0) book
 
 -- A layout's markers are, whatever the side of the tiles is.
 abbrev pub AreFlatByEachSide : Type 0
 AreFlatByEachSide =
-    (side : Option ℕ) (deck top library : List ℕ) (made : Deck) (layout : Snapshot)
+    (grid side : Option ℕ) (deck top library : List ℕ) (made : Deck) (layout : Snapshot)
     (book : List Marker)
-    → IsDeckOf side deck made → IsDrawnFrom made top library layout
+    → IsDeckOn grid side deck made → IsDrawnFrom made top library layout
     → AreLayoutMarkers layout book
-    → AreFlatOf deck top library book
+    → AreFlatOf grid deck top library book
 
 -- ---- why it isn't checked
 

@@ -14,23 +14,23 @@ use Rattle.mpw_told.specs.declared.fault.FirmFault.TheVariants.{Memory}
 use Rattle.mpw_told.specs.Told.{Misuses}
 
 -- Whether a marker of that rule has the key, as the listing prints it.
-abbrev pub is_keyed : List ℕ → Marker → Option Rule → Bool
-is_keyed word m None = false
-is_keyed word m (Some rule) = name_eq (key_text rule.name (key_of m)) word
+abbrev pub is_keyed : (parts : ℕ) → List ℕ → Marker → Option Rule → Bool
+is_keyed parts word m None = false
+is_keyed parts word m (Some rule) = name_eq (key_text parts rule.name (key_of m)) word
 
-abbrev pub has_key : List Rule → List ℕ → Marker → Bool
-has_key rules word m = is_keyed word m (slice_get rules m.rule)
+abbrev pub has_key : (parts : ℕ) → List Rule → List ℕ → Marker → Bool
+has_key parts rules word m = is_keyed parts word m (slice_get rules m.rule)
 
 -- The first marker of that key, where there is one.
-abbrev pub marker_named : List Rule → List ℕ → List Marker → Option Marker
-marker_named rules word markers = find (has_key rules word) markers
+abbrev pub marker_named : (parts : ℕ) → List Rule → List ℕ → List Marker → Option Marker
+marker_named parts rules word markers = find (has_key parts rules word) markers
 
 -- ---- the view of a picture round a marker
 
 -- It is that round the first marker of the key, which is wanted there.
-abbrev pub IsRound : List Rule → List ℕ → List Marker → (limit : ℕ) → View → Type 0
-IsRound rules word markers limit view =
-    (m : Marker) × (marker_named rules word markers ≡ Some m)
+abbrev pub IsRound : (parts : ℕ) → List Rule → List ℕ → List Marker → (limit : ℕ) → View → Type 0
+IsRound parts rules word markers limit view =
+    (m : Marker) × (marker_named parts rules word markers ≡ Some m)
     × (view ≡ record { window = marker_window rules m; wanted = Some (key_of m); limit = limit })
 
 unfoldable pub unknown_text : List ℕ → List ℕ
@@ -39,20 +39,20 @@ unknown_text key =
     ++ (key ++ codes ": no marker has this key: take a line of the listing up to the blank")
 
 -- No marker has the key, which is told; or there is no room.
-abbrev pub IsUnknown : List Rule → List ℕ → List Marker → FirmFault → Type 0
-IsUnknown rules word markers fault =
+abbrev pub IsUnknown : (parts : ℕ) → List Rule → List ℕ → List Marker → FirmFault → Type 0
+IsUnknown parts rules word markers fault =
     (fault ≡ Memory)
-    ⊎ ((marker_named rules word markers ≡ None) × Misuses (unknown_text word) fault)
+    ⊎ ((marker_named parts rules word markers ≡ None) × Misuses (unknown_text word) fault)
 
 -- ---- the view of the picture that is asked for: round the marker of its key, or round all if it names none
 
-abbrev pub IsViewOf : Option (List ℕ) → List Rule → Snapshot → List Marker → (limit : ℕ) → View
-    → Type 0
-IsViewOf None rules s markers limit view =
+abbrev pub IsViewOf : Option (List ℕ) → (parts : ℕ) → List Rule → Snapshot → List Marker
+    → (limit : ℕ) → View → Type 0
+IsViewOf None parts rules s markers limit view =
     view ≡ record { window = whole_window (shown_extent s); wanted = None; limit = limit }
-IsViewOf (Some word) rules s markers limit view = IsRound rules word markers limit view
+IsViewOf (Some word) parts rules s markers limit view = IsRound parts rules word markers limit view
 
 -- It isn't there: no marker has the key.
-abbrev pub IsOfKey : Option (List ℕ) → List Rule → List Marker → FirmFault → Type 0
-IsOfKey None rules markers fault = ⊥
-IsOfKey (Some word) rules markers fault = IsUnknown rules word markers fault
+abbrev pub IsOfKey : Option (List ℕ) → (parts : ℕ) → List Rule → List Marker → FirmFault → Type 0
+IsOfKey None parts rules markers fault = ⊥
+IsOfKey (Some word) parts rules markers fault = IsUnknown parts rules word markers fault

@@ -2,6 +2,7 @@ pub mod Came
 pub mod Counts
 pub mod Drawings
 pub mod Faulty
+pub mod Grids
 pub mod Held
 pub mod Keys
 pub mod Ranges

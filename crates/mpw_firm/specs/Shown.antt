@@ -19,12 +19,13 @@ abbrev pub most_of : Option ℕ → ℕ
 most_of None = 2 ^ 64 - 1
 most_of (Some limit) = limit
 
--- What is shown of markers: the name of the layout's file, the structure's, the rules, the markers, the limit, the notes about what was
+-- What is shown of markers: the name of the layout's file, the structure's, the rules, the parts of a nanometre that lengths count, the markers, the limit, the notes about what was
 -- looked at, whether their numbers are printed instead of their listing, and the elements that are left out for their faults.
 pub record Shown : Type 0 where
   pub original : Option (List ℕ)
   pub top : List ℕ
   pub rules : List Rule
+  pub parts : ℕ
   pub book : List Marker
   pub limit : Option ℕ
   pub notes : List Noted
@@ -37,6 +38,7 @@ shown_of c book = record {
   original = option_map (λ file. file.now) c.original;
   top = c.top.now;
   rules = c.rules.now;
+  parts = c.parts.now;
   book = book;
   limit = c.limit;
   notes = map note_of c.notes.now;
@@ -54,10 +56,10 @@ areas_of faults = flat_map (λ (f : Told). area_listed f.area) faults
 
 abbrev pub limited_of : Shown → ℕ → Limited
 limited_of s limit =
-    record { top = s.top; rules = s.rules; markers = s.book; limit = limit }
+    record { top = s.top; rules = s.rules; markers = s.book; limit = limit; parts = s.parts }
 
 abbrev pub listing_by : Shown → Option ℕ → List ℕ
-listing_by s None = all_text s.top s.rules s.book
+listing_by s None = all_text s.parts s.top s.rules s.book
 listing_by s (Some limit) = limited_text (limited_of s limit)
 
 -- The numbers by rule, or the listing.
@@ -104,7 +106,7 @@ held_content c = content_with (held_shown c) c.found.now.counts.items
 
 -- All are listed, if there is no limit.
 abbrev pub held_listing : Checked → Option ℕ → Held → List ℕ
-held_listing c None (held.All book) = all_text c.top.now c.rules.now book
+held_listing c None (held.All book) = all_text c.parts.now c.top.now c.rules.now book
 held_listing c None (held.First first) = limited_text (held_limited c)
 held_listing c (Some limit) h = limited_text (held_limited c)
 

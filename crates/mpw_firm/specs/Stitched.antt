@@ -86,8 +86,8 @@ IsListedAsCheck parts whole =
     (texts : Texts) (first : Found) (book : List Marker) → slice_get parts 0 ≡ Some first
     → (made : IsPartOf texts first) → All (IsPartBeside texts) parts
     → AreLayoutMarkers made.snapshot book
-    → listing_text whole.top whole.deck.rules whole.book
-    ≡ listing_text texts.top made.snapshot.deck.rules book
+    → listing_text 1 whole.top whole.deck.rules whole.book
+    ≡ listing_text 1 texts.top made.snapshot.deck.rules book
 
 abbrev pub WholesAreListedAsChecks : Type 0
 WholesAreListedAsChecks =

@@ -90,6 +90,7 @@ pub fn check<O: Outputs>(
     let checked = Checked {
         top: &given.top,
         rules,
+        parts: &given.parts,
         found,
         original: Some(file),
         limit: choices.limit,

@@ -6,6 +6,7 @@ ghost use Rattle.mpw_firm.specs.Shown.{most_of};
 use crate::found::Findings;
 use mpw_deck::Rule;
 use mpw_geom::Name;
+use mpw_grid::Parts;
 use mpw_report::{Fault, Note};
 use mpw_sources::SeenFault;
 use mpw_tiles::Snapshot;
@@ -17,6 +18,8 @@ pub struct Checked<'a> {
     pub top: &'a Name,
     /// The deck's rules.
     pub rules: &'a [Rule],
+    /// The parts of a nanometre that lengths count.
+    pub parts: &'a Parts,
     /// Its markers, as many as are held, and how many it has.
     pub found: &'a Findings,
     /// The name of the layout's file, where it is known.
@@ -52,4 +55,6 @@ pub struct Drawn {
     pub layout: Snapshot,
     /// The elements that are left out of the library for their faults.
     pub left_out: Vec<SeenFault>,
+    /// The parts of a nanometre that lengths count.
+    pub parts: Parts,
 }

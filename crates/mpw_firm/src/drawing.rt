@@ -11,12 +11,14 @@ ghost use Rattle.mpw_told.specs.Told.{Refuses, Tells};
 
 use crate::checked::Drawn;
 use crate::faulty::{faulty, tell_skipped};
+use crate::grid::{GridDeck, grid_deck, grid_of, library_on, whole_option};
 use mpw_asked::{Choices, Options};
 use mpw_check::{CheckFault, read_layout};
 use mpw_choices::{TileSide, only_top, with_side};
 use mpw_deck::Deck;
 use mpw_elements::ReadError;
 use mpw_geom::Name;
+use mpw_grid::Parts;
 use mpw_hier::HierFault;
 use mpw_outputs::Outputs;
 use mpw_sources::{
@@ -111,41 +113,45 @@ fn drawn_with(
     rt: &HostRuntime,
     file: &str,
     top: Name,
-    deck: Deck,
+    grid: GridDeck,
     source: &Source<'_>,
 ) -> Result<Drawn, FirmFault>
     ensures top { IfOk result (λ drawn. drawn.top ≡ top) }
-    ensures drawn { IfOk result (λ drawn. IsDrawnFrom deck top (kept_text source.now) drawn.layout) }
+    ensures drawn { IfOk result (λ drawn. IsDrawnFrom grid.deck top (kept_text source.now) drawn.layout) }
     ensures left { IfOk result (λ drawn. map told_seen drawn.left_out.items ≡ told_left_out source.now top) }
+    ensures counts { IfOk result (λ drawn. drawn.parts ≡ grid.parts) }
     ensures refused { IfErr result (IsOfSource file.now top source.now) }
 {
     let left_out = left_out_seen(rt.alloc(), source, &top)?;
     let target = Target { file, top: &top };
+    let GridDeck { deck, parts } = grid;
     match drawn_at(rt, &target, deck, source) {
         Ok(layout) => Ok(Drawn {
             top,
             layout,
             left_out,
+            parts,
         }),
         Err(fault) => Err(fault),
     }
 }
 
-/// The structure that is checked, under a deck. Where that isn't there, what nothing places is told on the standard error.
+/// The structure that is checked, under a deck. If it isn't there, the names of those that nothing places are printed on the standard error.
 ///
 /// # Errors
 /// `Refused` where the library's text has a fault, or the structure can't be checked; and `Memory`.
 fn drawn_under(
     rt: &HostRuntime,
     options: &Options,
-    deck: Deck,
+    grid: GridDeck,
     source: &Source<'_>,
 ) -> Result<Drawn, FirmFault>
-    ensures drawn { IfOk result (IsDrawnBy options.now.top deck source.now) }
+    ensures drawn { IfOk result (IsDrawnBy options.now.top grid.deck source.now) }
+    ensures counts { IfOk result (λ drawn. drawn.parts ≡ grid.parts) }
     ensures refused { IfErr result (IsOfDrawing (string_bytes options.now.file) options.now.top source.now) }
 {
     match top_of(rt, options, source) {
-        Ok(top) => drawn_with(rt, options.file.as_str(), top, deck, source),
+        Ok(top) => drawn_with(rt, options.file.as_str(), top, grid, source),
         Err(fault) => Err(fault),
     }
 }
@@ -181,7 +187,10 @@ pub fn drawn_of(
     ensures refused { IfErr result (IsOfTexts options.now side.now text.now source.now) }
 {
     match deck_under(rt.alloc(), options, side, text) {
-        Ok(deck) => drawn_under(rt, options, deck, source),
+        Ok(deck) => {
+            let parts = Parts::whole();
+            drawn_under(rt, options, GridDeck { deck, parts }, source)
+        }
         Err(fault) => Err(fault),
     }
 }
@@ -214,6 +223,9 @@ pub fn drawn_by<O: Outputs>(
 {
     let text = read_file(rt, options.deck.as_str(), Content::Deck)?;
     let library = read_library(rt, options.file.as_str())?;
+    let option = whole_option(options, choices);
+    let grid = grid_of(rt.alloc(), options.file.as_str(), option, &library)?;
+    let library = library_on(rt.alloc(), &grid, library)?;
     let above = above(options, choices);
     let (skip, faultless) = (choices.skip.as_slice(), choices.faultless);
     let source = Source::new(rt.alloc(), skip, above, faultless, library)?;
@@ -221,6 +233,7 @@ pub fn drawn_by<O: Outputs>(
     let _ = tell_skipped(rt, options, &source);
     let deck = deck_under(rt.alloc(), options, &choices.tile, &text)?;
     let rules = deck.rules().copy()?;
+    let deck = grid_deck(rt.alloc(), deck, grid)?;
     match drawn_under(rt, options, deck, &source) {
         Ok(drawn) => Ok(drawn),
         Err(fault) => {

@@ -17,6 +17,7 @@ mod checked;
 mod drawing;
 mod faulty;
 mod found;
+mod grid;
 mod key;
 mod laps;
 mod laws;

@@ -8,6 +8,7 @@ ghost use Rattle.mpw_outputs.specs.Outputs.{AreApart};
 ghost use Rattle.mpw_firm.specs.Uses.{check_inputs, check_outputs};
 
 use crate::drawing::drawn_of;
+use crate::grid::grid_of;
 use crate::line::Line;
 use crate::progress::{count_of, tell_part};
 use mpw_asked::Options;
@@ -100,6 +101,7 @@ pub fn check_range<O: Outputs>(
     let mut line = Line::new(rt, current_num_threads(threads));
     let deck = read_file(rt, options.deck.as_str(), Content::Deck)?;
     let library = read_library(rt, options.file.as_str())?;
+    let _ = grid_of(rt.alloc(), options.file.as_str(), Some("--tiles"), &library)?;
     let source = Source::new(rt.alloc(), &[], None, false, library)?;
     let drawn = drawn_of(rt, options, &None, &deck, &source)?;
     let target = Target {

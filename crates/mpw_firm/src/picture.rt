@@ -34,11 +34,11 @@ fn unknown_marker(alloc: Global, key: &str) -> FirmFault
 /// The view round the marker of that key.
 fn view_round(alloc: Global, checked: &Checked<'_>, key: &str) -> Result<View, FirmFault>
     ensures plane { IfOk result (λ view. IsBoxInPlane view.window) }
-    ensures round { IfOk result (IsRound checked.now.rules.now key.now (markers_of checked.now.found.now.held) (most_of checked.now.limit)) }
-    ensures refused { IfErr result (IsUnknown checked.now.rules.now key.now (markers_of checked.now.found.now.held)) }
+    ensures round { IfOk result (IsRound checked.now.parts.now checked.now.rules.now key.now (markers_of checked.now.found.now.held) (most_of checked.now.limit)) }
+    ensures refused { IfErr result (IsUnknown checked.now.parts.now checked.now.rules.now key.now (markers_of checked.now.found.now.held)) }
 {
     let rules = checked.rules;
-    match find_marker(alloc, rules, checked.found.markers(), key) {
+    match find_marker(alloc, rules, checked.parts, checked.found.markers(), key) {
         Ok(Some(marker)) => Ok(View {
             window: marker_window(rules, marker),
             wanted: Some(marker.key()),
@@ -52,7 +52,7 @@ fn view_round(alloc: Global, checked: &Checked<'_>, key: &str) -> Result<View, F
 /// The view of all.
 fn whole_view(layout: &Snapshot, checked: &Checked<'_>) -> View
     ensures plane { IsBoxInPlane result.window }
-    ensures view { IsViewOf None checked.now.rules.now layout.now (markers_of checked.now.found.now.held) (most_of checked.now.limit) result }
+    ensures view { IsViewOf None checked.now.parts.now checked.now.rules.now layout.now (markers_of checked.now.found.now.held) (most_of checked.now.limit) result }
 {
     View {
         window: whole_window(layout),
@@ -72,8 +72,8 @@ pub fn view_of(
     checked: &Checked<'_>,
 ) -> Result<View, FirmFault>
     ensures plane { IfOk result (λ view. IsBoxInPlane view.window) }
-    ensures view { IfOk result (IsViewOf (option_map string_bytes wanted.now.key) checked.now.rules.now layout.now (markers_of checked.now.found.now.held) (most_of checked.now.limit)) }
-    ensures refused { IfErr result (IsOfKey (option_map string_bytes wanted.now.key) checked.now.rules.now (markers_of checked.now.found.now.held)) }
+    ensures view { IfOk result (IsViewOf (option_map string_bytes wanted.now.key) checked.now.parts.now checked.now.rules.now layout.now (markers_of checked.now.found.now.held) (most_of checked.now.limit)) }
+    ensures refused { IfErr result (IsOfKey (option_map string_bytes wanted.now.key) checked.now.parts.now checked.now.rules.now (markers_of checked.now.found.now.held)) }
 {
     match &wanted.key {
         Some(key) => view_round(alloc, checked, key.as_str()),

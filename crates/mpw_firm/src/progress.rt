@@ -71,7 +71,16 @@ fn tell_left(rt: &HostRuntime, checked: &Checked<'_>) -> io::Result<()> {
     eprintln!(rt; "note: elements left out for their faults: {left}: the desk refuses this file")
 }
 
-/// Tells what was checked and found, the time and the memory that it took; and of a layout that shows more shapes than a desk takes, that.
+/// Prints the unit, if it is a part of a nanometre.
+fn tell_unit(rt: &HostRuntime, checked: &Checked<'_>) -> io::Result<()> {
+    let parts = checked.parts.count();
+    if parts == 1 {
+        return Ok(());
+    }
+    eprintln!(rt; "note: the unit is 1/{parts} nm: the desk refuses this file")
+}
+
+/// Prints what was checked and found, the time and the memory that it took; and what the desk refuses of the layout.
 pub fn tell_summary(
     rt: &HostRuntime,
     layout: &Snapshot,
@@ -84,6 +93,7 @@ pub fn tell_summary(
     tell_markers(rt, checked)?;
     tell_taken(rt, line.taken())?;
     tell_reckoned(rt, layout, checked, line)?;
+    tell_unit(rt, checked)?;
     tell_left(rt, checked)?;
     if shapes > MAX_ON_DESK {
         eprintln!(rt; "note: more than 1048576 shapes: the desk takes no more")?;

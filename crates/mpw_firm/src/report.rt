@@ -21,12 +21,13 @@ use std::alloc::Global;
 
 /// The listing of all markers that are held.
 fn listing<'a>(checked: &Checked<'a>) -> Listing<'a>
-    ensures { listing.listing_of result ≡ listing.listing_text checked.now.top.now checked.now.rules.now (markers_of checked.now.found.now.held) }
+    ensures { listing.listing_of result ≡ listing.listing_text checked.now.parts.now checked.now.top.now checked.now.rules.now (markers_of checked.now.found.now.held) }
 {
     Listing {
         top: checked.top,
         rules: checked.rules,
         markers: checked.found.markers(),
+        parts: checked.parts,
     }
 }
 
@@ -40,6 +41,7 @@ fn limited<'a>(checked: &Checked<'a>) -> Limited<'a>
         rules: checked.rules,
         markers: checked.found.markers(),
         limit,
+        parts: checked.parts,
     }
 }
 

@@ -14,6 +14,7 @@ use crate::progress::{tell_limit, tell_markers};
 use crate::report::write_listed;
 use crate::whole::{Whole, whole_of};
 use mpw_asked::StitchOptions;
+use mpw_grid::Parts;
 use mpw_outputs::Outputs;
 use mpw_parts::{Part, begins_as_part, is_older_part, read_part};
 use mpw_sources::{Content, read_file, rule_notes};
@@ -100,9 +101,11 @@ pub fn stitch<O: Outputs>(
     let notes = rule_notes(alloc, rules)?;
     let many = book.len();
     let found = Findings::of_book(alloc, rules, book)?;
+    let whole = Parts::whole();
     let checked = Checked {
         top: &top,
         rules,
+        parts: &whole,
         found: &found,
         original: None,
         limit: options.limit,

@@ -28,7 +28,7 @@ listed_same l first row agree =
 
 lines_same : (l : Limited) (first : List Marker) (row : ℕ × Rule) → AgreeFirst l.limit first l.markers
     → rule_lines (with_markers l first) row ≡ rule_lines l row
-lines_same l first row agree = ap (flat_map (line_text l.top row.1)) (agree row.0)
+lines_same l first row agree = ap (flat_map (line_text l.parts l.top row.1)) (agree row.0)
 
 count_same : (l : Limited) (first : List Marker) → AgreeFirst l.limit first l.markers
     → listed_count (with_markers l first) ≡ listed_count l

@@ -1,4 +1,5 @@
 pub mod Keys
+pub mod Lengths
 pub mod Lines
 pub mod Limited
 pub mod Listing

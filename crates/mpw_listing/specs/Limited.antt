@@ -7,15 +7,22 @@ use Rattle.mpw_report.specs.Content.{of_rule, AgreeFirst}
 use Rattle.mpw_listing.specs.Lines.{head_text, line_text}
 use Rattle.mpw_listing.specs.declared.limited.Limited as declared
 
--- The structure's name, the rules, the markers, and the most markers of a rule that are listed.
+-- The structure's name, the rules, the markers, the most markers of a rule that are listed, and the parts of a nanometre that lengths count.
 pub record Limited : Type 0 where
   pub top : List ℕ
   pub rules : List Rule
   pub markers : List Marker
   pub limit : ℕ
+  pub parts : ℕ
 
 abbrev pub limited_of : declared.Limited → Limited
-limited_of l = record { top = l.top.now; rules = l.rules.now; markers = l.markers.now; limit = l.limit }
+limited_of l = record {
+  top = l.top.now;
+  rules = l.rules.now;
+  markers = l.markers.now;
+  limit = l.limit;
+  parts = l.parts.now;
+}
 
 -- How many there are of the rule at that index in the deck.
 abbrev pub count_of : List Marker → ℕ → ℕ
@@ -23,7 +30,7 @@ count_of markers place = length (of_rule markers place)
 
 -- The lines of the first markers of a rule, in their order.
 abbrev pub rule_lines : Limited → ℕ × Rule → List ℕ
-rule_lines l row = flat_map (line_text l.top row.1) (take l.limit (of_rule l.markers row.0))
+rule_lines l row = flat_map (line_text l.parts l.top row.1) (take l.limit (of_rule l.markers row.0))
 
 -- How many markers of a rule are listed.
 abbrev pub listed_of : Limited → ℕ × Rule → ℕ
@@ -41,7 +48,7 @@ limited_text l =
 -- The same with other markers.
 abbrev pub with_markers : Limited → List Marker → Limited
 with_markers l markers =
-    record { top = l.top; rules = l.rules; markers = markers; limit = l.limit }
+    record { top = l.top; rules = l.rules; markers = markers; limit = l.limit; parts = l.parts }
 
 -- The first markers of each rule, up to the limit, have the same listing as all markers.
 abbrev pub FirstMarkersAreListed : Type 0

@@ -12,6 +12,6 @@ unfoldable pub head_text : ℕ → List ℕ
 head_text count = concat (codes "OK " ∷ decimal count ∷ codes "\n" ∷ [])
 
 -- The line of a marker of that rule: its key and the structure's name.
-unfoldable pub line_text : List ℕ → Rule → Marker → List ℕ
-line_text top rule m =
-    key_text rule.name (key_of m) ++ concat (codes " " ∷ top ∷ codes "\n" ∷ [])
+unfoldable pub line_text : (parts : ℕ) → (top : List ℕ) → Rule → Marker → List ℕ
+line_text parts top rule m =
+    key_text parts rule.name (key_of m) ++ concat (codes " " ∷ top ∷ codes "\n" ∷ [])

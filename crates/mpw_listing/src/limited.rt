@@ -8,6 +8,7 @@ use crate::count::count_of_rule;
 use crate::line::{put_head, put_line};
 use mpw_deck::Rule;
 use mpw_geom::Name;
+use mpw_grid::Parts;
 use mpw_markers::Marker;
 use std::io::{self, Write};
 
@@ -22,6 +23,8 @@ pub struct Limited<'a> {
     pub markers: &'a [Marker],
     /// The most markers of a rule that are listed: the first ones.
     pub limit: usize,
+    /// The parts of a nanometre that lengths count.
+    pub parts: &'a Parts,
 }
 
 /// How many markers of the rule at index `place` are listed.
@@ -61,7 +64,7 @@ fn put_rule_lines<W: Write>(
     for marker in listing.markers {
         if marker.rule as usize == place {
             if left > 0 {
-                put_line(writer, listing.top, rule, marker)?;
+                put_line(writer, listing.top, rule, listing.parts, marker)?;
                 left -= 1;
             }
         }

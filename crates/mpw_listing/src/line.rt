@@ -6,6 +6,7 @@ use crate::key::put_key;
 use itoa::Buffer;
 use mpw_deck::Rule;
 use mpw_geom::Name;
+use mpw_grid::Parts;
 use mpw_markers::Marker;
 use mpw_text::put;
 use std::io::{self, Write};
@@ -24,10 +25,11 @@ pub(crate) fn put_line<W: Write>(
     writer: &mut W,
     top: &Name,
     rule: &Rule,
+    parts: &Parts,
     marker: &Marker,
 ) -> io::Result<()>
-    ensures { Adds W.contents writer.old writer.new result (line_text top.now rule.now marker.now) }
+    ensures { Adds W.contents writer.old writer.new result (line_text parts.now top.now rule.now marker.now) }
 {
-    put_key(writer, rule, marker)?;
+    put_key(writer, rule, parts, marker)?;
     put(writer, &[" ", top.as_str(), "\n"])
 }

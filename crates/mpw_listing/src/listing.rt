@@ -7,6 +7,7 @@ ghost use Rattle.mpw_text.specs.Writing.{Adds};
 use crate::line::{put_head, put_line};
 use mpw_deck::Rule;
 use mpw_geom::Name;
+use mpw_grid::Parts;
 use mpw_markers::Marker;
 use std::io::{self, Write};
 
@@ -19,6 +20,8 @@ pub struct Listing<'a> {
     pub rules: &'a [Rule],
     /// The markers. A marker whose rule isn't among the rules has no line.
     pub markers: &'a [Marker],
+    /// The parts of a nanometre that lengths count.
+    pub parts: &'a Parts,
 }
 
 /// Whether a marker's rule is among the rules.
@@ -44,17 +47,17 @@ fn count_of_lines(rules: &[Rule], markers: &[Marker]) -> usize
 
 /// Writes the line of a marker, if its rule is among the rules.
 fn put_marker<W: Write>(writer: &mut W, listing: &Listing<'_>, marker: &Marker) -> io::Result<()>
-    ensures { Adds W.contents writer.old writer.new result (marker_line listing.now.top.now listing.now.rules.now marker.now) }
+    ensures { Adds W.contents writer.old writer.new result (marker_line listing.now.parts.now listing.now.top.now listing.now.rules.now marker.now) }
 {
     match listing.rules.get(marker.rule as usize) {
-        Some(rule) => put_line(writer, listing.top, rule, marker),
+        Some(rule) => put_line(writer, listing.top, rule, listing.parts, marker),
         None => Ok(()),
     }
 }
 
 /// Writes the lines of all markers, in their order.
 fn put_markers<W: Write>(writer: &mut W, listing: &Listing<'_>) -> io::Result<()>
-    ensures { Adds W.contents writer.old writer.new result (flat_map (marker_line listing.now.top.now listing.now.rules.now) listing.now.markers.now) }
+    ensures { Adds W.contents writer.old writer.new result (flat_map (marker_line listing.now.parts.now listing.now.top.now listing.now.rules.now) listing.now.markers.now) }
 {
     for marker in listing.markers {
         put_marker(writer, listing, marker)?;

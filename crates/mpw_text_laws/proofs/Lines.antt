@@ -11,7 +11,7 @@ use Rattle.mpw_edges.specs.declared.run.Axis.TheVariants.{V, H}
 use Rattle.mpw_geom.proofs.Linked.{name_eq-refl}
 use Rattle.mpw_hier.specs.declared.submission.Submission.{Submission}
 use Rattle.mpw_job.proofs.Tests.{passes_some}
-use Rattle.mpw_listing.specs.Keys.{axis_text as own_axis, key_text as own_key}
+use Rattle.mpw_listing.specs.Keys.{WholeKeysAreNumbers, axis_text as own_axis, key_text as own_key}
 use Rattle.mpw_listing.specs.Lines.{head_text, line_text}
 use Rattle.mpw_listing.specs.Listing.{count_of_lines, line_with, listing_text, marker_line}
 use Rattle.mpw_markers.specs.Markers.{key_of}
@@ -33,8 +33,9 @@ unfolding axis_text own_axis
 axis_same V = refl
 axis_same H = refl
 
-key_same : (rule : List ℕ) (key : Key) → key_text rule (spot_of key) ≡ own_key rule key
-key_same rule key = rw (axis_same key.axis) refl
+module _ (whole : WholeKeysAreNumbers) where
+  key_same : (rule : List ℕ) (key : Key) → key_text rule (spot_of key) ≡ own_key 1 rule key
+  key_same rule key = rw (whole rule key, axis_same key.axis) refl
 
 joined : (space cell feed : List ℕ)
     → ((space ++ (cell ++ [])) ++ []) ++ feed ≡ space ++ (cell ++ (feed ++ []))
@@ -44,12 +45,12 @@ behind_key : (cell : List ℕ) → met_text (cell ∷ []) ≡ concat (codes " " 
 unfolding met_text
 behind_key cell = joined (codes " ") cell (codes "\n")
 
-line_same : (cell : List ℕ) (rule : Rule) (m : Marker)
-    → marker_text rule.name (key_of m) (cell ∷ []) ≡ line_text cell rule m
+line_same : WholeKeysAreNumbers → (cell : List ℕ) (rule : Rule) (m : Marker)
+    → marker_text rule.name (key_of m) (cell ∷ []) ≡ line_text 1 cell rule m
 unfolding marker_text line_text
-line_same cell rule m =
-    ap (λ t. t ++ met_text (cell ∷ [])) (key_same rule.name (key_of m))
-    ∙ ap (λ t. own_key rule.name (key_of m) ++ t) (behind_key cell)
+line_same whole cell rule m =
+    ap (λ t. t ++ met_text (cell ∷ [])) (key_same whole rule.name (key_of m))
+    ∙ ap (λ t. own_key 1 rule.name (key_of m) ++ t) (behind_key cell)
 
 head_same : (n : ℕ) → count_text n ++ (0x0A ∷ []) ≡ head_text n
 unfolding head_text
@@ -65,7 +66,7 @@ pass_all p (y ∷ ys) h = and_from (p y) (list_all p ys) (h y (Contains-head y y
 
 -- ---- one marker
 
-module _ (s : Submission) (rules : List Rule) where
+module _ (whole : WholeKeysAreNumbers) (s : Submission) (rules : List Rule) where
   abbrev shelf : List Submission
   shelf = s ∷ []
 
@@ -96,13 +97,13 @@ module _ (s : Submission) (rules : List Rule) where
   line_is m t = ap (λ b. cond b (line_for shelf m (slice_get rules m.rule)) []) (full m t)
       ∙ line_for_is m t (slice_get rules m.rule)
 
-  text_by : (m : Marker) (o : Option Rule) → flat_map listed_text (line_by m o) ≡ line_with s.cell m o
+  text_by : (m : Marker) (o : Option Rule) → flat_map listed_text (line_by m o) ≡ line_with 1 s.cell m o
   text_by m None = refl
   text_by m (Some rule) =
-      append-nil (marker_text rule.name (key_of m) (s.cell ∷ [])) ∙ line_same s.cell rule m
+      append-nil (marker_text rule.name (key_of m) (s.cell ∷ [])) ∙ line_same whole s.cell rule m
 
   text_is : (m : Marker) → TouchesFirst m
-      → flat_map listed_text (full_line rules shelf seen m) ≡ marker_line s.cell rules m
+      → flat_map listed_text (full_line rules shelf seen m) ≡ marker_line 1 s.cell rules m
   text_is m t = ap (flat_map listed_text) (line_is m t) ∙ text_by m (slice_get rules m.rule)
 
   -- ---- a book
@@ -111,12 +112,12 @@ module _ (s : Submission) (rules : List Rule) where
   lines book = flat_map (full_line rules shelf seen) book
 
   texts_are : (book : List Marker) → TouchFirst book
-      → flat_map listed_text (lines book) ≡ flat_map (marker_line s.cell rules) book
+      → flat_map listed_text (lines book) ≡ flat_map (marker_line 1 s.cell rules) book
   texts_are [] t = refl
   texts_are (m ∷ book) t =
       flat_map-append listed_text (full_line rules shelf seen m) (lines book)
       ∙ ap (λ text. text ++ flat_map listed_text (lines book)) (text_is m (t m (Contains-head m book)))
-      ∙ ap (λ text. marker_line s.cell rules m ++ text)
+      ∙ ap (λ text. marker_line 1 s.cell rules m ++ text)
       (texts_are book (λ n c. t n (Contains-tail m book n c)))
 
   count_by : (m : Marker) (o : Option Rule) (many : ℕ) (book : List Marker)
@@ -168,7 +169,7 @@ module _ (s : Submission) (rules : List Rule) where
 
   pub reply_is : (book : List Marker) → TouchFirst book
       → accepted_text (full_lines rules shelf seen book ++ masked_lines seen book 0 rules)
-      ≡ listing_text s.cell rules book
+      ≡ listing_text 1 s.cell rules book
   unfolding full_lines accepted_text listing_text
   reply_is book t =
       ap (λ counts. accepted_text (lines book ++ counts)) (no_counts book t 0 rules)

@@ -8,6 +8,7 @@ use Rattle.mpw_hier.specs.Limits.{numbered}
 use Rattle.mpw_hier.specs.Shelved.{ShapesAreOfEarlier}
 use Rattle.mpw_job.specs.Laws.{EachMarkerMeetsSome}
 use Rattle.mpw_check.specs.Drawn.{offered}
+use Rattle.mpw_listing.specs.Keys.{WholeKeysAreNumbers}
 use Rattle.mpw_events.specs.Step.{State, outcome_by, over_run}
 use Rattle.mpw_rbac.specs.Policy.{Policy, session_of}
 use Rattle.mpw_replies.specs.Rows.{listing}
@@ -22,14 +23,15 @@ use Rattle.mpw_text_laws.specs.Replies.{DesksListAsChecks, ListingsAreReplies}
 use Rattle.mpw_text_laws.proofs.Lines.{reply_is}
 use Rattle.mpw_text_laws.proofs.Touched.{touch_first}
 
-pub listings_are : ShapesAreOfEarlier → EachMarkerMeetsSome → ListingsAreReplies
+pub listings_are : WholeKeysAreNumbers → ShapesAreOfEarlier → EachMarkerMeetsSome
+    → ListingsAreReplies
 unfolding reply_text
-listings_are origins meets deck top text layout book drawn are =
+listings_are whole origins meets deck top text layout book drawn are =
     let s = numbered [] (offered top drawn.library) in
     let alone : layout.shelf ≡ s ∷ [] =
     ap (λ (l : Snapshot). l.shelf) drawn.drawn.snapshot_is in
     sym (ap (λ shelf. reply_text (reply.Ok (book_lines deck.rules shelf (true ∷ []) book))) alone
-    ∙ reply_is s deck.rules book (touch_first origins meets layout book s alone are))
+    ∙ reply_is whole s deck.rules book (touch_first origins meets layout book s alone are))
 
 -- ---- a desk
 
@@ -45,9 +47,10 @@ markers_are : (policy : Policy) (run : Run) (connection : ℕ) (f : Checked)
 unfolding markers
 markers_are policy run connection f session found = rw (session, found) refl
 
-pub desks_list : ShapesAreOfEarlier → EachMarkerMeetsSome → DesksListAsChecks
+pub desks_list : WholeKeysAreNumbers → ShapesAreOfEarlier → EachMarkerMeetsSome
+    → DesksListAsChecks
 unfolding reply_text
-desks_list origins meets state connection f s found of =
+desks_list whole origins meets state connection f s found of =
     let policy = state.policy in
     let rules = f.planned.snapshot.deck.rules in (
       reply.Ok (checked_lines policy connection f),
@@ -58,6 +61,6 @@ desks_list origins meets state connection f s found of =
           (reply.Ok (book_lines rules shelf (seen_by policy connection shelf) f.book)))
           of.alone
           ∙ ap (λ b. reply_text (reply.Ok (book_lines rules (s ∷ []) (b ∷ []) f.book))) of.readable
-          ∙ reply_is s rules f.book
+          ∙ reply_is whole s rules f.book
           (touch_first origins meets f.planned.snapshot f.book s of.alone of.markers),
     )

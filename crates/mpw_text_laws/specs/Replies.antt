@@ -28,7 +28,7 @@ abbrev pub ListingsAreReplies : Type 0
 ListingsAreReplies =
     (deck : Deck) (top text : List ℕ) (layout : Snapshot) (book : List Marker)
     → IsDrawnFrom deck top text layout → AreLayoutMarkers layout book
-    → listing_text top deck.rules book
+    → listing_text 1 top deck.rules book
     ≡ reply_text (reply.Ok (book_lines deck.rules layout.shelf (true ∷ []) book))
 
 -- ---- of a desk
@@ -47,4 +47,4 @@ DesksListAsChecks =
     → findings state.run.phase ≡ Some f → IsOfOneCell state.policy connection f s
     → (r : Reply)
     × ((outcome_of state connection (group.Run Markers)).response ≡ response.Told r)
-    × (reply_text r ≡ listing_text s.cell f.planned.snapshot.deck.rules f.book)
+    × (reply_text r ≡ listing_text 1 s.cell f.planned.snapshot.deck.rules f.book)

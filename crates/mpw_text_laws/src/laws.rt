@@ -4,12 +4,14 @@ ghost use Rattle.mpw_text_laws.specs.Replies.{DesksListAsChecks, ListingsAreRepl
 
 use mpw_hier::shelves_have_their_numbers;
 use mpw_job::each_marker_meets_some;
+use mpw_listing::whole_keys_are_numbers;
 
 /// The listing that a check prints of a layout's markers is, byte for byte, a desk's reply for one who may read the layout's only
 /// submission.
 pub fn listings_are_replies()
     ensures { ListingsAreReplies }
 {
+    whole_keys_are_numbers();
     shelves_have_their_numbers();
     each_marker_meets_some();
 }
@@ -20,6 +22,7 @@ pub fn listings_are_replies()
 pub fn desks_list_as_checks()
     ensures { DesksListAsChecks }
 {
+    whole_keys_are_numbers();
     shelves_have_their_numbers();
     each_marker_meets_some();
 }

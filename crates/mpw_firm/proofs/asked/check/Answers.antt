@@ -16,7 +16,7 @@ use Rattle.mpw_firm.proofs.asked.check.Goals as goal
 
 pub found_in-requires-clause-alone : goal.found_in-requires-clause-alone
 found_in-requires-clause-alone g c = λ κs l.
-    ap (λ (s : Snapshot). length s.shelf) c.in_ok-drawn.ensures.read.2.of.by.from.drawn.snapshot_is
+    ap (λ (s : Snapshot). length s.shelf) c.in_ok-drawn.ensures.read.2.by.from.drawn.snapshot_is
 
 pub returns : goal.returns
 returns g c =
@@ -48,6 +48,7 @@ returns g c =
       original = Some c.as_str-file.result.now;
       top = drawn.top;
       rules = rs;
+      parts = drawn.parts;
       book = book;
       limit = choices.limit;
       notes = told;
@@ -59,6 +60,7 @@ returns g c =
       original = Some file;
       top = drawn.top;
       rules = drawn.layout.deck.rules;
+      parts = drawn.parts;
       book = book;
       limit = choices.limit;
       notes = told;
@@ -70,6 +72,7 @@ returns g c =
       original = Some (string_bytes options.file);
       top = drawn.top;
       rules = drawn.layout.deck.rules;
+      parts = drawn.parts;
       book = book;
       limit = choices.limit;
       notes = notes;
@@ -82,6 +85,7 @@ returns g c =
       original = Some (string_bytes options.file);
       top = drawn.top;
       rules = drawn.layout.deck.rules;
+      parts = drawn.parts;
       book = book;
       limit = choices.limit;
       notes = notes_of drawn.layout;

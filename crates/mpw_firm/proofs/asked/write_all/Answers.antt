@@ -27,7 +27,7 @@ returns g c = λ book is.
     all_for (enough_listed report checked.summary checked.limit) rules found book all in
     let listed = c.in_ok-write_listed.ensures.kept book enough in
     let seen = subst (λ (ms : List Marker). IsViewOf
-    (option_map string_bytes c.in-Some.wanted.key) checked.rules.now layout ms (most_of checked.limit)
+    (option_map string_bytes c.in-Some.wanted.key) checked.parts.now checked.rules.now layout ms (most_of checked.limit)
     view) same c.in_ok-view.ensures.view in
     let picture = c.in_ok-drawn.drawn in
     IfOk-weaker c.put_picture.result _ _

@@ -4,5 +4,5 @@ use Rattle.mpw_firm.proofs.key.find_marker.Given as goal
 
 -- none of the markers so far has the key
 abbrev pub invariant-loop-marker : goal.invariant-loop-marker
-invariant-loop-marker l = marker_named l.rules l.word (drop l.marker-index l.markers) ≡ marker_named
-    l.rules l.word l.markers
+invariant-loop-marker l = marker_named l.parts l.rules l.word (drop l.marker-index l.markers)
+    ≡ marker_named l.parts l.rules l.word l.markers

@@ -10,7 +10,7 @@ returns g c =
     let library = c.in_ok-library.library.items in
     let drawn = c.in_ok-drawn.drawn in
     let top = c.args.options.now.top in
-    let of = subst (λ (text : List ℕ). IsDrawnOf top None text c.in_ok-source.source drawn) c.deref.ensures.value
+    let of = subst (λ (text : List ℕ). IsDrawnOf top None text c.in_ok-source.source drawn) c.deref-2.ensures.value
     c.in_ok-drawn.ensures.drawn in
     record {
       deck = deck;

@@ -9,5 +9,5 @@ abbrev pub invariant-loop-marker : goal.invariant-loop-marker
 invariant-loop-marker g l =
     (l.left ≡ l.listing.limit - length (of_rule (take l.marker-index l.listing.markers.now) l.place))
     × Appends (g.W.Write.contents l.initial.writer) (g.W.Write.contents l.writer)
-    (flat_map (line_text l.listing.top.now l.rule)
+    (flat_map (line_text l.listing.parts.now l.listing.top.now l.rule)
     (take l.listing.limit (of_rule (take l.marker-index l.listing.markers.now) l.place)))

@@ -7,5 +7,5 @@ use Rattle.mpw_listing.proofs.listing.put_markers.Given as goal
 abbrev pub invariant-loop-marker : goal.invariant-loop-marker
 invariant-loop-marker g l =
     Appends (g.W.Write.contents l.initial.writer) (g.W.Write.contents l.writer)
-    (flat_map (marker_line l.listing.top.now l.listing.rules.now)
+    (flat_map (marker_line l.listing.parts.now l.listing.top.now l.listing.rules.now)
     (take l.marker-index l.listing.markers.now))

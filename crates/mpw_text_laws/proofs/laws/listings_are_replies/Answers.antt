@@ -3,4 +3,4 @@ use Rattle.mpw_text_laws.proofs.laws.listings_are_replies.Goals as goal
 
 pub returns : goal.returns
 returns c =
-    listings_are c.shelves_have_their_numbers.ensures.origins c.each_marker_meets_some.ensures
+    listings_are c.whole_keys_are_numbers.ensures c.shelves_have_their_numbers.ensures.origins c.each_marker_meets_some.ensures

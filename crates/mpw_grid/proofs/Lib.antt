@@ -1,0 +1,3 @@
+-- The lemmas about units and decks.
+mod Rules
+mod Shares

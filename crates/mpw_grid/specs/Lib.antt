@@ -1,0 +1,3 @@
+pub mod Decks
+pub mod Texts
+pub mod Units

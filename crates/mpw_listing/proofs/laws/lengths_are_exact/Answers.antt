@@ -1,0 +1,5 @@
+use Rattle.mpw_listing.proofs.Exact.{lengths_are}
+use Rattle.mpw_listing.proofs.laws.lengths_are_exact.Goals as goal
+
+pub returns : goal.returns
+returns c = lengths_are

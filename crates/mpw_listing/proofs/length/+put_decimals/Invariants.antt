@@ -1,0 +1,4 @@
+use Rattle.mpw_listing.proofs.length.+put_decimals.Given as goal
+
+abbrev pub decreases-put_decimals : goal.decreases-put_decimals
+decreases-put_decimals g l = l.left
