@@ -1,1 +1,1 @@
-mod RowLemmas
+mod GuardLemmas

@@ -1,2 +1,2 @@
-pub mod Permitted
+pub mod Guard
 pub mod Seen

@@ -1,8 +1,8 @@
-//! What a session may do, and which submissions it sees: the first tests of most decision tables, and what listings need to know of the policy.
+//! The guard that stands before every request, and which submissions a session sees.
 #![tactic(auto)]
 
+mod guard;
 mod seen;
-mod session;
 
+pub use guard::{enter, entering_is_by_the_need, session_user};
 pub use seen::seen_by;
-pub use session::{enter, entering_denies_what_is_lacked, need_session};

@@ -12,13 +12,13 @@ use Rattle.mpw_core.specs.Internal.Answer.{ComesTo, ended}
 use Rattle.mpw_events.specs.Step.{State, ending_of, outcome_by}
 
 -- if what was made is the table's part
-comes : {P : Type 0} (over : P → State) (s : State) (made : Result (Done P) Fault)
-    (row : Result (Done P) Ending) → Answers (λ done. done) made row
-    → ComesTo over (λ part. ⊤) s made (outcome_by (λ e. e) over s row)
-comes over s (Ok (Lists lines)) row is = ap (outcome_by (λ e. e) over s) is
-comes over s (Ok (Changes part lines)) row is = (ap (outcome_by (λ e. e) over s) is, tt)
-comes over s (Err (fault.Told e)) row is = ap (outcome_by (λ e. e) over s) is
-comes over s (Err fault.Memory) row is = tt
+comes : {E P : Type 0} (ending : E → Ending) (over : P → State) (s : State)
+    (made : Result (Done P) (Fault E)) (row : Result (Done P) E) → Answers (λ done. done) made row
+    → ComesTo ending over (λ part. ⊤) s made (outcome_by ending over s row)
+comes ending over s (Ok (Lists lines)) row is = ap (outcome_by ending over s) is
+comes ending over s (Ok (Changes part lines)) row is = (ap (outcome_by ending over s) is, tt)
+comes ending over s (Err (fault.Told e)) row is = ap (outcome_by ending over s) is
+comes ending over s (Err fault.Memory) row is = tt
 
 -- the same of a table of the policy, which ends with a refusal
 ended-same : {P : Type 0} (over : P → State) (s : State) (row : Result (Done P) Refusal)
@@ -27,9 +27,10 @@ ended-same over s (Ok (Lists lines)) = refl
 ended-same over s (Ok (Changes part lines)) = refl
 ended-same over s (Err refusal) = refl
 
-pub comes_ended : {P : Type 0} (over : P → State) (s : State) (made : Result (Done P) Fault)
-    (row : Result (Done P) Refusal) → Answers (λ done. done) made (ended row)
-    → ComesTo over (λ part. ⊤) s made (outcome_by ending_of over s row)
+pub comes_ended : {P : Type 0} (over : P → State) (s : State)
+    (made : Result (Done P) (Fault Ending)) (row : Result (Done P) Refusal)
+    → Answers (λ done. done) made (ended row)
+    → ComesTo (λ e. e) over (λ part. ⊤) s made (outcome_by ending_of over s row)
 comes_ended over s made row is =
-    subst (ComesTo over (λ part. ⊤) s made) (ended-same over s row)
-    (comes over s made (ended row) is)
+    subst (ComesTo (λ e. e) over (λ part. ⊤) s made) (ended-same over s row)
+    (comes (λ e. e) over s made (ended row) is)

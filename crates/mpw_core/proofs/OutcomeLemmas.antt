@@ -2,6 +2,7 @@
 -- preserve it.
 use Rattle.std.proofs.Common.{◌≡◌, ℕ, Bool, true, false, cond, List, [], ◌∷◌, Result, Ok, Err, refl}
 use Rattle.std.specs.Prelude.{◌&&◌, not}
+use Rattle.mpw_access.specs.Guard.{entered}
 use Rattle.mpw_hier.specs.declared.submission.Submission.{Submission}
 use Rattle.mpw_layouts.specs.Layouts as layouts
 use Rattle.mpw_placings.specs.declared.wafer.Wafer.{Wafer}
@@ -11,6 +12,8 @@ use Rattle.mpw_replies.specs.declared.entry.Entry.{Entry}
 use Rattle.mpw_replies.specs.declared.row.Done.{Done}
 use Rattle.mpw_replies.specs.declared.row.Done.TheVariants.{Lists, Changes}
 use Rattle.mpw_replies.specs.declared.row.Ending.{Ending}
+use Rattle.mpw_replies.specs.declared.row.Ending.TheVariants.{Refused}
+use Rattle.mpw_requests.specs.Needs.{need_of}
 use Rattle.mpw_requests.specs.declared.layouts.LayoutRequest.{LayoutRequest}
 use Rattle.mpw_requests.specs.declared.wafer.WaferRequest.{WaferRequest}
 use Rattle.mpw_requests.specs.declared.request.Request.{Request}
@@ -22,7 +25,7 @@ use Rattle.mpw_wafer.specs.Wafers as wafers
 use Rattle.mpw_events.specs.declared.event.Call.{Call}
 use Rattle.mpw_events.specs.declared.event.Event.{Event}
 use Rattle.mpw_events.specs.History.{state_after}
-use Rattle.mpw_events.specs.Step.{State, Outcome, no_change, ending_of, outcome_by, over_policy, over_shelf, over_wafer, over_run, over_waivers, policy_row, whoami_row, trail_row, outcome_of, event_outcome, not_kept_response, settlement, step, trail_behind, after}
+use Rattle.mpw_events.specs.Step.{State, Outcome, no_change, ending_of, outcome_by, over_policy, over_shelf, over_wafer, over_run, over_waivers, policy_row, whoami_row, row_outcome, guarded, outcome_of, event_outcome, not_kept_response, settlement, step, trail_behind, after}
 
 -- ---- requests
 
@@ -36,40 +39,58 @@ holds-row P ending over s (Ok (Changes part lines)) held changed = changed part 
 holds-row P ending over s (Err e) held changed = held
 
 -- what holds of the state, and with the part that each group of requests changes
+holds-table : (P : State → Type 0) (s : State) (connection : ℕ) (request : Request) → P s
+    → ((policy : Policy) → P (over_policy s policy))
+    → ((asked : LayoutRequest) (shelf : List Submission) (lines : List Listed)
+    → layouts.row_of s.policy s.shelf connection asked ≡ Ok (Changes shelf lines)
+    → P (over_shelf s shelf))
+    → ((asked : WaferRequest) (wafer : Wafer) (lines : List Listed)
+    → wafers.row_of s.shelf s.wafer asked ≡ Ok (Changes wafer lines) → P (over_wafer s wafer))
+    → ((change : checking.RunChange) → P (over_run s change))
+    → ((change : WaiverChange) → P (over_waivers s change))
+    → P (row_outcome s connection request).state
+holds-table P s connection (ask.Policy asked) held policies shelves wafer_changes runs waivers =
+    holds-row P ending_of (over_policy s) s (policy_row s.policy connection asked) held
+    (λ part lines is. policies part)
+holds-table P s connection ask.Whoami held policies shelves wafer_changes runs waivers =
+    holds-row P ending_of (over_policy s) s (whoami_row s.policy connection) held
+    (λ part lines is. policies part)
+holds-table P s connection (ask.Layout asked) held policies shelves wafer_changes runs waivers =
+    holds-row P layouts.ending_of (over_shelf s) s
+    (layouts.row_of s.policy s.shelf connection asked) held (shelves asked)
+holds-table P s connection (ask.Wafer asked) held policies shelves wafer_changes runs waivers =
+    holds-row P Refused (over_wafer s) s (wafers.row_of s.shelf s.wafer asked) held
+    (wafer_changes asked)
+holds-table P s connection (ask.Run asked) held policies shelves wafer_changes runs waivers =
+    holds-row P Refused (over_run s) s
+    (checking.row_of s.policy s.shelf s.wafer s.run connection asked) held
+    (λ change lines is. runs change)
+holds-table P s connection (ask.SignOff asked) held policies shelves wafer_changes runs waivers =
+    holds-row P signing.ending_of (over_waivers s) s
+    (signing.row_of s.policy s.wafer s.run s.waivers connection asked) held
+    (λ change lines is. waivers change)
+holds-table P s connection ask.Trail held policies shelves wafer_changes runs waivers = held
+
+-- what the guard denies leaves the state
+pub holds-guarded : (P : State → Type 0) (s : State) (passed : Result (Unit {0}) Ending)
+    (outcome : Outcome) → P s → P outcome.state → P (guarded s passed outcome).state
+holds-guarded P s (Ok x) outcome held now = now
+holds-guarded P s (Err e) outcome held now = held
+
 pub holds-request : (P : State → Type 0) (s : State) (connection : ℕ) (request : Request) → P s
     → ((policy : Policy) → P (over_policy s policy))
     → ((asked : LayoutRequest) (shelf : List Submission) (lines : List Listed)
     → layouts.row_of s.policy s.shelf connection asked ≡ Ok (Changes shelf lines)
     → P (over_shelf s shelf))
     → ((asked : WaferRequest) (wafer : Wafer) (lines : List Listed)
-    → wafers.row_of s.policy s.shelf s.wafer connection asked ≡ Ok (Changes wafer lines)
-    → P (over_wafer s wafer))
+    → wafers.row_of s.shelf s.wafer asked ≡ Ok (Changes wafer lines) → P (over_wafer s wafer))
     → ((change : checking.RunChange) → P (over_run s change))
     → ((change : WaiverChange) → P (over_waivers s change))
     → P (outcome_of s connection request).state
-holds-request P s connection (ask.Policy asked) held policies shelves wafer_changes runs waivers =
-    holds-row P ending_of (over_policy s) s (policy_row s.policy connection asked) held
-    (λ part lines is. policies part)
-holds-request P s connection ask.Whoami held policies shelves wafer_changes runs waivers =
-    holds-row P ending_of (over_policy s) s (whoami_row s.policy connection) held
-    (λ part lines is. policies part)
-holds-request P s connection (ask.Layout asked) held policies shelves wafer_changes runs waivers =
-    holds-row P (λ e. e) (over_shelf s) s (layouts.row_of s.policy s.shelf connection asked) held
-    (shelves asked)
-holds-request P s connection (ask.Wafer asked) held policies shelves wafer_changes runs waivers =
-    holds-row P (λ e. e) (over_wafer s) s (wafers.row_of s.policy s.shelf s.wafer connection asked)
-    held (wafer_changes asked)
-holds-request P s connection (ask.Run asked) held policies shelves wafer_changes runs waivers =
-    holds-row P (λ e. e) (over_run s) s
-    (checking.row_of s.policy s.shelf s.wafer s.run connection asked) held
-    (λ change lines is. runs change)
-holds-request P s connection (ask.SignOff asked) held policies shelves wafer_changes runs waivers =
-    holds-row P (λ e. e) (over_waivers s) s
-    (signing.row_of s.policy s.wafer s.run s.waivers connection asked) held
-    (λ change lines is. waivers change)
-holds-request P s connection ask.Trail held policies shelves wafer_changes runs waivers =
-    holds-row P (λ e. e) (over_policy s) s (trail_row s.policy connection s.trail) held
-    (λ part lines is. policies part)
+holds-request P s connection request held policies shelves wafer_changes runs waivers =
+    holds-guarded P s (entered s.policy connection (need_of request))
+    (row_outcome s connection request) held
+    (holds-table P s connection request held policies shelves wafer_changes runs waivers)
 
 -- ---- steps
 

@@ -35,8 +35,7 @@ module _ (none_are : NoneArePlacings) (later_keep : LaterShelvesKeep)
       subst (λ l. ArePlacings l s.wafer.placings) new.2
       (later_keep s.shelf (new.0 ∷ []) s.wafer.placings placed)
   placed-layout s connection Cells shelf lines is placed =
-      absurd (listing_changes_nothing (λ l. l) (layouts.cells s.policy s.shelf connection) shelf
-      lines is)
+      absurd cc
   placed-layout s connection (Shapes cell) shelf lines is placed =
       absurd (listing_changes_nothing (λ l. l) (layouts.shapes s.policy s.shelf connection cell)
       shelf lines is)
@@ -47,7 +46,7 @@ module _ (none_are : NoneArePlacings) (later_keep : LaterShelvesKeep)
       holds-request Placed s connection request placed (λ policy. placed)
       (λ asked shelf lines is. placed-layout s connection asked shelf lines is placed)
       (λ asked wafer lines is.
-      changes_keep s.policy s.shelf s.wafer connection asked wafer lines placed is)
+      changes_keep s.shelf s.wafer asked wafer lines placed is)
       (λ change. placed) (λ change. placed)
 
   placed-event_outcome : (s : State) (event : Event) → Placed s

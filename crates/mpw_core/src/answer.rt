@@ -2,20 +2,24 @@
 //!
 //! Each group of requests has a function that gives the result of its decision tables. [`answered`] is the one function from such a result
 //! to an answer.
-ghost use Rattle.std.specs.Prelude.{◌≡◌, true, false, IfOk};
+ghost use Rattle.std.specs.Prelude.{◌≡◌, true, false, IfOk, Ok as Passed};
 ghost use Rattle.mpw_core.specs.Internal.Answer.{ComesTo, Fits, IsReady, Gives, is_change, open_state, state_with};
 ghost use Rattle.mpw_events.specs.History.{restarts};
-ghost use Rattle.mpw_events.specs.Step.{State, Outcome, event_outcome, parting_outcome, outcome_of};
+ghost use Rattle.mpw_access.specs.Guard.{entered};
+ghost use Rattle.mpw_events.specs.Step.{State, Outcome, event_outcome, no_change, outcome_of, parting_outcome, row_outcome};
+ghost use Rattle.mpw_events.specs.declared.event.Response.TheVariants.{Told as ToldResponse};
+ghost use Rattle.mpw_requests.specs.Needs.{need_of};
 
-use crate::policy::{revised, trail, whoami};
+use crate::policy::{revised, trail_lines, whoami};
 use crate::run_answer::of_run;
 use crate::tables::Tables;
+use mpw_access::enter;
 use mpw_events::{Event, Response};
 use mpw_hier::Shelf;
 use mpw_placings::Wafer;
 use mpw_rbac::Policy;
-use mpw_replies::{Done, Fault, Reply};
-use mpw_requests::Request;
+use mpw_replies::{Done, Ends, Fault, Reply};
+use mpw_requests::{Request, need_of};
 use mpw_run::Prepared;
 use mpw_signoff::WaiverChange;
 use mpw_wafer::run::NextRun;
@@ -130,13 +134,15 @@ impl Part for WaiverChange {
 ///
 /// # Errors
 /// Out of memory.
-fn answered<P: Part + Drop>(made: Result<Done<P>, Fault>) -> Result<Answer, AllocError>
-    ensures { (state : State) (outcome : Outcome) → ComesTo (P.over state) (P.fits state) state made outcome → IfOk result (λ answer. Gives state outcome answer.response answer.next) }
+fn answered<P: Part + Drop, E: Ends + Drop>(
+    made: Result<Done<P>, Fault<E>>,
+) -> Result<Answer, AllocError>
+    ensures { (state : State) (outcome : Outcome) → ComesTo E.ending (P.over state) (P.fits state) state made outcome → IfOk result (λ answer. Gives state outcome answer.response answer.next) }
 {
     let (reply, next) = match made {
         Ok(Done::Lists(lines)) => (Reply::Ok(lines), Next::Nothing),
         Ok(Done::Changes { part, lines }) => (Reply::Ok(lines), part.next()),
-        Err(Fault::Told(ending)) => (ending.reply(), Next::Nothing),
+        Err(Fault::Told(ending)) => (ending.ending().reply(), Next::Nothing),
         Err(Fault::Memory) => return Err(AllocError),
     };
     Ok(Answer {
@@ -145,15 +151,26 @@ fn answered<P: Part + Drop>(made: Result<Done<P>, Fault>) -> Result<Answer, Allo
     })
 }
 
-/// Answers a request.
-fn ask(
+/// The answer that changes nothing.
+fn told(reply: Reply) -> Answer
+    ensures { (state : State) → Gives state (no_change (ToldResponse reply) state) result.response result.next }
+{
+    Answer {
+        response: Response::Told(reply),
+        next: Next::Nothing,
+    }
+}
+
+/// Answers a request whose connection has what it needs.
+fn answer_row(
     alloc: Global,
     tables: &Tables,
     connection: u32,
     request: &Request,
 ) -> Result<Answer, AllocError>
-    requires { IsReady tables.now }
-    ensures { IfOk result (λ answer. Gives (open_state tables.now) (outcome_of (open_state tables.now) connection request.now) answer.response answer.next) }
+    requires ready { IsReady tables.now }
+    requires entered { entered tables.now.policy connection (need_of request.now) ≡ Passed tt }
+    ensures { IfOk result (λ answer. Gives (open_state tables.now) (row_outcome (open_state tables.now) connection request.now) answer.response answer.next) }
 {
     let Tables {
         policy,
@@ -169,16 +186,33 @@ fn ask(
         Request::Layout(request) => answered(mpw_layouts::answer_request(
             alloc, policy, shelf, connection, request,
         )),
-        Request::Wafer(request) => answered(mpw_wafer::answer_request(
-            alloc, policy, shelf, wafer, connection, request,
-        )),
+        Request::Wafer(request) => {
+            answered(mpw_wafer::answer_request(alloc, shelf, wafer, request))
+        }
         Request::Run(request) => answered(mpw_wafer::run::answer_request(
             alloc, policy, shelf, wafer, run, connection, request,
         )),
         Request::SignOff(request) => answered(mpw_signoff::answer_request(
             alloc, policy, wafer, run, waivers, connection, request,
         )),
-        Request::Trail => answered(trail(alloc, policy, requests, connection)),
+        Request::Trail => Ok(told(Reply::Ok(trail_lines(alloc, requests)?))),
+    }
+}
+
+/// Answers a request: the guard, and then its decision table.
+fn ask(
+    alloc: Global,
+    tables: &Tables,
+    connection: u32,
+    request: &Request,
+) -> Result<Answer, AllocError>
+    requires { IsReady tables.now }
+    ensures { IfOk result (λ answer. Gives (open_state tables.now) (outcome_of (open_state tables.now) connection request.now) answer.response answer.next) }
+{
+    let need = need_of(request)?;
+    match enter(&tables.policy, connection, need) {
+        Ok(()) => answer_row(alloc, tables, connection, request),
+        Err(ending) => Ok(told(ending.reply())),
     }
 }
 

@@ -1,17 +1,15 @@
-//! The requests that change the policy, `whoami` and `trail`: the result of each one's decision table.
+//! The requests that change the policy, and `whoami`: the result of each one's decision table. The lines of `trail`.
 //!
 //! A request that changes the policy works on a copy of it. If the request is accepted, the copy replaces the policy.
 ghost use Rattle.std.specs.Prelude.{◌≡◌, IfErr, IfOk, OnOk, Ok, map};
 ghost use Rattle.mpw_core.specs.Internal.Answer.{ended, fault_of};
 ghost use Rattle.mpw_events.specs.PolicyRows.{row_of};
-ghost use Rattle.mpw_events.specs.Step.{ending_of, identity_lines, policy_row, trail_row, whoami_row};
+ghost use Rattle.mpw_events.specs.Step.{ending_of, identity_lines, policy_row, whoami_row};
 ghost use Rattle.mpw_rbac.specs.Rows.{IsFaultOf};
 ghost use Rattle.mpw_replies.specs.Listing.{stored};
 ghost use Rattle.mpw_replies.specs.Rows.{Answers};
 ghost use Rattle.mpw_replies.specs.Trail.{trail_lines};
 
-use mpw_access::enter;
-use mpw_permissions::{Object, Operation};
 use mpw_rbac::{Identity, Policy, PolicyFault, Refusal};
 use mpw_replies::{Code, Denial, Done, Ending, Fault, Line, Lines, Trail};
 use mpw_requests::PolicyRequest;
@@ -40,7 +38,7 @@ fn ending_of(refusal: Refusal) -> Ending
 }
 
 /// The fault of a decision table for a fault of the policy.
-fn fault_of(fault: PolicyFault) -> Fault
+fn fault_of(fault: PolicyFault) -> Fault<Ending>
     ensures { result ≡ fault_of fault }
 {
     match fault {
@@ -88,7 +86,7 @@ pub(crate) fn revised(
     policy: &Policy,
     connection: u32,
     request: &PolicyRequest,
-) -> Result<Done<Policy>, Fault>
+) -> Result<Done<Policy>, Fault<Ending>>
     ensures { Answers (λ done. done) result (ended (policy_row policy.now connection request.now)) }
 {
     let mut part = policy.copy()?;
@@ -120,7 +118,11 @@ fn identity_lines(alloc: Global, identity: Identity) -> Result<Lines, AllocError
 ///
 /// # Errors
 /// The first test that fails, or out of memory.
-pub(crate) fn whoami(alloc: Global, policy: &Policy, connection: u32) -> Result<Done<Policy>, Fault>
+pub(crate) fn whoami(
+    alloc: Global,
+    policy: &Policy,
+    connection: u32,
+) -> Result<Done<Policy>, Fault<Ending>>
     ensures { Answers (λ done. done) result (ended (whoami_row policy.now connection)) }
 {
     match policy.whoami(connection) {
@@ -129,26 +131,10 @@ pub(crate) fn whoami(alloc: Global, policy: &Policy, connection: u32) -> Result<
     }
 }
 
-/// The lines of the trail.
-fn trail_lines(alloc: Global, trail: &Trail) -> Result<Lines, AllocError>
+/// The lines of the trail. Cost: a count for each 1024 requests so far, and the rows of the last ones.
+pub(crate) fn trail_lines(alloc: Global, trail: &Trail) -> Result<Lines, AllocError>
     ensures { IfOk result (λ lines. lines ≡ trail_lines trail.now.entries) }
 {
     let listing = trail.listing(alloc)?;
     Lines::of_trail(alloc, listing)
-}
-
-/// The request `trail`. Cost: a count for each 1024 requests so far, and the rows of the last ones.
-///
-/// # Errors
-/// The first test that fails, or out of memory.
-pub(crate) fn trail(
-    alloc: Global,
-    policy: &Policy,
-    trail: &Trail,
-    connection: u32,
-) -> Result<Done<Policy>, Fault>
-    ensures { Answers (λ done. done) result (trail_row policy.now connection trail.now.entries) }
-{
-    enter(policy, connection, Operation::Audit, Object::Desk)?;
-    Ok(Done::Lists(trail_lines(alloc, trail)?))
 }

@@ -1,41 +1,36 @@
 -- A session that may do nothing learns nothing of layouts.
-use Rattle.std.proofs.Common.{◌≡◌, ℕ, Bool, true, false, cond, not, ◌&&◌, List, [], ◌∷◌, map, is_some, Option, Result, Ok, Err, refl, sym, ap, ap₂, subst, ◌∙◌}
+use Rattle.std.proofs.Common.{◌≡◌, ℕ, Bool, true, false, cond, not, ◌&&◌, List, [], ◌∷◌, map, Option, Result, Ok, Err, refl, sym, ap, ap₂, subst, ◌∙◌, true≢false}
 use Rattle.std.specs.List.{flat_map}
-use Rattle.mpw_roles.specs.Decided.{decided}
 use Rattle.mpw_hier.specs.declared.submission.Submission.{Submission}
 use Rattle.mpw_permissions.specs.declared.permission.Operation.{Operation}
 use Rattle.mpw_permissions.specs.declared.permission.Operation.TheVariants as operation
 use Rattle.mpw_permissions.specs.declared.permission.Object.{Object}
 use Rattle.mpw_permissions.specs.declared.permission.Object.TheVariants as object
-use Rattle.mpw_rbac.specs.Policy.{Policy, session_of, permits}
+use Rattle.mpw_rbac.specs.Policy.{Policy, permits}
 use Rattle.mpw_requests.specs.declared.request.Request.{Request}
 use Rattle.mpw_requests.specs.declared.request.Request.TheVariants as ask
-use Rattle.mpw_requests.specs.declared.layouts.LayoutRequest.{LayoutRequest}
 use Rattle.mpw_requests.specs.declared.layouts.LayoutRequest.TheVariants.{Submit, Cells, Shapes}
-use Rattle.mpw_requests.specs.declared.run.RunRequest.{RunRequest}
 use Rattle.mpw_requests.specs.declared.run.RunRequest.TheVariants as run_ask
-use Rattle.mpw_requests.specs.declared.sign_off.SignOffRequest.{SignOffRequest}
 use Rattle.mpw_requests.specs.declared.sign_off.SignOffRequest.TheVariants as sign
-use Rattle.mpw_requests.specs.declared.wafer.WaferRequest.{WaferRequest}
 use Rattle.mpw_requests.specs.declared.wafer.WaferRequest.TheVariants.{Place, Unplace, Deck}
-use Rattle.mpw_replies.specs.Listing.{Listed, stored}
-use Rattle.mpw_replies.specs.Rows.{denied, listing}
+use Rattle.mpw_requests.specs.Needs.{need_of}
+use Rattle.mpw_replies.specs.Listing.{stored}
 use Rattle.mpw_replies.specs.declared.reply.Line.{Line}
-use Rattle.mpw_replies.specs.declared.reply.Denial.TheVariants as denial
+use Rattle.mpw_replies.specs.declared.reply.Reply.TheVariants as reply
 use Rattle.mpw_replies.specs.declared.row.Done.{Done}
 use Rattle.mpw_replies.specs.declared.row.Done.TheVariants.{Lists, Changes}
 use Rattle.mpw_replies.specs.declared.row.Ending.{Ending}
 use Rattle.mpw_replies.specs.declared.row.Ending.TheVariants as ending
-use Rattle.mpw_access.specs.Permitted.{in_session, permitted}
+use Rattle.mpw_access.specs.Guard.{EnteredHas, Has, entered}
 use Rattle.mpw_layouts.specs.Layouts as layouts
-use Rattle.mpw_wafer.specs.Wafers as wafers
 use Rattle.mpw_wafer.specs.Run.Checking as checking
 use Rattle.mpw_run.specs.Step.{Run}
 use Rattle.mpw_signoff.specs.SigningOff as signing
 use Rattle.mpw_waiver.specs.declared.waiver.Waiver.{Waiver}
 use Rattle.mpw_events.specs.declared.event.Event.{Event}
 use Rattle.mpw_events.specs.declared.event.Event.TheVariants as event
-use Rattle.mpw_events.specs.Step.{State, Outcome, no_change, not_kept_response, outcome_by, policy_row, whoami_row, outcome_of, event_outcome, settlement, step}
+use Rattle.mpw_events.specs.declared.event.Response.TheVariants as response
+use Rattle.mpw_events.specs.Step.{State, Outcome, guarded, no_change, not_kept_response, outcome_by, over_run, over_waivers, policy_row, whoami_row, outcome_of, row_outcome, event_outcome, settlement, step}
 use Rattle.mpw_denial_laws.specs.Blind.{MayNothing, DifferInLayouts, NothingIsToldOfLayouts}
 
 -- ---- two outcomes with the same response, that both are or aren't a change
@@ -59,22 +54,6 @@ settled_alike a b e kept o u h =
     go true false same = absurd cc
     go false true same = absurd cc
 
--- ---- what is lacked
-
--- what ends the decision table of a request whose permission is lacked
-record Lacks (policy : Policy) (connection : ℕ) (asked : Operation) (on : Object) : Type 0 where
-  why : Ending
-  is : permitted policy connection asked on ≡ Err why
-
-lacks : (policy : Policy) (connection : ℕ) (asked : Operation) (on : Object)
-    → permits policy connection asked on ≡ false → Lacks policy connection asked on
-lacks policy connection asked on e = go (is_some (session_of policy connection)) refl
-  where
-    go : (b : Bool) → is_some (session_of policy connection) ≡ b
-        → Lacks policy connection asked on
-    go true s = record { why = denied asked on; is = rw (s, e) refl }
-    go false s = record { why = ending.Denied denial.Session; is = rw s refl }
-
 -- ---- cells that may not be read have no lines
 
 no_lines : (f : List ℕ → List Line) → ((cell : List ℕ) → f cell ≡ []) → (cells : List (List ℕ))
@@ -82,8 +61,11 @@ no_lines : (f : List ℕ → List Line) → ((cell : List ℕ) → f cell ≡ []
 no_lines f none [] = refl
 no_lines f none (cell ∷ cells) = rw (none cell) (no_lines f none cells)
 
-abbrev none_listed : Bool × Ending → Result (List Listed) Ending
-none_listed test = decided (test ∷ []) []
+no_cells : (policy : Policy) (connection : ℕ) → MayNothing policy connection
+    → (shelf : List Submission) → layouts.cells policy shelf connection ≡ []
+no_cells policy connection nothing shelf =
+    ap (map stored) (no_lines (layouts.readable_line policy shelf connection)
+    (λ cell. rw (nothing operation.Read (object.Cell cell)) refl) (layouts.cells_of shelf))
 
 -- ---- equal decision tables have the same outcomes on both desks
 
@@ -101,116 +83,68 @@ module _ (a b : State) where
       of (Ok (Changes part lines)) = record { response = refl; changes = refl }
       of (Err why) = record { response = refl; changes = refl }
 
-module _ (a b : State) (connection : ℕ) (d : DifferInLayouts a b)
+module _ (has : EnteredHas) (a b : State) (connection : ℕ) (d : DifferInLayouts a b)
     (nothing : MayNothing a.policy connection) where
-  lack : (asked : Operation) (on : Object) → Lacks a.policy connection asked on
-  lack asked on = lacks a.policy connection asked on (nothing asked on)
-
-  -- the other desk lacks it too
-  there : (asked : Operation) (on : Object)
-      → permitted b.policy connection asked on ≡ Err (lack asked on).why
-  there asked on =
-      ap (λ (p : Policy). permitted p connection asked on) (sym d.policy) ∙ (lack asked on).is
-
-  no_cell : (policy : Policy) → MayNothing policy connection → (shelf : List Submission)
-      → layouts.cells policy shelf connection ≡ none_listed (in_session policy connection)
-  no_cell policy none shelf =
-      ap (λ (ls : List Line). decided (in_session policy connection ∷ []) (map stored ls))
-      (no_lines (layouts.readable_line policy shelf connection)
-      (λ cell. rw (none operation.Read (object.Cell cell)) refl) (layouts.cells_of shelf))
+  never : (asked : Operation) (on : Object) → permits a.policy connection asked on ≡ true → ⊥
+  never asked on may = true≢false (sym may ∙ nothing asked on)
 
   cells_alike : layouts.cells a.policy a.shelf connection
       ≡ layouts.cells b.policy b.shelf connection
   cells_alike =
-      let others = subst (λ (p : Policy). MayNothing p connection) d.policy nothing in
-      no_cell a.policy nothing a.shelf
-      ∙ ap (λ (p : Policy). none_listed (in_session p connection)) d.policy
-      ∙ sym (no_cell b.policy others b.shelf)
+      no_cells a.policy connection nothing a.shelf
+      ∙ sym (no_cells b.policy connection
+      (subst (λ (p : Policy). MayNothing p connection) d.policy nothing) b.shelf)
 
-  layout_alike : (request : LayoutRequest)
-      → layouts.row_of a.policy a.shelf connection request
-      ≡ layouts.row_of b.policy b.shelf connection request
-  unfolding layouts.submit_row layouts.shapes
-  layout_alike (Submit cell top text) =
-      rw ((lack operation.Submit (object.Cell cell)).is, there operation.Submit (object.Cell cell))
-      refl
-  layout_alike Cells = ap (λ row. listing (λ lines. lines) row) cells_alike
-  layout_alike (Shapes cell) = rw (
-    (lack operation.Read (object.Cell cell)).is,
-    there operation.Read (object.Cell cell),
-  ) refl
-
-  wafer_alike : (request : WaferRequest)
-      → wafers.row_of a.policy a.shelf a.wafer connection request
-      ≡ wafers.row_of b.policy b.shelf b.wafer connection request
-  unfolding wafers.place_row wafers.unplace_row wafers.deck_row
-  wafer_alike (Place cell label placing) =
-      rw ((lack operation.Place (object.Cell cell)).is, there operation.Place (object.Cell cell))
-      refl
-  wafer_alike (Unplace cell label) = rw (
-    (lack operation.Place (object.Cell cell)).is,
-    there operation.Place (object.Cell cell),
-  ) refl
-  wafer_alike (Deck text) = rw (
-    (lack operation.Deck object.Desk).is,
-    there operation.Deck object.Desk,
-  ) refl
-
-  run_alike : (request : RunRequest)
-      → checking.row_of a.policy a.shelf a.wafer a.run connection request
-      ≡ checking.row_of b.policy b.shelf b.wafer b.run connection request
-  unfolding checking.run_row checking.cancel_row
-  run_alike run_ask.Run = rw ((lack operation.Run object.Desk).is, there operation.Run object.Desk)
-      refl
-  run_alike run_ask.Cancel = rw (
-    (lack operation.Run object.Desk).is,
-    there operation.Run object.Desk,
-  ) refl
-  run_alike run_ask.Status =
-      ap₂ (λ (p : Policy) (r : Run). listing (λ lines. lines) (checking.status p r connection))
-      d.policy d.run
-  run_alike run_ask.Markers =
-      ap₂ (λ (p : Policy) (r : Run). listing (λ lines. lines) (checking.markers p r connection))
-      d.policy d.run
-
-  sign_alike : (request : SignOffRequest)
-      → signing.row_of a.policy a.wafer a.run a.waivers connection request
-      ≡ signing.row_of b.policy b.wafer b.run b.waivers connection request
-  unfolding signing.waive_row signing.sign_row signing.verdict_row
-  sign_alike (sign.Waive name) = rw (
-    (lack operation.Waive object.Desk).is,
-    there operation.Waive object.Desk,
-  ) refl
-  sign_alike (sign.Sign name) = rw (
-    (lack operation.Sign object.Desk).is,
-    there operation.Sign object.Desk,
-  ) refl
-  sign_alike sign.Waivers =
-      ap₂ (λ (p : Policy) (r : Run). listing (λ lines. lines)
-      (signing.waivers_row p r a.waivers connection)) d.policy d.run
-      ∙ ap (λ (w : List (Option Waiver)). listing (λ lines. lines)
-      (signing.waivers_row b.policy b.run w connection)) d.waivers
-  sign_alike sign.Verdict = rw (
-    (lack operation.Verdict object.Desk).is,
-    there operation.Verdict object.Desk,
-  ) refl
+  -- a request that needs a permission gets no further than the guard
+  row_alike : (request : Request) → Has a.policy connection (need_of request)
+      → Alike (row_outcome a connection request) (row_outcome b connection request)
+  row_alike (ask.Policy request) met =
+      alike_by a b _ _ _ _ _ (ap (λ (p : Policy). policy_row p connection request) d.policy)
+  row_alike ask.Whoami met =
+      alike_by a b _ _ _ _ _ (ap (λ (p : Policy). whoami_row p connection) d.policy)
+  row_alike (ask.Layout (Submit cell top text)) met =
+      absurd (never operation.Submit (object.Cell cell) met.1)
+  row_alike (ask.Layout Cells) met =
+      record { response = ap (λ ls. response.Told (reply.Ok ls)) cells_alike; changes = refl }
+  row_alike (ask.Layout (Shapes cell)) met = absurd (never operation.Read (object.Cell cell) met.1)
+  row_alike (ask.Wafer (Place cell label placing)) met =
+      absurd (never operation.Place (object.Cell cell) met.1)
+  row_alike (ask.Wafer (Unplace cell label)) met =
+      absurd (never operation.Place (object.Cell cell) met.1)
+  row_alike (ask.Wafer (Deck text)) met = absurd (never operation.Deck object.Desk met.1)
+  row_alike (ask.Run run_ask.Run) met = absurd (never operation.Run object.Desk met.1)
+  row_alike (ask.Run run_ask.Cancel) met = absurd (never operation.Run object.Desk met.1)
+  row_alike (ask.Run run_ask.Status) met =
+      alike_by a b ending.Refused (over_run a) (over_run b) _ _ (ap (λ (r : Run).
+      checking.row_of a.policy a.shelf a.wafer r connection run_ask.Status) d.run)
+  row_alike (ask.Run run_ask.Markers) met =
+      alike_by a b ending.Refused (over_run a) (over_run b) _ _ (ap₂ (λ (p : Policy) (r : Run).
+      checking.row_of p a.shelf a.wafer r connection run_ask.Markers) d.policy d.run)
+  row_alike (ask.SignOff (sign.Waive name)) met = absurd (never operation.Waive object.Desk met.1)
+  row_alike (ask.SignOff (sign.Sign name)) met = absurd (never operation.Sign object.Desk met.1)
+  row_alike (ask.SignOff sign.Waivers) met =
+      alike_by a b signing.ending_of (over_waivers a) (over_waivers b) _ _ (ap₂ (λ (p : Policy) (r : Run).
+      signing.row_of p a.wafer r a.waivers connection sign.Waivers) d.policy d.run
+      ∙ ap (λ (w : List (Option Waiver)).
+      signing.row_of b.policy b.wafer b.run w connection sign.Waivers) d.waivers)
+  row_alike (ask.SignOff sign.Verdict) met = absurd (never operation.Verdict object.Desk met.1)
+  row_alike ask.Trail met = absurd (never operation.Audit object.Desk met.1)
 
   alike : (request : Request)
       → Alike (outcome_of a connection request) (outcome_of b connection request)
-  alike (ask.Policy request) =
-      alike_by a b _ _ _ _ _ (ap (λ (p : Policy). policy_row p connection request) d.policy)
-  alike ask.Whoami =
-      alike_by a b _ _ _ _ _ (ap (λ (p : Policy). whoami_row p connection) d.policy)
-  alike (ask.Layout request) = alike_by a b _ _ _ _ _ (layout_alike request)
-  alike (ask.Wafer request) = alike_by a b _ _ _ _ _ (wafer_alike request)
-  alike (ask.Run request) = alike_by a b _ _ _ _ _ (run_alike request)
-  alike (ask.SignOff request) = alike_by a b _ _ _ _ _ (sign_alike request)
-  alike ask.Trail =
-      rw ((lack operation.Audit object.Desk).is, there operation.Audit object.Desk)
-      (record { response = refl; changes = refl })
+  alike request =
+      subst (λ (p : Policy). Alike (outcome_of a connection request)
+      (guarded b (entered p connection (need_of request)) (row_outcome b connection request)))
+      d.policy (go (entered a.policy connection (need_of request)) refl)
+    where
+      go : (met : Result (Unit {0}) Ending) → entered a.policy connection (need_of request) ≡ met
+          → Alike (guarded a met (row_outcome a connection request))
+          (guarded b met (row_outcome b connection request))
+      go (Ok passed) is = row_alike request (has a.policy connection (need_of request) is)
+      go (Err why) is = record { response = refl; changes = refl }
 
-pub nothing_is_told_of_layouts : NothingIsToldOfLayouts
+pub nothing_is_told_of_layouts : EnteredHas → NothingIsToldOfLayouts
 unfolding step event_outcome
-nothing_is_told_of_layouts a b connection request kept d nothing =
+nothing_is_told_of_layouts has a b connection request kept d nothing =
     settled_alike a b (event.Ask connection request) kept (outcome_of a connection request)
-    (outcome_of b connection request) (alike a b connection d nothing request)
+    (outcome_of b connection request) (alike has a b connection d nothing request)

@@ -9,7 +9,9 @@ use Rattle.mpw_requests.specs.declared.request.Request.TheVariants as ask
 use Rattle.mpw_requests.specs.declared.run.RunRequest.{RunRequest}
 use Rattle.mpw_requests.specs.declared.run.RunRequest.TheVariants as run_ask
 use Rattle.mpw_replies.specs.Listing.{Listed}
-use Rattle.mpw_replies.specs.Rows.{changing, listing}
+use Rattle.mpw_requests.specs.Needs.{need_of}
+use Rattle.mpw_access.specs.Guard.{entered}
+use Rattle.mpw_replies.specs.Rows.{changing, ended_by, listing, needed}
 use Rattle.mpw_replies.specs.declared.reply.Code.{Code}
 use Rattle.mpw_replies.specs.declared.reply.Code.TheVariants as code
 use Rattle.mpw_replies.specs.declared.reply.Line.{Line}
@@ -21,7 +23,7 @@ use Rattle.mpw_replies.specs.declared.row.Ending.{Ending}
 use Rattle.mpw_replies.specs.declared.row.Ending.TheVariants as ending
 use Rattle.mpw_run.specs.Run.{Checks, Planned, Tile}
 use Rattle.mpw_run.specs.Same.{same_snapshot, same_tile_job}
-use Rattle.mpw_run.specs.Step.{Offer, Run, answered_by, begun, cut_in, first_of, handed, job_of_tile, kept, left_as, next_from, offered, taken_in, tile_checked, tile_compared, tile_in}
+use Rattle.mpw_run.specs.Step.{Offer, Run, answered_by, begun, cut_in, findings, first_of, handed, job_of_tile, kept, left_as, next_from, offered, taken_in, tile_checked, tile_compared, tile_in}
 use Rattle.mpw_run.specs.declared.phase.Phase.{Phase}
 use Rattle.mpw_run.specs.declared.phase.Phase.TheVariants.{Idle, Cutting, Checking, Finished}
 use Rattle.mpw_run.specs.declared.phase.RunReply.TheVariants as run_reply
@@ -29,13 +31,12 @@ use Rattle.mpw_layouts.specs.Layouts as layouts
 use Rattle.mpw_signoff.specs.SigningOff as signing
 use Rattle.mpw_wafer.specs.Wafers as wafers
 use Rattle.mpw_wafer.specs.Run.Checking as checking
-use Rattle.mpw_wafer.specs.Run.Checking.{cancel_row, markers, run_row, status}
 use Rattle.mpw_events.specs.declared.event.Event.{Event}
 use Rattle.mpw_events.specs.declared.event.Event.TheVariants as event
 use Rattle.mpw_events.specs.declared.event.Response.{Response}
 use Rattle.mpw_events.specs.declared.event.Response.TheVariants as response
 use Rattle.mpw_events.specs.History.{Desk, KeptDesk, IsHandled, state_of}
-use Rattle.mpw_events.specs.Step.{Outcome, State, ending_of, event_outcome, no_change, not_kept_response, outcome_by, outcome_of, over_policy, over_run, over_shelf, over_wafer, over_waivers, policy_row, refused_with, step, trail_row, whoami_row}
+use Rattle.mpw_events.specs.Step.{Outcome, State, ending_of, event_outcome, guarded, no_change, not_kept_response, outcome_by, outcome_of, over_policy, over_run, over_shelf, over_wafer, over_waivers, policy_row, refused_with, row_outcome, step, whoami_row}
 use Rattle.mpw_desk.specs.Hints.{Fit, HasNoJob, asked_by, asked_of, asked_of_run, noted}
 use Rattle.mpw_desk.specs.declared.hints.Asked.{Asked}
 use Rattle.mpw_desk.specs.declared.hints.Asked.TheVariants as asked
@@ -249,56 +250,69 @@ other-fits hints ending over s (Ok (Lists lines)) other fit = fit
 other-fits hints ending over s (Ok (Changes part lines)) other fit = other part
 other-fits hints ending over s (Err e) other fit = fit
 
-begins-fits : (hints : Hints) (s : State) (lines : Planned → List Line)
-    (row : Result Planned Ending)
+begins-fits : (hints : Hints) (s : State) (lines : Planned → List Line) (row : Result Planned Code)
     → Fit hints s.run
-    → FitAfter asked.Run hints (outcome_by (λ e. e) (over_run s) s
+    → FitAfter asked.Run hints (outcome_by ending.Refused (over_run s) s
     (changing checking.begun lines row))
 begins-fits hints s lines (Ok planned) fit = λ rests. absurd (cc)
-begins-fits hints s lines (Err (ending.Denied why)) fit = fit
-begins-fits hints s lines (Err (ending.Refused c)) fit = fit
+begins-fits hints s lines (Err c) fit = fit
 
-leaves-fits : (hints : Hints) (s : State) (row : Result (Unit {0}) Ending) → Fit hints s.run
+leaves-fits : (hints : Hints) (s : State) (row : Result (Unit {0}) Code) → Fit hints s.run
     → FitAfter asked.Cancel hints
-    (outcome_by (λ e. e) (over_run s) s (changing (λ x. checking.left_off) (λ x. []) row))
+    (outcome_by ending.Refused (over_run s) s (changing (λ x. checking.left_off) (λ x. []) row))
 leaves-fits hints s (Ok x) fit = λ rests. refl
-leaves-fits hints s (Err (ending.Denied why)) fit = fit
-leaves-fits hints s (Err (ending.Refused c)) fit = fit
+leaves-fits hints s (Err c) fit = fit
 
 run-fits : (hints : Hints) (s : State) (connection : ℕ) (request : RunRequest) → Fit hints s.run
-    → FitAfter (asked_of_run request) hints (outcome_of s connection (ask.Run request))
+    → FitAfter (asked_of_run request) hints (row_outcome s connection (ask.Run request))
 run-fits hints s connection run_ask.Run fit =
     begins-fits hints s (λ planned. line.Run (s.run.number + 1) ∷ [])
-    (run_row s.policy s.shelf s.wafer s.run connection) fit
+    (checking.run_row s.shelf s.wafer s.run) fit
 run-fits hints s connection run_ask.Cancel fit =
-    leaves-fits hints s (cancel_row s.policy s.run connection) fit
-run-fits hints s connection run_ask.Status fit =
-    listed-fits hints (λ e. e) (over_run s) s (λ lines. lines) (status s.policy s.run connection)
-    fit
+    leaves-fits hints s (checking.going_on s.run.phase) fit
+run-fits hints s connection run_ask.Status fit = fit
 run-fits hints s connection run_ask.Markers fit =
-    listed-fits hints (λ e. e) (over_run s) s (λ lines. lines) (markers s.policy s.run connection)
+    listed-fits hints ending.Refused (over_run s) s (checking.checked_lines s.policy connection)
+    (needed code.NotFinished (findings s.run.phase)) fit
+
+row-fits : (hints : Hints) (s : State) (connection : ℕ) (request : Request) → Fit hints s.run
+    → FitAfter (asked_of request) hints (row_outcome s connection request)
+row-fits hints s connection (ask.Policy request) fit =
+    other-fits hints ending_of (over_policy s) s (policy_row s.policy connection request) (λ p. fit)
     fit
+row-fits hints s connection ask.Whoami fit =
+    other-fits hints ending_of (over_policy s) s (whoami_row s.policy connection) (λ p. fit) fit
+row-fits hints s connection (ask.Layout request) fit =
+    other-fits hints layouts.ending_of (over_shelf s) s
+    (layouts.row_of s.policy s.shelf connection request) (λ p. fit) fit
+row-fits hints s connection (ask.Wafer request) fit =
+    other-fits hints ending.Refused (over_wafer s) s (wafers.row_of s.shelf s.wafer request)
+    (λ p. fit) fit
+row-fits hints s connection (ask.Run request) fit = run-fits hints s connection request fit
+row-fits hints s connection (ask.SignOff request) fit =
+    other-fits hints signing.ending_of (over_waivers s) s
+    (signing.row_of s.policy s.wafer s.run s.waivers connection request) (λ p. fit) fit
+row-fits hints s connection ask.Trail fit = fit
+
+-- what the guard denies leaves hints and run
+denied-fits : (hints : Hints) (s : State) (a : Asked) (why : Ending) → Fit hints s.run
+    → FitAfter a hints (no_change (response.Told (ended_by why)) s)
+denied-fits hints s asked.Run (ending.Denied why) fit = fit
+denied-fits hints s asked.Run (ending.Refused c) fit = fit
+denied-fits hints s asked.Cancel (ending.Denied why) fit = fit
+denied-fits hints s asked.Cancel (ending.Refused c) fit = fit
+denied-fits hints s asked.Take why fit = fit
+denied-fits hints s asked.Else why fit = fit
 
 request-fits : (hints : Hints) (s : State) (connection : ℕ) (request : Request) → Fit hints s.run
     → FitAfter (asked_of request) hints (outcome_of s connection request)
-request-fits hints s connection (ask.Policy request) fit =
-    other-fits hints ending_of (over_policy s) s (policy_row s.policy connection request) (λ p. fit)
-    fit
-request-fits hints s connection ask.Whoami fit =
-    other-fits hints ending_of (over_policy s) s (whoami_row s.policy connection) (λ p. fit) fit
-request-fits hints s connection (ask.Layout request) fit =
-    other-fits hints (λ e. e) (over_shelf s) s (layouts.row_of s.policy s.shelf connection request)
-    (λ p. fit) fit
-request-fits hints s connection (ask.Wafer request) fit =
-    other-fits hints (λ e. e) (over_wafer s) s
-    (wafers.row_of s.policy s.shelf s.wafer connection request) (λ p. fit) fit
-request-fits hints s connection (ask.Run request) fit = run-fits hints s connection request fit
-request-fits hints s connection (ask.SignOff request) fit =
-    other-fits hints (λ e. e) (over_waivers s) s
-    (signing.row_of s.policy s.wafer s.run s.waivers connection request) (λ p. fit) fit
-request-fits hints s connection ask.Trail fit =
-    other-fits hints (λ e. e) (over_policy s) s (trail_row s.policy connection s.trail) (λ p. fit)
-    fit
+request-fits hints s connection request fit =
+    go (entered s.policy connection (need_of request))
+  where
+    go : (met : Result (Unit {0}) Ending)
+        → FitAfter (asked_of request) hints (guarded s met (row_outcome s connection request))
+    go (Ok passed) = row-fits hints s connection request fit
+    go (Err why) = denied-fits hints s (asked_of request) why fit
 
 -- ---- events
 

@@ -1,22 +1,21 @@
 -- The requests of the run list only what may be read.
-use Rattle.std.proofs.Common.{ℕ, ◌+◌, List, [], ◌∷◌, IfOk, arith}
+use Rattle.std.proofs.Common.{ℕ, ◌+◌, List, [], ◌∷◌, arith}
 use Rattle.std.specs.Prelude.{All}
 use Rattle.std.proofs.lemmas.List.Elements.{All-cons}
-use Rattle.mpw_laws.proofs.RowParts.{if_ok, if_behind, if_listed, if_changed}
+use Rattle.mpw_laws.proofs.RowParts.{if_ok, if_listed, if_changed}
 use Rattle.mpw_rbac.specs.Policy.{Policy}
 use Rattle.mpw_requests.specs.declared.run.RunRequest.TheVariants as ask
 use Rattle.mpw_laws.specs.ListingLaws.{BooksAreOfReadable}
 use Rattle.mpw_replies.specs.Listing.{Listed, stored}
 use Rattle.mpw_laws.specs.Readable.{IsOfReadable}
 use Rattle.mpw_replies.specs.Rows.{needed}
-use Rattle.mpw_access.specs.Permitted.{session_test}
 use Rattle.mpw_replies.specs.declared.reply.Code.TheVariants as code
 use Rattle.mpw_replies.specs.declared.reply.Line.TheVariants as line
 use Rattle.mpw_run.specs.declared.phase.Phase.{Phase}
 use Rattle.mpw_run.specs.declared.phase.Phase.TheVariants.{Idle, Cutting, Checking, Finished}
-use Rattle.mpw_run.specs.Step.{Run, findings}
+use Rattle.mpw_run.specs.Step.{findings}
 use Rattle.mpw_laws.specs.CheckingLaws.{MarkersAreOfReadable}
-use Rattle.mpw_wafer.specs.Run.Checking.{run_row, cancel_row, status, markers, phase_line}
+use Rattle.mpw_wafer.specs.Run.Checking.{checked_lines, going_on, phase_line, run_row}
 
 module _ (policy : Policy) (connection : ℕ) where
   abbrev Readable : List Listed → Type 0
@@ -34,32 +33,15 @@ module _ (policy : Policy) (connection : ℕ) where
   of_phase number (Checking c) = one (stored (phase_line number (Checking c))) tt
   of_phase number (Finished f) = one (stored (line.Finished number)) tt
 
-  of_status : (run : Run) → IfOk (status policy run connection) Readable
-  unfolding status
-  of_status run =
-      if_behind Readable (session_test policy connection) _
-      (λ inside is. of_phase run.number run.phase)
-
-  of_markers : BooksAreOfReadable → (run : Run) → IfOk (markers policy run connection) Readable
-  unfolding markers
-  of_markers books run =
-      if_behind Readable (session_test policy connection) _ (λ inside is.
-      if_behind Readable (needed code.NotFinished (findings run.phase)) _ (λ f finished.
-      let shelf = f.planned.snapshot.shelf in
-      books policy connection f.planned.snapshot.deck.rules shelf f.book))
-
 pub lines_may : BooksAreOfReadable → MarkersAreOfReadable
 lines_may books policy shelf wafer run connection ask.Run =
-    if_changed _ _ (λ planned. line.Run (run.number + 1) ∷ [])
-    (run_row policy shelf wafer run connection)
-    (if_ok _ (run_row policy shelf wafer run connection) (λ planned is.
-    one policy connection (stored (line.Run (run.number + 1))) tt))
+    if_changed _ _ (λ planned. line.Run (run.number + 1) ∷ []) (run_row shelf wafer run)
+    (λ planned is. one policy connection (stored (line.Run (run.number + 1))) tt)
 lines_may books policy shelf wafer run connection ask.Cancel =
-    if_changed _ _ (λ x. []) (cancel_row policy run connection)
-    (if_ok _ (cancel_row policy run connection) (λ left is. none policy connection))
+    if_changed _ _ (λ x. []) (going_on run.phase) (λ left is. none policy connection)
 lines_may books policy shelf wafer run connection ask.Status =
-    if_listed _ _ (status policy run connection)
-    (of_status policy connection run)
+    of_phase policy connection run.number run.phase
 lines_may books policy shelf wafer run connection ask.Markers =
-    if_listed _ _ (markers policy run connection)
-    (of_markers policy connection books run)
+    let found = needed code.NotFinished (findings run.phase) in
+    if_listed _ (checked_lines policy connection) found (if_ok _ found (λ f is.
+    books policy connection f.planned.snapshot.deck.rules f.planned.snapshot.shelf f.book))

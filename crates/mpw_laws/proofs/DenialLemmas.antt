@@ -1,11 +1,10 @@
 -- A denial names what the connection's session lacks.
-use Rattle.std.proofs.Common.{◌≡◌, ◌⊎◌, inl, inr, ℕ, Bool, List, [], Option, Some, None, Result, Err, false, refl, sym, ap, subst, ◌∙◌}
-use Rattle.std.proofs.lemmas.Option.{none-some, same_Some}
+use Rattle.std.proofs.Common.{◌≡◌, inl, inr, ℕ, Bool, List, [], Result, Err, false, ap, ◌∙◌}
 use Rattle.mpw_geom.specs.Names.{contains_name}
 use Rattle.mpw_permissions.specs.declared.permission.Object.{Object}
-use Rattle.mpw_permissions.specs.declared.permission.Object.TheVariants as objects
+use Rattle.mpw_permissions.specs.declared.permission.Object.TheVariants.{Cell}
 use Rattle.mpw_permissions.specs.declared.permission.Operation.{Operation}
-use Rattle.mpw_permissions.specs.declared.permission.Operation.TheVariants as operations
+use Rattle.mpw_permissions.specs.declared.permission.Operation.TheVariants.{Use}
 use Rattle.mpw_rbac.specs.declared.refusal.Refusal.{Refusal}
 use Rattle.mpw_rbac.specs.declared.refusal.Refusal.TheVariants as refusal
 use Rattle.mpw_rbac_laws.specs.Laws.{DeniesRightly}
@@ -17,78 +16,67 @@ use Rattle.mpw_requests.specs.declared.request.Request.{Request}
 use Rattle.mpw_requests.specs.declared.request.Request.TheVariants as ask
 use Rattle.mpw_requests.specs.declared.policy.PolicyRequest.{PolicyRequest}
 use Rattle.mpw_requests.specs.declared.policy.PolicyRequest.TheVariants.{Open, Close, Activate, DropRole, AddUser, DelUser, AddRole, DelRole, Assign, Deassign, Grant, Revoke, Inherit, Uninherit, Ssd, Dsd, UnSsd, UnDsd}
+use Rattle.mpw_requests.specs.Needs.{need_of}
+use Rattle.mpw_access.specs.Guard.{DeniedIsLacked}
+use Rattle.mpw_layouts.specs.declared.ending.LayoutEnding.{LayoutEnding}
+use Rattle.mpw_layouts.specs.declared.ending.LayoutEnding.TheVariants as layout
+use Rattle.mpw_layouts.specs.Layouts as layouts
+use Rattle.mpw_signoff.specs.declared.ending.SignOffEnding.{SignOffEnding}
+use Rattle.mpw_signoff.specs.declared.ending.SignOffEnding.TheVariants as sign_off
+use Rattle.mpw_signoff.specs.SigningOff as signing
 use Rattle.mpw_events.specs.PolicyRows.{row_of}
-use Rattle.mpw_access.specs.Permitted.{permitted}
 use Rattle.mpw_replies.proofs.RowParts.{changing_ended, listing_ended}
 use Rattle.mpw_replies.specs.Rows.{denied}
 use Rattle.mpw_replies.specs.declared.reply.Denial.{Denial}
 use Rattle.mpw_replies.specs.declared.reply.Denial.TheVariants as denial
 use Rattle.mpw_replies.specs.declared.reply.Reply.TheVariants as reply
 use Rattle.mpw_replies.specs.declared.row.Done.{Done}
-use Rattle.mpw_replies.specs.declared.row.Ending.{Ending}
 use Rattle.mpw_replies.specs.declared.row.Ending.TheVariants as ending
 use Rattle.mpw_events.specs.declared.event.Response.TheVariants as response
 use Rattle.mpw_events.proofs.OutcomeLemmas.{denied_by}
-use Rattle.mpw_events.specs.Step.{State, Outcome, ending_of, outcome_by, over_policy, over_shelf, over_wafer, over_run, over_waivers, policy_row, whoami_row, trail_row, outcome_of, event_outcome, step, response_of}
+use Rattle.mpw_events.specs.Step.{State, ending_of, outcome_by, over_policy, over_shelf, over_wafer, over_run, over_waivers, policy_row, whoami_row, row_outcome, response_of}
 use Rattle.mpw_laws.specs.LayoutLaws.{LayoutsDenyWhatIsLacked}
-use Rattle.mpw_laws.specs.WaferLaws.{WafersDenyWhatIsLacked}
-use Rattle.mpw_laws.specs.CheckingLaws.{RunsDenyWhatIsLacked}
-use Rattle.mpw_laws.specs.SignOffLaws.{SignOffsDenyWhatIsLacked}
-use Rattle.mpw_laws.proofs.AcceptedLemmas.{denied_row}
-use Rattle.mpw_laws.proofs.RefusalLemmas.{settlement-denied}
-use Rattle.mpw_laws.proofs.RowParts.{Lacks, lacks_permitted}
+use Rattle.mpw_laws.proofs.GuardLemmas.{guarded_denied, table_denied}
 
 -- the refusal that a denial shows
-abbrev pub told_of : Ending → Option Refusal
-told_of (ending.Denied (denial.Permission operation object)) =
-    Some (refusal.NotPermitted operation object)
-told_of (ending.Denied (denial.Activation role)) = Some (refusal.NotAuthorized role)
-told_of (ending.Denied (denial.Ssd name)) = Some (refusal.Ssd name)
-told_of (ending.Denied (denial.Dsd name)) = Some (refusal.Dsd name)
-told_of _ = None
+abbrev pub told_of : Denial → Refusal
+told_of (denial.Permission operation object) = refusal.NotPermitted operation object
+told_of (denial.Activation role) = refusal.NotAuthorized role
+told_of (denial.Ssd name) = refusal.Ssd name
+told_of (denial.Dsd name) = refusal.Dsd name
+told_of denial.Login = refusal.Login
+told_of _ = refusal.NoSession
 
-told_back : (r : Refusal) → (told_of (ending_of r) ≡ Some r) ⊎ (told_of (ending_of r) ≡ None)
-told_back (refusal.NotPermitted operation object) = inl refl
-told_back (refusal.NotAuthorized role) = inl refl
-told_back (refusal.Ssd name) = inl refl
-told_back (refusal.Dsd name) = inl refl
-told_back refusal.Opened = inr refl
-told_back refusal.Login = inr refl
-told_back refusal.NoSession = inr refl
-told_back refusal.Unknown = inr refl
-told_back refusal.Loop = inr refl
-told_back refusal.Known = inr refl
-told_back refusal.Used = inr refl
-told_back refusal.Full = inr refl
+told_by : (r : Refusal) (w : Denial) → ending_of r ≡ ending.Denied w → r ≡ told_of w
+told_by (refusal.NotPermitted operation object) w e =
+    ap told_of (let same : denial.Permission operation object ≡ w = cc in same)
+told_by (refusal.NotAuthorized role) w e =
+    ap told_of (let same : denial.Activation role ≡ w = cc in same)
+told_by (refusal.Ssd name) w e = ap told_of (let same : denial.Ssd name ≡ w = cc in same)
+told_by (refusal.Dsd name) w e = ap told_of (let same : denial.Dsd name ≡ w = cc in same)
+told_by refusal.Login w e = ap told_of (let same : denial.Login ≡ w = cc in same)
+told_by refusal.NoSession w e = ap told_of (let same : denial.Session ≡ w = cc in same)
+told_by refusal.Opened w e = absurd cc
+told_by refusal.Unknown w e = absurd cc
+told_by refusal.Loop w e = absurd cc
+told_by refusal.Known w e = absurd cc
+told_by refusal.Used w e = absurd cc
+told_by refusal.Full w e = absurd cc
 
-told_by : (r x : Refusal) (e : Ending) → told_of e ≡ Some x → ending_of r ≡ e → r ≡ x
-told_by r x e is same =
-    elim (told_back r) [
-      | inl p ↦ same_Some r x (sym p ∙ ap told_of same ∙ is)
-      | inr p ↦ absurd (none-some x (sym p ∙ ap told_of same ∙ is))
-    ]
-
--- the denial of a request of the policy is that of its decision table
-refused-row : (s : State) (row : Result (Done Policy) Refusal) (w : Denial) (x : Refusal)
-    → told_of (ending.Denied w) ≡ Some x
+-- a denial by a decision table of the policy is its refusal
+pub refused-row : (s : State) (row : Result (Done Policy) Refusal) (w : Denial)
     → (outcome_by ending_of (over_policy s) s row).response ≡ response.Told (reply.Denied w)
-    → row ≡ Err x
-refused-row s row w x is e =
+    → row ≡ Err (told_of w)
+refused-row s row w e =
     let d = denied_by ending_of (over_policy s) s row w e in
-    d.1.0 ∙ ap (λ r. Err r) (told_by d.0 x (ending.Denied w) is d.1.1)
+    d.1.0 ∙ ap (λ r. Err r) (told_by d.0 w d.1.1)
 
-pub denied-row : (s : State) (connection : ℕ) (request : PolicyRequest) (kept : Bool) (w : Denial)
-    (x : Refusal) → told_of (ending.Denied w) ≡ Some x
-    → response_of s (event.Ask connection (ask.Policy request)) kept ≡ response.Told
-    (reply.Denied w)
-    → row_of s.policy connection request ≡ Err x
-unfolding step event_outcome
-denied-row s connection request kept w x is e =
-    let same = settlement-denied s (event.Ask connection (ask.Policy request)) kept
-    (outcome_of s connection (ask.Policy request)) w e in
-    changing_ended _ (λ next. []) (row_of s.policy connection request) x
-    (refused-row s (policy_row s.policy connection request) w x is
-    (ap (λ (o : Outcome). o.response) (sym same) ∙ e))
+pub denied-row : (s : State) (connection : ℕ) (request : PolicyRequest) (w : Denial)
+    → (row_outcome s connection (ask.Policy request)).response ≡ response.Told (reply.Denied w)
+    → row_of s.policy connection request ≡ Err (told_of w)
+denied-row s connection request w e =
+    changing_ended _ (λ next. []) (row_of s.policy connection request) (told_of w)
+    (refused-row s (policy_row s.policy connection request) w e)
 
 lacks-row : (connection : ℕ) (request : PolicyRequest)
     → DeniesRightly connection (λ p. row_of p connection request)
@@ -111,64 +99,67 @@ lacks-row connection (Dsd set) = law.denies-dsd connection set
 lacks-row connection (UnSsd name) = law.denies-unssd connection name
 lacks-row connection (UnDsd name) = law.denies-undsd connection name
 
-module _ (shelves : LayoutsDenyWhatIsLacked) (wafers : WafersDenyWhatIsLacked)
-    (runs : RunsDenyWhatIsLacked) (waivers : SignOffsDenyWhatIsLacked) where
+-- no table of the sign-off denies a permission
+sign_off-allows : (why : SignOffEnding) (operation : Operation) (object : Object)
+    → signing.ending_of why ≡ denied operation object → ⊥
+sign_off-allows (sign_off.Refused code) operation object e = cc
+sign_off-allows (sign_off.Submitter cell) operation object e = cc
+sign_off-allows sign_off.Asker operation object e = cc
+
+module _ (lacked : DeniedIsLacked) (shelves : LayoutsDenyWhatIsLacked) where
   lacks-request : (s : State) (connection : ℕ) (request : Request) (operation : Operation)
-      (object : Object) → (outcome_of s connection request).response ≡ response.Told
+      (object : Object) → (row_outcome s connection request).response ≡ response.Told
       (reply.Denied (denial.Permission operation object))
       → permits s.policy connection operation object ≡ false
   lacks-request s connection (ask.Policy request) operation object e =
       lacks-row connection request s.policy operation object
-      (changing_ended _ (λ next. []) (row_of s.policy connection request)
-      (refusal.NotPermitted operation object)
-      (refused-row s (policy_row s.policy connection request)
-      (denial.Permission operation object) (refusal.NotPermitted operation object) refl e))
+      (denied-row s connection request (denial.Permission operation object) e)
   lacks-request s connection ask.Whoami operation object e =
       absurd (law.denies-whoami s.policy connection operation object
       (listing_ended _ (rows.whoami s.policy connection) (refusal.NotPermitted operation object)
-      (refused-row s (whoami_row s.policy connection)
-      (denial.Permission operation object) (refusal.NotPermitted operation object) refl e)))
+      (refused-row s (whoami_row s.policy connection) (denial.Permission operation object) e)))
   lacks-request s connection (ask.Layout request) operation object e =
-      shelves s.policy s.shelf connection request operation object
-      (denied_row (over_shelf s) s _ (denial.Permission operation object) e)
+      let d = denied_by layouts.ending_of (over_shelf s) s _ (denial.Permission operation object)
+      e in
+      go d.0 d.1.0 d.1.1
+    where
+      go : (why : LayoutEnding) → layouts.row_of s.policy s.shelf connection request ≡ Err why
+          → layouts.ending_of why ≡ denied operation object
+          → permits s.policy connection operation object ≡ false
+      go (layout.Refused code) is told = absurd cc
+      go (layout.Unusable cell) is told =
+          let op : Use ≡ operation = cc in
+          let ob : Cell cell ≡ object = cc in
+          rw (← op, ← ob) (shelves s.policy s.shelf connection request cell is)
   lacks-request s connection (ask.Wafer request) operation object e =
-      wafers s.policy s.shelf s.wafer connection request operation object
-      (denied_row (over_wafer s) s _ (denial.Permission operation object) e)
+      let d = denied_by ending.Refused (over_wafer s) s _ (denial.Permission operation object) e in
+      absurd (let h = d.1.1 in cc)
   lacks-request s connection (ask.Run request) operation object e =
-      runs s.policy s.shelf s.wafer s.run connection request operation object
-      (denied_row (over_run s) s _ (denial.Permission operation object) e)
+      let d = denied_by ending.Refused (over_run s) s _ (denial.Permission operation object) e in
+      absurd (let h = d.1.1 in cc)
   lacks-request s connection (ask.SignOff request) operation object e =
-      waivers s.policy s.wafer s.run s.waivers connection request operation object
-      (denied_row (over_waivers s) s _ (denial.Permission operation object) e)
-  lacks-request s connection ask.Trail operation object e =
-      subst (λ row. Lacks s.policy connection row)
-      (listing_ended _ (permitted s.policy connection operations.Audit objects.Desk)
-      (denied operation object)
-      (denied_row (over_policy s) s (trail_row s.policy connection s.trail)
-      (denial.Permission operation object) e))
-      (lacks_permitted s.policy connection operations.Audit objects.Desk)
+      let d = denied_by signing.ending_of (over_waivers s) s _
+      (denial.Permission operation object) e in
+      absurd (sign_off-allows d.0 operation object d.1.1)
+  lacks-request s connection ask.Trail operation object e = absurd cc
 
   pub lacks-permission : (s : State) (connection : ℕ) (request : Request) (kept : Bool)
       (operation : Operation) (object : Object)
       → response_of s (event.Ask connection request) kept ≡ response.Told
       (reply.Denied (denial.Permission operation object))
       → permits s.policy connection operation object ≡ false
-  unfolding step event_outcome
   lacks-permission s connection request kept operation object e =
-      let same =
-      settlement-denied s (event.Ask connection request) kept (outcome_of s connection request)
-      (denial.Permission operation object) e in
-      lacks-request s connection request operation object
-      (ap (λ (o : Outcome). o.response) (sym same)
-      ∙ e)
+      elim (guarded_denied s connection request kept (denial.Permission operation object) e) [
+        | inl g ↦ (lacked s.policy connection (need_of request) (denied operation object) g).1
+        | inr r ↦ lacks-request s connection request operation object r
+      ]
 
-pub lacks-role : (s : State) (connection : ℕ) (role other : List ℕ) (kept : Bool)
-    → response_of s (event.Ask connection (ask.Policy (Activate role))) kept ≡ response.Told
-    (reply.Denied (denial.Activation other))
-    → (other ≡ role) × (contains_name (authorized s.policy (rows.user_of s.policy connection)) role
-    ≡ false)
-lacks-role s connection role other kept e =
-    law.denies-activate s.policy connection role other
-    (denied-row s connection (Activate role) kept (denial.Activation other)
-    (refusal.NotAuthorized other)
-    refl e)
+  pub lacks-role : (s : State) (connection : ℕ) (role other : List ℕ) (kept : Bool)
+      → response_of s (event.Ask connection (ask.Policy (Activate role))) kept ≡ response.Told
+      (reply.Denied (denial.Activation other))
+      → (other ≡ role) × (contains_name (authorized s.policy (rows.user_of s.policy connection))
+      role ≡ false)
+  lacks-role s connection role other kept e =
+      law.denies-activate s.policy connection role other
+      (denied-row s connection (Activate role) (denial.Activation other) (table_denied lacked s
+      connection (ask.Policy (Activate role)) kept (denial.Activation other) (λ no. no) e))

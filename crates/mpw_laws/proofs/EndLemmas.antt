@@ -2,18 +2,18 @@
 use Rattle.std.proofs.Common.{◌≡◌, ◌∙◌, ℕ, ◌+◌, Bool, true, false, List, [], ◌∷◌, Option, Some, None, Result, Ok, Err, refl, sym, ap, subst}
 use Rattle.std.proofs.lemmas.Bool.{true≢false}
 use Rattle.mpw_events.specs.History.{KeptDesk, IsHandled, state_of}
-use Rattle.mpw_events.specs.Step.{State, Outcome, after, no_change, outcome_by, over_run, response_of, step, not_kept_response, event_outcome}
+use Rattle.mpw_events.specs.Step.{State, Outcome, after, guarded, no_change, outcome_by, over_run, response_of, step, not_kept_response, event_outcome}
 use Rattle.mpw_events.specs.declared.event.Event.{Event}
 use Rattle.mpw_events.specs.declared.event.Event.TheVariants as event
 use Rattle.mpw_events.specs.declared.event.Response.{Response}
-use Rattle.mpw_permissions.specs.declared.permission.Operation.TheVariants as operation
-use Rattle.mpw_permissions.specs.declared.permission.Object.TheVariants as object
-use Rattle.mpw_deck.specs.Decks.{Deck}
 use Rattle.mpw_wafer.specs.Run.Checking as checking
 use Rattle.mpw_wafer.specs.Run.Checking.{run_row}
 use Rattle.mpw_job.specs.declared.job.CutJob.{CutJob}
-use Rattle.mpw_replies.specs.Rows.{◌>>=◌, changing, ended_by, needed}
-use Rattle.mpw_access.specs.Permitted.{permitted}
+use Rattle.mpw_replies.specs.Rows.{changing, ended_by, needed}
+use Rattle.mpw_access.specs.Guard.{entered}
+use Rattle.mpw_requests.specs.Needs.{need_of}
+use Rattle.mpw_replies.proofs.RowParts.{passed}
+use Rattle.mpw_replies.specs.declared.reply.Code.{Code}
 use Rattle.mpw_replies.specs.declared.reply.Code.TheVariants as code
 use Rattle.mpw_replies.specs.declared.reply.Line.TheVariants as line
 use Rattle.mpw_replies.specs.declared.row.Ending.{Ending}
@@ -54,7 +54,7 @@ off_ends exact d d' planned is (WorksOff.called call job near far came taken cut
 
 -- ---- after which request
 
-ok_is : (x y : Planned) → ◌≡◌ {A = Result Planned Ending} (Ok x) (Ok y) → x ≡ y
+ok_is : (x y : Planned) → ◌≡◌ {A = Result Planned Code} (Ok x) (Ok y) → x ≡ y
 ok_is x y e = cc
 
 covered_plan : (s : Snapshot) (p : Planned) (o : Option Tiling) → plan_for s ≡ o
@@ -68,35 +68,28 @@ planned_plan : (s : Snapshot) (p : Planned) (items : List Item)
 planned_plan s p [] e = absurd cc
 planned_plan s p (item ∷ items) e = covered_plan s p (plan_for s) refl e
 
-row_plan : (p : Planned) (a b : Result (Unit {0}) Ending) (c : Result Deck Ending) (s : Deck
-    → Snapshot)
-    → (a >>= λ x. b >>= λ y. c >>= λ deck. checking.planning (s deck)) ≡ Ok p
-    → plan_for p.snapshot ≡ Some p.plan
-row_plan p (Err w) b c s e = absurd cc
-row_plan p (Ok x) (Err w) c s e = absurd cc
-row_plan p (Ok x) (Ok y) (Err w) s e = absurd cc
-row_plan p (Ok x) (Ok y) (Ok deck) s e = planned_plan (s deck) p (shown (s deck)) e
-
-begun_plan : (s : State) (connection : ℕ) (p : Planned)
-    → run_row s.policy s.shelf s.wafer s.run connection ≡ Ok p
+begun_plan : (s : State) (p : Planned) → run_row s.shelf s.wafer s.run ≡ Ok p
     → plan_for p.snapshot ≡ Some p.plan
 unfolding run_row
-begun_plan s connection p e =
-    row_plan p (permitted s.policy connection operation.Run object.Desk)
-    (checking.at_rest s.run.phase)
-    (needed code.NoDeck s.wafer.deck)
-    (λ deck. checking.snapshot_of deck s.wafer.placings s.shelf) e
+begun_plan s p e =
+    let free = passed (checking.at_rest s.run.phase) _ p e in
+    let deck = passed (needed code.NoDeck s.wafer.deck) _ p free.2 in
+    let snapshot = checking.snapshot_of deck.0 s.wafer.placings s.shelf in
+    planned_plan snapshot p (shown snapshot) deck.2
 
-abbrev begun : State → Result Planned Ending → Outcome
-begun s row =
-    outcome_by (λ e. e) (over_run s) s
-    (changing checking.RunChange.begun (λ planned. line.Run (s.run.number + 1) ∷ []) row)
+abbrev begun : State → Result (Unit {0}) Ending → Result Planned Code → Outcome
+begun s met row =
+    guarded s met (outcome_by ending.Refused (over_run s) s
+    (changing checking.RunChange.begun (λ planned. line.Run (s.run.number + 1) ∷ []) row))
 
-wanted_run : (s : State) (connection : ℕ)
-    → event_outcome s (event.Ask connection (ask.Run Run))
-    ≡ begun s (run_row s.policy s.shelf s.wafer s.run connection)
+wanted_run : (s : State) (connection : ℕ) (met : Result (Unit {0}) Ending)
+    (row : Result Planned Code)
+    → entered s.policy connection (need_of (ask.Run Run)) ≡ met
+    → run_row s.shelf s.wafer s.run ≡ row
+    → event_outcome s (event.Ask connection (ask.Run Run)) ≡ begun s met row
 unfolding event_outcome
-wanted_run s connection = refl
+wanted_run s connection met row guard is =
+    ap (λ m. begun s m (run_row s.shelf s.wafer s.run)) guard ∙ ap (begun s met) is
 
 not_accepted : (why : Ending) → accepts (ended_by why) ≡ false
 not_accepted (ending.Denied d) = refl
@@ -118,37 +111,42 @@ begun_cuts connection r before d is accepted =
     never t same refused = absurd (true≢false (sym accepted ∙ ap is_accepted same ∙ refused))
 
     by_row : (kept : Bool) → s.closed ≡ false → r ≡ response_of s e kept
-        → state_of d.desk ≡ after s e kept → (b : Result Planned Ending)
-        → run_row s.policy s.shelf s.wafer s.run connection ≡ b → (planned : Planned)
-        × Cuts d planned
-    by_row kept c t now (Err why) f =
-        let q : step s e kept ≡ begun s (Err why) =
-        step_by s e kept (begun s (Err why))
-        (wanted_run s connection ∙ ap (begun s) f) false refl in
+        → state_of d.desk ≡ after s e kept → (met : Result (Unit {0}) Ending)
+        → entered s.policy connection (need_of (ask.Run Run)) ≡ met → (row : Result Planned Code)
+        → run_row s.shelf s.wafer s.run ≡ row → (planned : Planned) × Cuts d planned
+    by_row kept c t now (Err why) g row f =
+        let q : step s e kept ≡ begun s (Err why) row =
+        step_by s e kept (begun s (Err why) row) (wanted_run s connection (Err why) row g f) false
+        refl in
         never _ (t ∙ ap (λ (x : Outcome). x.response) q) (not_accepted why)
-    by_row true c t now (Ok planned) f =
-        let q : step s e true ≡ begun s (Ok planned) =
-        step_by s e true (begun s (Ok planned))
-        (wanted_run s connection ∙ ap (begun s) f) true refl in (
+    by_row kept c t now (Ok tt) g (Err why) f =
+        let q : step s e kept ≡ begun s (Ok tt) (Err why) =
+        step_by s e kept (begun s (Ok tt) (Err why)) (wanted_run s connection (Ok tt) (Err why) g f)
+        false refl in
+        never _ (t ∙ ap (λ (x : Outcome). x.response) q) refl
+    by_row true c t now (Ok tt) g (Ok planned) f =
+        let q : step s e true ≡ begun s (Ok tt) (Ok planned) =
+        step_by s e true (begun s (Ok tt) (Ok planned))
+        (wanted_run s connection (Ok tt) (Ok planned) g f) true refl in (
           planned,
           record {
             is_open = ap (λ (x : State). x.closed) now ∙ ap (λ (x : Outcome). x.state.closed) q ∙ c;
             phase = ap (λ (x : State). x.run.phase) now ∙ ap (λ (x : Outcome). x.state.run.phase) q;
-            plan = begun_plan s connection planned f;
+            plan = begun_plan s planned f;
           },
         )
-    by_row false c t now (Ok planned) f =
+    by_row false c t now (Ok tt) g (Ok planned) f =
         let q : step s e false ≡ no_change (not_kept_response e) (record s { closed = true }) =
-        step_by s e false (begun s (Ok planned))
-        (wanted_run s connection ∙ ap (begun s) f) true refl in
+        step_by s e false (begun s (Ok tt) (Ok planned))
+        (wanted_run s connection (Ok tt) (Ok planned) g f) true refl in
         never _ (t ∙ ap (λ (x : Outcome). x.response) q) refl
 
     by : Came before e r d → (planned : Planned) × Cuts d planned
     by (Came.was_closed c t) = never _ t refl
     by (Came.was_full c t desk) = never _ t refl
-    by (Came.stepped kept c t now) = by_row kept c t now
-        (run_row s.policy s.shelf s.wafer s.run connection)
-        refl
+    by (Came.stepped kept c t now) =
+        by_row kept c t now (entered s.policy connection (need_of (ask.Run Run))) refl
+        (run_row s.shelf s.wafer s.run) refl
 
 pub work_ends : TestsAreExact → WorkEnds
 work_ends exact connection response before d d' is accepted work all =

@@ -3,11 +3,9 @@ use Rattle.std.proofs.Common.{◌≡◌, ℕ, Bool, List, [], Result, Ok, refl, 
 use Rattle.mpw_rbac.specs.declared.refusal.Refusal.{Refusal}
 use Rattle.mpw_rbac.specs.Policy.{Policy, new_policy}
 use Rattle.mpw_rbac.specs.Rows as rows
-use Rattle.mpw_permissions.specs.declared.permission.Object.TheVariants as object
-use Rattle.mpw_permissions.specs.declared.permission.Operation.TheVariants as operation
-use Rattle.mpw_access.specs.Permitted.{permitted}
 use Rattle.mpw_replies.proofs.RowParts.{changed, listing_changes_nothing}
 use Rattle.mpw_requests.specs.declared.policy.PolicyRequest.{PolicyRequest}
+use Rattle.mpw_replies.specs.declared.row.Ending.TheVariants as ending
 use Rattle.mpw_requests.specs.declared.request.Request.{Request}
 use Rattle.mpw_requests.specs.declared.request.Request.TheVariants as ask
 use Rattle.mpw_events.specs.declared.event.Call.{Call}
@@ -15,8 +13,8 @@ use Rattle.mpw_events.specs.declared.event.Event.{Event}
 use Rattle.mpw_events.specs.declared.event.Event.TheVariants as event
 use Rattle.mpw_events.specs.History.{state_after}
 use Rattle.mpw_events.specs.PolicyRows.{row_of}
-use Rattle.mpw_events.specs.Step.{State, new_state, ending_of, over_policy, policy_row, whoami_row, trail_row, outcome_of, event_outcome, after}
-use Rattle.mpw_core.proofs.OutcomeLemmas.{holds-row, holds-step, holds-calls}
+use Rattle.mpw_events.specs.Step.{State, new_state, ending_of, over_policy, policy_row, whoami_row, row_outcome, event_outcome, after}
+use Rattle.mpw_core.proofs.OutcomeLemmas.{holds-guarded, holds-row, holds-step, holds-calls}
 
 -- the policy after the decision table has the property if the policy before had it
 abbrev Keeps : (Policy → Type 0) → (Policy → Result Policy Refusal) → Type 0
@@ -32,35 +30,32 @@ module _
     abbrev Kept : State → Type 0
     Kept s = P s.policy
 
-    kept-request : (s : State) (connection : ℕ) (request : Request) → Kept s
-        → Kept (outcome_of s connection request).state
-    kept-request s connection (ask.Policy request) kept =
+    kept-row : (s : State) (connection : ℕ) (request : Request) → Kept s
+        → Kept (row_outcome s connection request).state
+    kept-row s connection (ask.Policy request) kept =
         let row = row_of s.policy connection request in
         holds-row Kept ending_of (over_policy s) s (policy_row s.policy connection request) kept
         (λ next lines is. let c = changed _ (λ next. []) row next lines is in
         subst P c.2 (row_keeps connection request s.policy c.0 c.1 kept))
-    kept-request s connection ask.Whoami kept =
+    kept-row s connection ask.Whoami kept =
         holds-row Kept ending_of (over_policy s) s (whoami_row s.policy connection) kept
         (λ next lines is.
         absurd (listing_changes_nothing _ (rows.whoami s.policy connection) next lines is))
-    kept-request s connection (ask.Layout request) kept =
+    kept-row s connection (ask.Layout request) kept =
         holds-row Kept _ _ s _ kept (λ part lines is. kept)
-    kept-request s connection (ask.Wafer request) kept =
+    kept-row s connection (ask.Wafer request) kept =
+        holds-row Kept ending.Refused _ s _ kept (λ part lines is. kept)
+    kept-row s connection (ask.Run request) kept =
+        holds-row Kept ending.Refused _ s _ kept (λ part lines is. kept)
+    kept-row s connection (ask.SignOff request) kept =
         holds-row Kept _ _ s _ kept (λ part lines is. kept)
-    kept-request s connection (ask.Run request) kept =
-        holds-row Kept _ _ s _ kept (λ part lines is. kept)
-    kept-request s connection (ask.SignOff request) kept =
-        holds-row Kept _ _ s _ kept (λ part lines is. kept)
-    kept-request s connection ask.Trail kept =
-        holds-row Kept (λ e. e) (over_policy s) s (trail_row s.policy connection s.trail) kept
-        (λ next lines is. absurd (listing_changes_nothing _
-        (permitted s.policy connection operation.Audit object.Desk) next lines is))
+    kept-row s connection ask.Trail kept = kept
 
     kept-event_outcome : (s : State) (event : Event) → P s.policy
         → P (event_outcome s event).state.policy
     unfolding event_outcome
-    kept-event_outcome s (event.Ask connection request) kept = kept-request s connection request
-        kept
+    kept-event_outcome s (event.Ask connection request) kept =
+        holds-guarded Kept s _ _ kept (kept-row s connection request kept)
     kept-event_outcome s (event.Gone connection) kept = end_keeps connection s.policy
         (rows.end_session s.policy connection)
         refl kept

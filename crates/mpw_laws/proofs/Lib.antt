@@ -1,6 +1,5 @@
 pub mod AcceptedLemmas
 pub mod BookLines
-pub mod CheckingDenials
 pub mod CheckingReadable
 pub mod Coming
 pub mod Counted
@@ -9,13 +8,13 @@ pub mod DenialLemmas
 pub mod EndLemmas
 pub mod EventLemmas
 pub mod Fewest
+pub mod GuardLemmas
 pub mod HiddenLemmas
 pub mod Keeping
 pub mod KeptLemmas
 pub mod LayoutDenials
 pub mod Listed
 pub mod Naming
-pub mod NeedLemmas
 pub mod OwnCells
 pub mod PlaceLemmas
 pub mod Reached
@@ -40,7 +39,6 @@ pub mod TrailLemmas
 pub mod Undoing
 pub mod Verdicts
 pub mod VersionLemmas
-pub mod WaferDenials
 pub mod WaivedLemmas
 pub mod WaiverLemmas
 pub mod WorkLemmas

@@ -2,7 +2,7 @@
 use Rattle.std.proofs.Common.{[], ◌≡◌, ℕ, suc, ◌+◌, Bool, true, false, cond, List, ◌∷◌, slice_get, Option, None, Some, refl, subst, arith}
 use Rattle.std.specs.Prelude.{All}
 use Rattle.std.proofs.lemmas.List.Elements.{All-nil, All-cons, All-append, All-map}
-use Rattle.mpw_laws.proofs.RowParts.{if_behind, if_listed}
+use Rattle.mpw_laws.proofs.RowParts.{if_ok, if_listed}
 use Rattle.mpw_deck.specs.declared.rule.Rule.{Rule}
 use Rattle.mpw_markers.specs.declared.marker.Marker.{Marker}
 use Rattle.mpw_replies.specs.Listing.{Listed, stored}
@@ -12,15 +12,13 @@ use Rattle.mpw_replies.specs.declared.reply.Line.{Line}
 use Rattle.mpw_run.specs.declared.phase.Checked.{Checked}
 use Rattle.mpw_run.specs.declared.phase.Phase.TheVariants.{Finished}
 use Rattle.mpw_rbac.specs.Policy.{Policy}
-use Rattle.mpw_run.specs.Step.{Run, findings}
+use Rattle.mpw_run.specs.Step.{Run}
 use Rattle.mpw_waiver.specs.declared.waiver.Waiver.{Waiver}
 use Rattle.mpw_waiver.specs.Waivers.{waiver_at}
+use Rattle.mpw_laws.specs.Readable.{lines_of}
 use Rattle.mpw_laws.specs.SignOffLaws.{IsTold, ToldAreShown}
 use Rattle.mpw_signoff.specs.Named.{name_for}
-use Rattle.mpw_replies.specs.Rows.{needed}
-use Rattle.mpw_access.specs.Permitted.{session_test}
-use Rattle.mpw_replies.specs.declared.reply.Code.TheVariants as code
-use Rattle.mpw_signoff.specs.SigningOff.{waiver_lines, waivers_row}
+use Rattle.mpw_signoff.specs.SigningOff.{finished, waiver_lines}
 use Rattle.mpw_signoff.specs.WaiverLines.{waiver_line, rule_line, marker_line, shown_line, lines_from}
 use Rattle.mpw_laws.proofs.Shown.{finished_is}
 
@@ -87,12 +85,9 @@ AreTold policy run waivers connection lines =
     (f : Checked) × (run.phase ≡ Finished f) × All (IsTold policy connection f waivers) lines
 
 pub told_are_shown : ToldAreShown
-unfolding waivers_row
 told_are_shown policy wafer run waivers connection =
     let Told : List Listed → Type 0 = AreTold policy run waivers connection in
-    if_listed _ _ (waivers_row policy run waivers connection)
-    (if_behind Told (session_test policy connection) _ (λ inside is.
-    if_behind Told (needed code.NotFinished (findings run.phase)) _ (λ f finished.
+    if_listed (λ done. Told (lines_of done)) _ (finished run) (if_ok _ (finished run) (λ f passed.
     let seen = seen_by policy connection f.planned.snapshot.shelf in
     let all =
     of_lines (λ l. IsTold policy connection f waivers (stored l)) f.planned.snapshot.deck.rules
@@ -107,7 +102,7 @@ told_are_shown policy wafer run waivers connection =
       line = refl;
     }) in (
       f,
-      finished_is run.phase f finished,
+      finished_is _ run.phase f passed,
       All-map (IsTold policy connection f waivers) stored
           (waiver_lines policy connection f waivers) all,
-    ))))
+    )))

@@ -1,5 +1,5 @@
 -- Which lines a request's reply has.
-use Rattle.std.proofs.Common.{◌≡◌, ℕ, Bool, List, [], ◌∷◌, ◌++◌, map, Option, Some, None, IfOk, arith, sym, ap, subst, ◌∙◌}
+use Rattle.std.proofs.Common.{◌≡◌, ℕ, Bool, List, [], ◌∷◌, ◌++◌, map, Option, Some, None, IfOk, arith, sym, subst}
 use Rattle.std.specs.Prelude.{All, ◌+◌}
 use Rattle.std.proofs.lemmas.List.Elements.{All-cons, All-append}
 use Rattle.std.proofs.lemmas.List.{map-append}
@@ -11,29 +11,28 @@ use Rattle.mpw_requests.specs.declared.request.Request.{Request}
 use Rattle.mpw_requests.specs.declared.request.Request.TheVariants as ask
 use Rattle.mpw_requests.specs.declared.wafer.WaferRequest.{WaferRequest}
 use Rattle.mpw_requests.specs.declared.wafer.WaferRequest.TheVariants as wafer
+use Rattle.mpw_deck.specs.Reading.{deck_of}
 use Rattle.mpw_hier.specs.declared.submission.Submission.{Submission}
 use Rattle.mpw_placings.specs.Placements.{version_at}
 use Rattle.mpw_laws.specs.LayoutLaws.{LayoutsAreOfReadable}
 use Rattle.mpw_laws.specs.CheckingLaws.{MarkersAreOfReadable}
 use Rattle.mpw_laws.specs.SignOffLaws.{SignOffLinesAreOfReadable}
-use Rattle.mpw_replies.specs.Trail.{numbered_entries}
+use Rattle.mpw_replies.specs.Trail.{numbered_entries, trail_lines}
 use Rattle.mpw_replies.specs.declared.entry.Entry.{Entry}
-use Rattle.mpw_permissions.specs.declared.permission.Object.TheVariants as object
-use Rattle.mpw_permissions.specs.declared.permission.Operation.TheVariants as operation
 use Rattle.mpw_placings.specs.declared.wafer.Wafer.{Wafer}
 use Rattle.mpw_wafer.specs.Wafers as wafers
 use Rattle.mpw_replies.specs.Listing.{Listed, stored, entry}
 use Rattle.mpw_laws.specs.Readable.{IsOfReadable, lines_of}
-use Rattle.mpw_access.specs.Permitted.{permitted}
 use Rattle.mpw_replies.specs.declared.reply.Line.{Line}
 use Rattle.mpw_replies.specs.declared.reply.Line.TheVariants.{User, Active, Authorized, Version}
 use Rattle.mpw_replies.specs.declared.reply.Reply.TheVariants as reply
+use Rattle.mpw_replies.specs.declared.row.Ending.TheVariants as ending
 use Rattle.mpw_events.specs.declared.event.Event.TheVariants as event
 use Rattle.mpw_events.specs.declared.event.Response.TheVariants as response
 use Rattle.mpw_events.specs.PolicyRows.{row_of}
-use Rattle.mpw_events.specs.Step.{State, Outcome, identity_lines, policy_row, whoami_row, trail_row, outcome_of, event_outcome, step, response_of}
+use Rattle.mpw_events.specs.Step.{State, identity_lines, policy_row, whoami_row, row_outcome, response_of}
 use Rattle.mpw_laws.proofs.AcceptedLemmas.{accepted}
-use Rattle.mpw_laws.proofs.RefusalLemmas.{settlement-ok}
+use Rattle.mpw_laws.proofs.GuardLemmas.{guarded_ok}
 use Rattle.mpw_laws.proofs.RowParts.{if_ok, if_listed, if_changed}
 
 module _ (policy : Policy) (connection : ℕ) where
@@ -46,8 +45,7 @@ module _ (policy : Policy) (connection : ℕ) where
   of_policy : (request : PolicyRequest)
       → IfOk (policy_row policy connection request) (λ done. Readable (lines_of done))
   of_policy request =
-      let row = row_of policy connection request in
-      if_changed _ _ (λ next. []) row (if_ok _ row (λ next is. no_lines))
+      if_changed _ _ (λ next. []) (row_of policy connection request) (λ next is. no_lines)
 
   of_active : (make : List ℕ → Line) → ((name : List ℕ)
       → IsOfReadable policy connection (stored (make name))) → (names : List (List ℕ))
@@ -80,17 +78,15 @@ module _ (policy : Policy) (connection : ℕ) where
       no_lines
 
   of_wafer : (shelf : List Submission) (present : Wafer) (request : WaferRequest)
-      → IfOk (wafers.row_of policy shelf present connection request)
-      (λ done. Readable (lines_of done))
+      → IfOk (wafers.row_of shelf present request) (λ done. Readable (lines_of done))
   of_wafer shelf present (wafer.Place cell label placing) =
-      let row = wafers.place_row policy shelf present.placings connection cell label placing in
-      if_changed _ _ _ row (if_ok _ row (λ ps is. of_version (version_at shelf ps cell label)))
+      if_changed _ _ _ (wafers.place_row shelf present.placings cell label placing)
+      (λ ps is. of_version (version_at shelf ps cell label))
   of_wafer shelf present (wafer.Unplace cell label) =
-      let row = wafers.unplace_row policy present.placings connection cell label in
-      if_changed _ _ (λ ps. []) row (if_ok _ row (λ ps is. no_lines))
+      if_changed _ _ (λ ps. []) (wafers.unplace_row present.placings cell label)
+      (λ ps is. no_lines)
   of_wafer shelf present (wafer.Deck text) =
-      let row = wafers.deck_row policy connection text in
-      if_changed _ _ (λ deck. []) row (if_ok _ row (λ deck is. no_lines))
+      if_changed _ _ (λ deck. []) (wafers.deck_row (deck_of text)) (λ deck is. no_lines)
 
   of_entries : (number : ℕ) (entries : List Entry) → Readable (numbered_entries number entries)
   unfolding numbered_entries
@@ -99,43 +95,33 @@ module _ (policy : Policy) (connection : ℕ) where
       All-cons (IsOfReadable policy connection) (entry number e) _
       tt (of_entries (number + 1) entries)
 
-  of_trail : (trail : List Entry)
-      → IfOk (trail_row policy connection trail) (λ done. Readable (lines_of done))
-  of_trail trail =
-      let row = permitted policy connection operation.Audit object.Desk in
-      if_listed _ _ row (if_ok _ row (λ allowed is. of_entries 1 trail))
-
 module _ (layouts_are : LayoutsAreOfReadable) (markers_are : MarkersAreOfReadable)
     (waivers_are : SignOffLinesAreOfReadable) where
-  of_request : (s : State) (connection : ℕ) (request : Request) (lines : List Listed)
-      → (outcome_of s connection request).response ≡ response.Told (reply.Ok lines)
+  of_row : (s : State) (connection : ℕ) (request : Request) (lines : List Listed)
+      → (row_outcome s connection request).response ≡ response.Told (reply.Ok lines)
       → Readable s.policy connection lines
-  of_request s connection (ask.Policy request) lines =
-      accepted _ _ s _ (Readable s.policy connection) lines (of_policy s.policy connection request)
-  of_request s connection ask.Whoami lines =
-      accepted _ _ s _ (Readable s.policy connection) lines (of_whoami s.policy connection)
-  of_request s connection (ask.Layout request) lines =
+  of_row s connection (ask.Policy request) lines e =
+      accepted _ _ s _ (Readable s.policy connection) lines (of_policy s.policy connection request) e
+  of_row s connection ask.Whoami lines e =
+      accepted _ _ s _ (Readable s.policy connection) lines (of_whoami s.policy connection) e
+  of_row s connection (ask.Layout request) lines e =
       accepted _ _ s _ (Readable s.policy connection) lines
-      (layouts_are s.policy s.shelf connection request)
-  of_request s connection (ask.Wafer request) lines =
+      (layouts_are s.policy s.shelf connection request) e
+  of_row s connection (ask.Wafer request) lines e =
+      accepted ending.Refused _ s _ (Readable s.policy connection) lines
+      (of_wafer s.policy connection s.shelf s.wafer request) e
+  of_row s connection (ask.Run request) lines e =
+      accepted ending.Refused _ s _ (Readable s.policy connection) lines
+      (markers_are s.policy s.shelf s.wafer s.run connection request) e
+  of_row s connection (ask.SignOff request) lines e =
       accepted _ _ s _ (Readable s.policy connection) lines
-      (of_wafer s.policy connection s.shelf s.wafer request)
-  of_request s connection (ask.Run request) lines =
-      accepted _ _ s _ (Readable s.policy connection) lines
-      (markers_are s.policy s.shelf s.wafer s.run connection request)
-  of_request s connection (ask.SignOff request) lines =
-      accepted _ _ s _ (Readable s.policy connection) lines
-      (waivers_are s.policy s.wafer s.run s.waivers connection request)
-  of_request s connection ask.Trail lines =
-      accepted _ _ s _ (Readable s.policy connection) lines
-      (of_trail s.policy connection s.trail)
+      (waivers_are s.policy s.wafer s.run s.waivers connection request) e
+  of_row s connection ask.Trail lines e =
+      let same : trail_lines s.trail ≡ lines = cc in
+      subst (Readable s.policy connection) same (of_entries s.policy connection 1 s.trail)
 
   pub readable-lines : (s : State) (connection : ℕ) (request : Request) (kept : Bool)
       (lines : List Listed) → response_of s (event.Ask connection request) kept ≡ response.Told
       (reply.Ok lines) → Readable s.policy connection lines
-  unfolding step event_outcome
   readable-lines s connection request kept lines e =
-      let same =
-      settlement-ok s (event.Ask connection request) kept (outcome_of s connection request)
-      lines e in
-      of_request s connection request lines (ap (λ (o : Outcome). o.response) (sym same) ∙ e)
+      of_row s connection request lines (guarded_ok s connection request kept lines e).row

@@ -1,28 +1,28 @@
 -- Lines of `cells` and of `shapes` are of cells that the session may read.
-use Rattle.std.proofs.Common.{◌≡◌, ℕ, Bool, true, false, cond, List, [], ◌∷◌, map, Option, Some, None, Ok, Err, IfOk, is_some, arith, refl, sym, subst}
+use Rattle.std.proofs.Common.{◌≡◌, ℕ, Bool, true, false, cond, List, [], ◌∷◌, map, Option, Some, None, arith, refl, sym, subst}
 use Rattle.std.specs.Prelude.{All, slice_get}
 use Rattle.std.specs.List.{flat_map}
 use Rattle.std.proofs.lemmas.List.Elements.{All-cons, All-append}
 use Rattle.std.proofs.lemmas.List.{map-append}
 use Rattle.mpw_permissions.specs.declared.permission.Object.TheVariants as objects
 use Rattle.mpw_permissions.specs.declared.permission.Operation.TheVariants.{Read}
-use Rattle.mpw_rbac.specs.Policy.{Policy, permits, session_of}
+use Rattle.mpw_rbac.specs.Policy.{Policy, permits}
 use Rattle.mpw_hier.specs.declared.submission.Submission.{Submission}
 use Rattle.mpw_hier.specs.Items.{Item}
 use Rattle.mpw_hier.specs.Shelf.{present}
 use Rattle.mpw_hier.specs.Shelved.{PresentAreOfTheirCell}
 use Rattle.mpw_hier.specs.Values.{flat}
 use Rattle.mpw_requests.specs.declared.layouts.LayoutRequest.TheVariants as ask
-use Rattle.mpw_laws.proofs.RowParts.{if_ok, if_behind, if_listed, if_changed}
+use Rattle.mpw_laws.proofs.RowParts.{if_behind, if_listed, if_changed}
 use Rattle.mpw_replies.specs.Listing.{Listed, stored, line_if, shape_line}
+use Rattle.mpw_replies.specs.Rows.{needed}
+use Rattle.mpw_replies.specs.declared.reply.Code.TheVariants as code
 use Rattle.mpw_laws.specs.LayoutLaws.{LayoutsAreOfReadable}
 use Rattle.mpw_laws.specs.Readable.{IsOfReadable}
-use Rattle.mpw_access.specs.Permitted.{permitted}
 use Rattle.mpw_access.specs.Seen.{may_read}
-use Rattle.mpw_replies.specs.declared.reply.Denial.TheVariants as denial
 use Rattle.mpw_replies.specs.declared.reply.Line.TheVariants as line
-use Rattle.mpw_replies.specs.declared.row.Ending.TheVariants as ending
-use Rattle.mpw_layouts.specs.Layouts.{numbered_at, cell_line, present_submission, readable_line, cells_of, readable_shape, present_number, cells, shapes, submit_row}
+use Rattle.mpw_layouts.specs.declared.ending.LayoutEnding.TheVariants.{Refused}
+use Rattle.mpw_layouts.specs.Layouts.{numbered_at, cell_line, present_submission, readable_line, cells_of, readable_shape, shapes, submit_row}
 
 -- the lines that no request has
 nothing : (P : Listed → Type 0) → All P []
@@ -99,39 +99,17 @@ module _ (policy : Policy) (connection : ℕ) where
       All-append (IsOfReadable policy connection) (readable_shape policy shelf connection item) _
       (of_shape (slice_get shelf item.origin) item) (of_shapes shelf items)
 
-  -- ---- decision tables
-
-  abbrev Readable : List Listed → Type 0
-  Readable lines = All (IsOfReadable policy connection) lines
-
-  cells_row : PresentAreOfTheirCell → (shelf : List Submission)
-      → IfOk (cells policy shelf connection) Readable
-  cells_row presents shelf =
-      go (is_some (session_of policy connection)) _ (of_cells presents shelf (cells_of shelf))
-    where
-      go : (inside : Bool) (lines : List Listed) → Readable lines
-          → IfOk (cond inside (Ok lines) (Err (ending.Denied denial.Session))) Readable
-      go true lines each = each
-      go false lines each = tt
-
-  shapes_row : (shelf : List Submission) (cell : List ℕ)
-      → IfOk (shapes policy shelf connection cell) Readable
-  unfolding shapes
-  shapes_row shelf cell =
-      if_behind Readable (permitted policy connection Read (objects.Cell cell)) _ (λ entered is.
-      if_behind Readable (present_number (present shelf cell)) _
-      (λ number is. of_shapes shelf (flat shelf number)))
-
 pub readable_layouts : PresentAreOfTheirCell → LayoutsAreOfReadable
+unfolding shapes
 readable_layouts presents policy shelf connection (ask.Submit cell top text) =
     if_changed _ _ (λ s. line.Version s.version ∷ [])
     (submit_row policy shelf connection cell top text)
-    (if_ok _ (submit_row policy shelf connection cell top text) (λ s is.
-    All-cons (IsOfReadable policy connection) (stored (line.Version s.version)) [] tt
-    (no_lines policy connection)))
+    (λ s is. All-cons (IsOfReadable policy connection) (stored (line.Version s.version)) [] tt
+    (no_lines policy connection))
 readable_layouts presents policy shelf connection ask.Cells =
-    if_listed _ _ (cells policy shelf connection)
-    (cells_row policy connection presents shelf)
+    of_cells policy connection presents shelf (cells_of shelf)
 readable_layouts presents policy shelf connection (ask.Shapes cell) =
     if_listed _ _ (shapes policy shelf connection cell)
-    (shapes_row policy connection shelf cell)
+    (if_behind (λ lines. All (IsOfReadable policy connection) lines)
+    (needed (Refused code.NoCell) (present shelf cell)) _
+    (λ number is. of_shapes policy connection shelf (flat shelf number)))

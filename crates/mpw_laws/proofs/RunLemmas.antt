@@ -10,12 +10,12 @@ use Rattle.mpw_replies.specs.declared.row.Done.{Done}
 use Rattle.mpw_replies.specs.declared.row.Done.TheVariants.{Lists, Changes}
 use Rattle.mpw_replies.specs.declared.row.Ending.{Ending}
 use Rattle.mpw_requests.specs.declared.request.Request.{Request}
-use Rattle.mpw_requests.specs.declared.request.Request.TheVariants as ask
 use Rattle.mpw_core.specs.Answer.{run_response}
 use Rattle.mpw_events.specs.declared.event.Event.{Event}
 use Rattle.mpw_events.specs.declared.event.Event.TheVariants as event
 use Rattle.mpw_events.specs.declared.event.Response.TheVariants as response
 use Rattle.mpw_events.specs.Step.{State, Outcome, outcome_by, outcome_of, event_outcome, of_run, step, response_of}
+use Rattle.mpw_laws.proofs.AcceptedLemmas.{of_tables}
 use Rattle.mpw_laws.proofs.RefusalLemmas.{settlement-run}
 
 -- ---- a result that is not accepted leaves the state unchanged
@@ -33,13 +33,9 @@ row-told how over s (Err why) r e = cc
 
 request-told : (s : State) (connection : ℕ) (request : Request) (r : RunReply)
     → (outcome_of s connection request).response ≡ run_response r → ⊥
-request-told s connection (ask.Policy request) r e = row-told _ _ s _ r e
-request-told s connection ask.Whoami r e = row-told _ _ s _ r e
-request-told s connection (ask.Layout request) r e = row-told _ _ s _ r e
-request-told s connection (ask.Wafer request) r e = row-told _ _ s _ r e
-request-told s connection (ask.Run request) r e = row-told _ _ s _ r e
-request-told s connection (ask.SignOff request) r e = row-told _ _ s _ r e
-request-told s connection ask.Trail r e = row-told _ _ s _ r e
+request-told s connection request r e =
+    of_tables (λ o. o.response ≡ run_response r → ⊥) s
+    (λ E Q how over row told. row-told how over s row r told) connection request e
 
 -- a result that is not accepted finishes no run
 leaving-goes-on : (r : RunReply) → leaves r ≡ true → finishes r ≡ false

@@ -3,8 +3,6 @@ use Rattle.std.proofs.Common.{◌≡◌, ℕ, Bool, true, false, cond, List, [],
 use Rattle.std.specs.Prelude.{All, slice_get}
 use Rattle.std.specs.List.{flat_map}
 use Rattle.std.proofs.lemmas.List.Elements.{All-head, All-tail, All-cons, All-append}
-use Rattle.mpw_permissions.specs.declared.permission.Object.TheVariants as objects
-use Rattle.mpw_permissions.specs.declared.permission.Operation.TheVariants.{Read}
 use Rattle.mpw_rbac.specs.Policy.{Policy}
 use Rattle.mpw_hier.specs.declared.submission.Submission.{Submission}
 use Rattle.mpw_hier.specs.Items.{Item}
@@ -13,10 +11,12 @@ use Rattle.mpw_hier.specs.Structures.{is_shape}
 use Rattle.mpw_hier.specs.Values.{flat}
 use Rattle.mpw_laws.proofs.RowParts.{if_behind, if_listed}
 use Rattle.mpw_replies.specs.Listing.{line_if, shape_line}
-use Rattle.mpw_access.specs.Permitted.{permitted}
+use Rattle.mpw_replies.specs.Rows.{needed}
+use Rattle.mpw_replies.specs.declared.reply.Code.TheVariants as code
 use Rattle.mpw_access.specs.Seen.{may_read}
 use Rattle.mpw_laws.specs.LayoutLaws.{IsShapeLine, ShapesAreNoReferences}
-use Rattle.mpw_layouts.specs.Layouts.{readable_shape, present_number, shapes}
+use Rattle.mpw_layouts.specs.declared.ending.LayoutEnding.TheVariants.{Refused}
+use Rattle.mpw_layouts.specs.Layouts.{readable_shape, shapes}
 
 abbrev IsOfShape : Item → Type 0
 IsOfShape item = is_shape item.element ≡ true
@@ -47,6 +47,5 @@ pub shapes_alone : ((ss : List Submission) (number : ℕ) → All IsOfShape (fla
 unfolding shapes
 shapes_alone law policy shelf connection cell =
     if_listed _ _ (shapes policy shelf connection cell)
-    (if_behind (All IsShapeLine) (permitted policy connection Read (objects.Cell cell)) _
-    (λ entered is. if_behind (All IsShapeLine) (present_number (present shelf cell)) _
-    (λ number is. lines_alone policy connection shelf (flat shelf number) (law shelf number))))
+    (if_behind (All IsShapeLine) (needed (Refused code.NoCell) (present shelf cell)) _
+    (λ number is. lines_alone policy connection shelf (flat shelf number) (law shelf number)))

@@ -1,26 +1,17 @@
 -- Denials in the decision tables of the sign-off.
-use Rattle.std.proofs.Common.{◌≡◌, ℕ, Bool, false, List, [], Option, None, Some, Result, Ok, Err, IfErr, is_some, refl, ap, subst}
+use Rattle.std.proofs.Common.{◌≡◌, ℕ, List, Bool, [], Option, None, Some, Result, Ok, Err, IfErr, refl, ap, subst}
 use Rattle.std.specs.Prelude.{⊤}
 use Rattle.mpw_markers.specs.Laws.{PlacesAreOfKeys}
-use Rattle.mpw_permissions.specs.declared.permission.Object.TheVariants as objects
-use Rattle.mpw_permissions.specs.declared.permission.Operation.{Operation}
-use Rattle.mpw_permissions.specs.declared.permission.Operation.TheVariants as operations
-use Rattle.mpw_rbac.specs.Policy.{Policy, permits, session_of}
+use Rattle.mpw_rbac.specs.Policy.{Policy}
 use Rattle.mpw_rbac.specs.Rows.{user_of}
 use Rattle.mpw_requests.specs.declared.sign_off.MarkerName.{MarkerName}
 use Rattle.mpw_requests.specs.declared.sign_off.SignOffRequest.{SignOffRequest}
 use Rattle.mpw_requests.specs.declared.sign_off.SignOffRequest.TheVariants as ask
-use Rattle.mpw_access.specs.Permitted.{permitted, session_test}
-use Rattle.mpw_replies.specs.Rows.{needed}
 use Rattle.mpw_replies.specs.Sight.{is_full}
 use Rattle.mpw_access.specs.Seen.{seen_by}
 use Rattle.mpw_replies.specs.declared.reply.Code.TheVariants as code
-use Rattle.mpw_replies.specs.declared.reply.Denial.TheVariants as denial
-use Rattle.mpw_replies.specs.declared.row.Ending.{Ending}
-use Rattle.mpw_replies.specs.declared.row.Ending.TheVariants as ending
 use Rattle.mpw_run.specs.declared.phase.Checked.{Checked}
-use Rattle.mpw_run.specs.declared.phase.Phase.{Phase}
-use Rattle.mpw_run.specs.declared.phase.Phase.TheVariants.{Idle, Cutting, Checking, Finished}
+use Rattle.mpw_run.specs.declared.phase.Phase.TheVariants.{Finished}
 use Rattle.mpw_run.specs.Step.{Run, findings}
 use Rattle.mpw_placings.specs.declared.wafer.Wafer.{Wafer}
 use Rattle.mpw_waiver.specs.declared.fault.WaiverFault.{WaiverFault}
@@ -30,13 +21,15 @@ use Rattle.mpw_laws.specs.WaiverLaws.{SubmitterIsLeast, AskerAsked}
 use Rattle.mpw_waiver.specs.Signing.{ask_test, sign_test}
 use Rattle.mpw_laws.specs.Signing.{if_passed, signed}
 use Rattle.mpw_waiver.specs.Waivers.{waiver_at, with_signer}
-use Rattle.mpw_laws.specs.SignOffLaws.{SubmittersAreTold, AskersAreTold, SignOffsDenyWhatIsLacked}
+use Rattle.mpw_laws.specs.SignOffLaws.{SubmittersAreTold, AskersAreTold}
+use Rattle.mpw_signoff.specs.declared.ending.SignOffEnding.{SignOffEnding}
+use Rattle.mpw_signoff.specs.declared.ending.SignOffEnding.TheVariants.{Refused, Submitter, Asker}
 use Rattle.mpw_signoff.specs.Named.{Named, named_in}
-use Rattle.mpw_signoff.specs.SigningOff.{if_shown, full_marker, passes, apart, waive_row, sign_row, waivers_row, verdict_row, row_of}
-use Rattle.mpw_laws.proofs.RowParts.{ends_behind, ends_tested, ends_listed, ends_changed, ends_permitted}
+use Rattle.mpw_signoff.specs.SigningOff.{apart, finished, full_marker, if_shown, passes, row_of, sign_row, waive_row}
+use Rattle.mpw_laws.proofs.RowParts.{ends_behind, ends_tested, ends_needed, ends_listed, ends_changed}
 use Rattle.mpw_laws.proofs.Shown.{finished_is, shown_is}
 
--- the test of separation denies
+-- the test of separation ends `sign`
 record IsKeptApart (policy : Policy) (run : Run) (waivers : List (Option Waiver)) (connection : ℕ)
     (request : SignOffRequest) (cause : WaiverFault) : Type 0 where
   name : MarkerName
@@ -49,31 +42,20 @@ record IsKeptApart (policy : Policy) (run : Run) (waivers : List (Option Waiver)
       (waiver_at waivers n.place) ≡ Err cause
 
 -- what ends a table of the sign-off has its cause
-abbrev HasCause : Policy → Run → List (Option Waiver) → ℕ → SignOffRequest → Ending → Type 0
-HasCause policy run waivers connection request
-    (ending.Denied (denial.Permission operation object)) =
-    permits policy connection operation object ≡ false
-HasCause policy run waivers connection request (ending.Denied (denial.Submitter cell)) =
+abbrev HasCause : Policy → Run → List (Option Waiver) → ℕ → SignOffRequest → SignOffEnding → Type 0
+HasCause policy run waivers connection request (Refused why) = ⊤
+HasCause policy run waivers connection request (Submitter cell) =
     IsKeptApart policy run waivers connection request (fault.Submitter cell)
-HasCause policy run waivers connection request (ending.Denied denial.Asker) =
+HasCause policy run waivers connection request Asker =
     IsKeptApart policy run waivers connection request fault.Asker
-HasCause policy run waivers connection request _ = ⊤
 
 module _ (policy : Policy) (run : Run) (waivers : List (Option Waiver)) (connection : ℕ)
     (request : SignOffRequest) where
-  abbrev Of : Ending → Type 0
+  abbrev Of : SignOffEnding → Type 0
   Of = HasCause policy run waivers connection request
 
-  allowed_ends : (operation : Operation)
-      → IfErr (permitted policy connection operation objects.Desk) Of
-  allowed_ends operation =
-      ends_permitted Of policy connection operation objects.Desk tt (λ is. is)
-
-  finished_ends : (phase : Phase) → IfErr (needed code.NotFinished (findings phase)) Of
-  finished_ends Idle = tt
-  finished_ends (Cutting planned) = tt
-  finished_ends (Checking c) = tt
-  finished_ends (Finished f) = tt
+  finished_ends : IfErr (finished run) Of
+  finished_ends = ends_needed Of (Refused code.NotFinished) (findings run.phase) tt
 
   full_ends : (seen : List Bool) (o : Option Named) → IfErr (if_shown seen o) Of
   full_ends seen None = tt
@@ -95,74 +77,40 @@ module _ (policy : Policy) (run : Run) (waivers : List (Option Waiver)) (connect
       → IfErr (apart f waivers n (user_of policy connection)) Of
   apart_ends name f n is phase shown =
       go (sign_test f.planned.snapshot.shelf n.marker.met (user_of policy connection)
-      (waiver_at waivers n.place)) refl
+      (waiver_at waivers n.place)) (λ cause test. record {
+        name = name;
+        is = is;
+        f = f;
+        n = n;
+        phase = phase;
+        is_shown = shown;
+        test = test;
+      })
     where
-      go : (told : Result (Unit {0}) WaiverFault)
-          → sign_test f.planned.snapshot.shelf n.marker.met (user_of policy connection)
-          (waiver_at waivers n.place) ≡ told
-          → IfErr (passes told) Of
-      go (Ok x) test = tt
-      go (Err fault.Known) test = tt
-      go (Err fault.NoWaiver) test = tt
-      go (Err (fault.Submitter cell)) test = record {
-        name = name;
-        is = is;
-        f = f;
-        n = n;
-        phase = phase;
-        is_shown = shown;
-        test = test;
-      }
-      go (Err fault.Asker) test = record {
-        name = name;
-        is = is;
-        f = f;
-        n = n;
-        phase = phase;
-        is_shown = shown;
-        test = test;
-      }
-
-  -- ---- decision tables
+      go : (told : Result (Unit {0}) WaiverFault) → ((cause : WaiverFault) → told ≡ Err cause
+          → IsKeptApart policy run waivers connection request cause) → IfErr (passes told) Of
+      go (Ok x) kept = tt
+      go (Err fault.Known) kept = tt
+      go (Err fault.NoWaiver) kept = tt
+      go (Err (fault.Submitter cell)) kept = kept (fault.Submitter cell) refl
+      go (Err fault.Asker) kept = kept fault.Asker refl
 
   waive_ends : (name : MarkerName) → IfErr (waive_row policy run waivers connection name) Of
   unfolding waive_row
   waive_ends name =
-      ends_behind Of (permitted policy connection operations.Waive objects.Desk) _
-      (allowed_ends operations.Waive) (λ allowed is.
-      ends_behind Of (needed code.NotFinished (findings run.phase)) _ (finished_ends run.phase)
-      (λ f finished. ends_behind Of (full_marker policy connection f name) _ (shown_ends f name)
-      (λ n shown. ends_behind Of (passes (ask_test (waiver_at waivers n.place))) _
-      (free_ends (waiver_at waivers n.place)) (λ free is. tt))))
+      ends_behind Of (finished run) _ finished_ends (λ f passed.
+      ends_behind Of (full_marker policy connection f name) _ (shown_ends f name) (λ n shown.
+      ends_behind Of (passes (ask_test (waiver_at waivers n.place))) _
+      (free_ends (waiver_at waivers n.place)) (λ free is. tt)))
 
   sign_ends : (name : MarkerName) → request ≡ ask.Sign name
       → IfErr (sign_row policy run waivers connection name) Of
   unfolding sign_row
   sign_ends name same =
-      ends_behind Of (permitted policy connection operations.Sign objects.Desk) _
-      (allowed_ends operations.Sign) (λ allowed is.
-      ends_behind Of (needed code.NotFinished (findings run.phase)) _ (finished_ends run.phase)
-      (λ f finished. ends_behind Of (full_marker policy connection f name) _ (shown_ends f name)
-      (λ n shown. ends_behind Of (apart f waivers n (user_of policy connection)) _
-      (apart_ends name f n same (finished_is run.phase f finished) shown) (λ free is. tt))))
-
-  waivers_ends : IfErr (waivers_row policy run waivers connection) Of
-  unfolding waivers_row
-  waivers_ends =
-      ends_behind Of (session_test policy connection) _
-      (ends_tested Of (is_some (session_of policy connection)) _ _ tt tt)
-      (λ inside is. ends_behind Of (needed code.NotFinished (findings run.phase)) _
-      (finished_ends run.phase) (λ f finished. tt))
-
-  verdict_ends : (wafer : Wafer) → IfErr (verdict_row policy wafer run waivers connection) Of
-  unfolding verdict_row
-  verdict_ends wafer =
-      ends_behind Of (permitted policy connection operations.Verdict objects.Desk) _
-      (allowed_ends operations.Verdict) (λ allowed is.
-      ends_behind Of (needed code.NotFinished (findings run.phase)) _ (finished_ends run.phase)
-      (λ f finished. tt))
-
--- ---- each request
+      ends_behind Of (finished run) _ finished_ends (λ f passed.
+      ends_behind Of (full_marker policy connection f name) _ (shown_ends f name) (λ n shown.
+      ends_behind Of (apart f waivers n (user_of policy connection)) _
+      (apart_ends name f n same (finished_is _ run.phase f passed) shown) (λ free is. tt)))
 
 module _ (policy : Policy) (wafer : Wafer) (run : Run) (waivers : List (Option Waiver))
     (connection : ℕ) where
@@ -176,13 +124,13 @@ module _ (policy : Policy) (wafer : Wafer) (run : Run) (waivers : List (Option W
       ends_changed _ _ (λ by. []) (sign_row policy run waivers connection name)
       (sign_ends policy run waivers connection (ask.Sign name) name refl)
   each_ends ask.Waivers =
-      ends_listed _ _ _ (waivers_row policy run waivers connection)
-      (waivers_ends policy run waivers connection ask.Waivers)
+      ends_listed _ _ _ (finished run)
+      (finished_ends policy run waivers connection ask.Waivers)
   each_ends ask.Verdict =
-      ends_listed _ _ _ (verdict_row policy wafer run waivers connection)
-      (verdict_ends policy run waivers connection ask.Verdict wafer)
+      ends_listed _ _ _ (finished run)
+      (finished_ends policy run waivers connection ask.Verdict)
 
-  cause_of : (request : SignOffRequest) (e : Ending)
+  cause_of : (request : SignOffRequest) (e : SignOffEnding)
       → row_of policy wafer run waivers connection request ≡ Err e
       → HasCause policy run waivers connection request e
   cause_of request e is =
@@ -190,10 +138,6 @@ module _ (policy : Policy) (wafer : Wafer) (run : Run) (waivers : List (Option W
       (each_ends request)
 
 -- ---- the laws
-
-pub sign_off_denies : SignOffsDenyWhatIsLacked
-sign_off_denies policy wafer run waivers connection request operation object e =
-    cause_of policy wafer run waivers connection request _ e
 
 -- the waiver's own test ends in the fault that the denial shows
 signed_fails : (policy : Policy) (run : Run) (waivers : List (Option Waiver)) (connection : ℕ)
@@ -208,7 +152,7 @@ signed_fails policy run waivers connection request cause k =
 pub submitters_told : PlacesAreOfKeys → SubmitterIsLeast → SubmittersAreTold
 submitters_told keys least policy wafer run waivers connection request cell e =
     let k : IsKeptApart policy run waivers connection request (fault.Submitter cell) =
-    cause_of policy wafer run waivers connection request _ e in
+    cause_of policy wafer run waivers connection request (Submitter cell) e in
     let own = least k.f.planned.snapshot.shelf waivers k.n.place k.n.marker.met
     (user_of policy connection) cell
     (signed_fails policy run waivers connection request (fault.Submitter cell) k) in (
@@ -228,7 +172,7 @@ submitters_told keys least policy wafer run waivers connection request cell e =
 pub askers_told : PlacesAreOfKeys → AskerAsked → AskersAreTold
 askers_told keys asked policy wafer run waivers connection request e =
     let k : IsKeptApart policy run waivers connection request fault.Asker =
-    cause_of policy wafer run waivers connection request _ e in
+    cause_of policy wafer run waivers connection request Asker e in
     let w =
     asked k.f.planned.snapshot.shelf waivers k.n.place k.n.marker.met
     (user_of policy connection)

@@ -1,27 +1,19 @@
 -- The sign-off requests list only what may be read.
-use Rattle.std.proofs.Common.{◌==◌, ℕ, Bool, true, false, if◌then◌else◌, List, [], ◌∷◌, Option, None, Some, IfOk}
+use Rattle.std.proofs.Common.{◌==◌, ℕ, Bool, true, false, if◌then◌else◌, List, [], ◌∷◌, Option, None, Some}
 use Rattle.std.specs.Prelude.{All}
 use Rattle.std.proofs.lemmas.List.Elements.{All-nil, All-cons, All-map}
-use Rattle.mpw_laws.proofs.RowParts.{if_ok, if_behind, if_listed, if_changed}
-use Rattle.mpw_permissions.specs.declared.permission.Object.TheVariants as objects
-use Rattle.mpw_permissions.specs.declared.permission.Operation.TheVariants as operations
+use Rattle.mpw_laws.proofs.RowParts.{if_ok, if_listed, if_changed}
 use Rattle.mpw_rbac.specs.Policy.{Policy}
 use Rattle.mpw_requests.specs.declared.sign_off.MarkerName.{MarkerName}
 use Rattle.mpw_requests.specs.declared.sign_off.SignOffRequest.TheVariants as ask
 use Rattle.mpw_replies.specs.Listing.{Listed, stored}
 use Rattle.mpw_laws.specs.Readable.{IsOfReadable}
-use Rattle.mpw_replies.specs.Rows.{needed}
-use Rattle.mpw_access.specs.Permitted.{permitted, session_test}
-use Rattle.mpw_replies.specs.declared.reply.Code.TheVariants as code
 use Rattle.mpw_access.specs.Seen.{seen_by}
 use Rattle.mpw_replies.specs.declared.reply.Line.TheVariants as line
-use Rattle.mpw_run.specs.Step.{Run, findings}
-use Rattle.mpw_placings.specs.declared.wafer.Wafer.{Wafer}
-use Rattle.mpw_waiver.specs.declared.waiver.Waiver.{Waiver}
 use Rattle.mpw_waiver.specs.Waivers.{unsigned}
 use Rattle.mpw_laws.specs.SignOffLaws.{SignOffLinesAreOfReadable}
 use Rattle.mpw_signoff.specs.Named.{name_for}
-use Rattle.mpw_signoff.specs.SigningOff.{is_present, verdict_line, waive_row, sign_row, waiver_lines, waivers_row, verdict_row}
+use Rattle.mpw_signoff.specs.SigningOff.{finished, is_present, verdict_line, verdict_of, waive_row, sign_row, waiver_lines}
 use Rattle.mpw_signoff.specs.WaiverLines.{waiver_line}
 use Rattle.mpw_laws.proofs.Listed.{of_lines}
 
@@ -40,18 +32,6 @@ module _ (policy : Policy) (connection : ℕ) where
   of_waiver name asker None = tt
   of_waiver name asker (Some signer) = tt
 
-  of_told : (run : Run) (waivers : List (Option Waiver))
-      → IfOk (waivers_row policy run waivers connection) Readable
-  unfolding waivers_row
-  of_told run waivers =
-      if_behind Readable (session_test policy connection) _ (λ inside is.
-      if_behind Readable (needed code.NotFinished (findings run.phase)) _ (λ f finished.
-      All-map (IsOfReadable policy connection) stored (waiver_lines policy connection f waivers)
-      (of_lines (λ l. IsOfReadable policy connection (stored l)) f.planned.snapshot.deck.rules
-      (seen_by policy connection f.planned.snapshot.shelf) waivers f.book
-      (λ place m waiver rule at full is of. of_waiver (name_for rule.name m) waiver.asker
-      waiver.signer))))
-
   of_line : (present : Bool) (number : ℕ)
       → IsOfReadable policy connection (stored (verdict_line present number))
   of_line false number = tt
@@ -62,25 +42,21 @@ module _ (policy : Policy) (connection : ℕ) where
       go true = tt
       go false = tt
 
-  of_verdict : (wafer : Wafer) (run : Run) (waivers : List (Option Waiver))
-      → IfOk (verdict_row policy wafer run waivers connection) Readable
-  unfolding verdict_row
-  of_verdict wafer run waivers =
-      if_behind Readable (permitted policy connection operations.Verdict objects.Desk) _
-      (λ allowed is. if_behind Readable (needed code.NotFinished (findings run.phase)) _
-      (λ f finished. let present = is_present wafer f.planned.snapshot in
-      one (stored (verdict_line present (unsigned waivers))) (of_line present (unsigned waivers))))
-
 pub lines_may : SignOffLinesAreOfReadable
 lines_may policy wafer run waivers connection (ask.Waive name) =
-    let row = waive_row policy run waivers connection name in
-    if_changed _ _ (λ by. []) row (if_ok _ row (λ by is. none policy connection))
+    if_changed _ _ (λ by. []) (waive_row policy run waivers connection name)
+    (λ by is. none policy connection)
 lines_may policy wafer run waivers connection (ask.Sign name) =
-    let row = sign_row policy run waivers connection name in
-    if_changed _ _ (λ by. []) row (if_ok _ row (λ by is. none policy connection))
+    if_changed _ _ (λ by. []) (sign_row policy run waivers connection name)
+    (λ by is. none policy connection)
 lines_may policy wafer run waivers connection ask.Waivers =
-    if_listed _ _ (waivers_row policy run waivers connection)
-    (of_told policy connection run waivers)
+    if_listed _ _ (finished run) (if_ok _ (finished run) (λ f is.
+    All-map (IsOfReadable policy connection) stored (waiver_lines policy connection f waivers)
+    (of_lines (λ l. IsOfReadable policy connection (stored l)) f.planned.snapshot.deck.rules
+    (seen_by policy connection f.planned.snapshot.shelf) waivers f.book
+    (λ place m waiver rule at full is of. of_waiver policy connection (name_for rule.name m)
+    waiver.asker waiver.signer))))
 lines_may policy wafer run waivers connection ask.Verdict =
-    if_listed _ _ (verdict_row policy wafer run waivers connection)
-    (of_verdict policy connection wafer run waivers)
+    if_listed _ _ (finished run) (if_ok _ (finished run) (λ f is.
+    one policy connection (stored (verdict_of wafer waivers f))
+    (of_line policy connection (is_present wafer f.planned.snapshot) (unsigned waivers))))

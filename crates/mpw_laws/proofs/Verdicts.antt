@@ -4,22 +4,17 @@ use Rattle.std.specs.Prelude.{All}
 use Rattle.std.specs.Option.{option_flatten}
 use Rattle.std.proofs.lemmas.Bool.Decides.{Decides-eqb}
 use Rattle.std.proofs.lemmas.Option.{slice_get-get_or}
-use Rattle.mpw_laws.proofs.RowParts.{if_behind, if_listed, if_weaker}
+use Rattle.mpw_laws.proofs.RowParts.{if_ok, if_listed, if_weaker}
 use Rattle.mpw_deck.specs.Decks.{Deck}
 use Rattle.mpw_placings.specs.declared.placement.Placement.{Placement}
 use Rattle.mpw_placings.specs.Placements.{roots_of}
-use Rattle.mpw_permissions.specs.declared.permission.Object.TheVariants as objects
-use Rattle.mpw_permissions.specs.declared.permission.Operation.TheVariants as operations
 use Rattle.mpw_rbac.specs.Policy.{Policy}
 use Rattle.mpw_replies.specs.Listing.{Listed, stored}
-use Rattle.mpw_replies.specs.Rows.{needed}
-use Rattle.mpw_access.specs.Permitted.{permitted}
-use Rattle.mpw_replies.specs.declared.reply.Code.TheVariants as code
 use Rattle.mpw_replies.specs.declared.reply.Line.{Line}
 use Rattle.mpw_replies.specs.declared.reply.Line.TheVariants as line
 use Rattle.mpw_run.specs.declared.phase.Checked.{Checked}
 use Rattle.mpw_run.specs.Laws.{TestsAreExact}
-use Rattle.mpw_run.specs.Step.{Run, findings}
+use Rattle.mpw_run.specs.Step.{Run}
 use Rattle.mpw_tiles.specs.Snapshots.{Snapshot}
 use Rattle.mpw_placings.specs.declared.wafer.Wafer.{Wafer}
 use Rattle.mpw_waiver.specs.declared.waiver.Waiver.{Waiver}
@@ -29,7 +24,7 @@ use Rattle.mpw_run.specs.declared.phase.Phase.TheVariants.{Finished}
 use Rattle.mpw_laws.specs.Readable.{lines_of}
 use Rattle.mpw_laws.specs.SignOffLaws.{IsSignedOff, CleanIsSignedOff, SignedOffIsClean}
 use Rattle.mpw_requests.specs.declared.sign_off.SignOffRequest.TheVariants as ask
-use Rattle.mpw_signoff.specs.SigningOff.{is_present_with, is_present, verdict_line, verdict_row, row_of}
+use Rattle.mpw_signoff.specs.SigningOff.{finished, is_present_with, is_present, verdict_line, verdict_of, row_of}
 use Rattle.mpw_laws.proofs.Shown.{finished_is}
 
 clean_is : (present : Bool) (number : ℕ) → verdict_line present number ≡ line.Clean
@@ -56,18 +51,15 @@ record IsVerdict (wafer : Wafer) (run : Run) (waivers : List (Option Waiver)) (l
     Type 0 where
   f : Checked
   phase : run.phase ≡ Finished f
-  told : lines ≡ stored (verdict_line (is_present wafer f.planned.snapshot) (unsigned waivers)) ∷ []
+  told : lines ≡ stored (verdict_of wafer waivers f) ∷ []
 
 verdict_is : (policy : Policy) (wafer : Wafer) (run : Run) (waivers : List (Option Waiver))
     (connection : ℕ) → IfOk (row_of policy wafer run waivers connection ask.Verdict)
     (λ done. IsVerdict wafer run waivers (lines_of done))
-unfolding verdict_row
 verdict_is policy wafer run waivers connection =
-    let Of : List Listed → Type 0 = IsVerdict wafer run waivers in
-    if_listed _ _ (verdict_row policy wafer run waivers connection)
-    (if_behind Of (permitted policy connection operations.Verdict objects.Desk) _ (λ allowed is.
-    if_behind Of (needed code.NotFinished (findings run.phase)) _ (λ f finished.
-    record { f = f; phase = finished_is run.phase f finished; told = refl })))
+    if_listed (λ done. IsVerdict wafer run waivers (lines_of done)) _ (finished run)
+    (if_ok _ (finished run) (λ f passed.
+    record { f = f; phase = finished_is _ run.phase f passed; told = refl }))
 
 all_signed : (waivers : List (Option Waiver)) → All (λ w. is_signed w ≡ true) waivers → (place : ℕ)
     → place < length waivers

@@ -5,6 +5,7 @@ use Rattle.std.specs.Prelude.{◌==◌, slice_get, slice_set, nat_lt, if◌then�
 use Rattle.mpw_tiles.specs.Plan.{tiles}
 use Rattle.mpw_markers.specs.declared.marker.Marker.{Marker}
 use Rattle.mpw_job.specs.Jobs.{CutWindows, FoundMarkers}
+use Rattle.mpw_replies.specs.declared.row.Ending.TheVariants as ending
 use Rattle.mpw_requests.specs.declared.request.Request.{Request}
 use Rattle.mpw_requests.specs.declared.request.Request.TheVariants as ask
 use Rattle.mpw_replies.specs.Listing.{Listed}
@@ -25,8 +26,8 @@ use Rattle.mpw_events.specs.declared.event.Call.{Call}
 use Rattle.mpw_events.specs.declared.event.Event.{Event}
 use Rattle.mpw_events.specs.declared.event.Event.TheVariants as event
 use Rattle.mpw_events.specs.History.{state_after}
-use Rattle.mpw_events.specs.Step.{State, new_state, of_run, outcome_of, over_run, event_outcome, after}
-use Rattle.mpw_core.proofs.OutcomeLemmas.{holds-row, holds-step, holds-calls}
+use Rattle.mpw_events.specs.Step.{State, new_state, of_run, over_run, row_outcome, event_outcome, after}
+use Rattle.mpw_core.proofs.OutcomeLemmas.{holds-guarded, holds-row, holds-step, holds-calls}
 
 module _
     (R : Phase → List (Option Waiver) → Type 0)
@@ -115,26 +116,26 @@ module _
 
     -- ---- every state
 
-    waived-request : (s : State) (connection : ℕ) (request : Request) → Fit s
-        → Fit (outcome_of s connection request).state
-    waived-request s connection (ask.Policy request) fit =
+    waived-row : (s : State) (connection : ℕ) (request : Request) → Fit s
+        → Fit (row_outcome s connection request).state
+    waived-row s connection (ask.Policy request) fit =
         holds-row Fit _ _ s _ fit (λ policy lines is. fit)
-    waived-request s connection ask.Whoami fit = holds-row Fit _ _ s _ fit (λ policy lines is. fit)
-    waived-request s connection (ask.Layout request) fit =
+    waived-row s connection ask.Whoami fit = holds-row Fit _ _ s _ fit (λ policy lines is. fit)
+    waived-row s connection (ask.Layout request) fit =
         holds-row Fit _ _ s _ fit (λ shelf lines is. fit)
-    waived-request s connection (ask.Wafer request) fit =
-        holds-row Fit _ _ s _ fit (λ wafer lines is. fit)
-    waived-request s connection (ask.Run request) fit =
-        holds-row Fit _ _ s _ fit (λ change lines is. waived-run s change)
-    waived-request s connection (ask.SignOff request) fit =
+    waived-row s connection (ask.Wafer request) fit =
+        holds-row Fit ending.Refused _ s _ fit (λ wafer lines is. fit)
+    waived-row s connection (ask.Run request) fit =
+        holds-row Fit ending.Refused _ s _ fit (λ change lines is. waived-run s change)
+    waived-row s connection (ask.SignOff request) fit =
         holds-row Fit _ _ s _ fit
         (λ change lines is. signed_off s connection request change lines is fit)
-    waived-request s connection ask.Trail fit = holds-row Fit _ _ s _ fit (λ policy lines is. fit)
+    waived-row s connection ask.Trail fit = fit
 
     waived-event_outcome : (s : State) (event : Event) → Fit s → Fit (event_outcome s event).state
     unfolding event_outcome
-    waived-event_outcome s (event.Ask connection request) fit = waived-request s connection request
-        fit
+    waived-event_outcome s (event.Ask connection request) fit =
+        holds-guarded Fit s _ _ fit (waived-row s connection request fit)
     waived-event_outcome s (event.Gone connection) fit = fit
     waived-event_outcome s (event.Take worker) fit = waived-taken s s.run.phase fit fit
     waived-event_outcome s (event.Cut answer) fit = one_of s (s.run.number == answer.job.run) _ _

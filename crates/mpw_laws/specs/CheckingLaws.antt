@@ -1,23 +1,12 @@
 -- Laws of the requests of the run.
-use Rattle.std.specs.Prelude.{◌≡◌, ℕ, false, List, All, Err, IfOk}
+use Rattle.std.specs.Prelude.{ℕ, List, All, IfOk}
 use Rattle.mpw_hier.specs.declared.submission.Submission.{Submission}
-use Rattle.mpw_permissions.specs.declared.permission.Operation.{Operation}
-use Rattle.mpw_permissions.specs.declared.permission.Object.{Object}
 use Rattle.mpw_placings.specs.declared.wafer.Wafer.{Wafer}
-use Rattle.mpw_rbac.specs.Policy.{Policy, permits}
+use Rattle.mpw_rbac.specs.Policy.{Policy}
 use Rattle.mpw_requests.specs.declared.run.RunRequest.{RunRequest}
 use Rattle.mpw_laws.specs.Readable.{IsOfReadable, lines_of}
-use Rattle.mpw_replies.specs.Rows.{denied}
 use Rattle.mpw_run.specs.Step.{Run}
 use Rattle.mpw_wafer.specs.Run.Checking.{row_of}
-
--- A permission that is denied is lacked.
-abbrev pub RunsDenyWhatIsLacked : Type 0
-RunsDenyWhatIsLacked =
-    (policy : Policy) (shelf : List Submission) (wafer : Wafer) (run : Run) (connection : ℕ)
-    (request : RunRequest) (operation : Operation) (object : Object)
-    → row_of policy shelf wafer run connection request ≡ Err (denied operation object)
-    → permits policy connection operation object ≡ false
 
 -- The lines of `markers` name only cells that the session may read.
 abbrev pub MarkersAreOfReadable : Type 0

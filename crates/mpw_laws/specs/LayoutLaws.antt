@@ -1,7 +1,7 @@
 -- Laws of the requests of the layouts.
 use Rattle.std.specs.Prelude.{◌≡◌, ℕ, true, false, List, All, Err, IfOk}
-use Rattle.mpw_permissions.specs.declared.permission.Operation.{Operation}
-use Rattle.mpw_permissions.specs.declared.permission.Object.{Object}
+use Rattle.mpw_permissions.specs.declared.permission.Operation.TheVariants.{Use}
+use Rattle.mpw_permissions.specs.declared.permission.Object.TheVariants as object
 use Rattle.mpw_rbac.specs.Policy.{Policy, permits}
 use Rattle.mpw_hier.specs.declared.submission.Submission.{Submission}
 use Rattle.mpw_hier.specs.Structures.{is_shape}
@@ -9,15 +9,15 @@ use Rattle.mpw_requests.specs.declared.layouts.LayoutRequest.{LayoutRequest}
 use Rattle.mpw_requests.specs.declared.layouts.LayoutRequest.TheVariants as ask
 use Rattle.mpw_replies.specs.Listing.{Listed, stored, shape, marker, masked, entry}
 use Rattle.mpw_laws.specs.Readable.{IsOfReadable, lines_of}
-use Rattle.mpw_replies.specs.Rows.{denied}
+use Rattle.mpw_layouts.specs.declared.ending.LayoutEnding.TheVariants.{Unusable}
 use Rattle.mpw_layouts.specs.Layouts.{row_of}
 
--- A permission that is denied is lacked.
+-- If a decision table denies the use of a cell, the session may not use it.
 abbrev pub LayoutsDenyWhatIsLacked : Type 0
 LayoutsDenyWhatIsLacked = (policy : Policy) (shelf : List Submission) (connection : ℕ)
-    (request : LayoutRequest) (operation : Operation) (object : Object)
-    → row_of policy shelf connection request ≡ Err (denied operation object)
-    → permits policy connection operation object ≡ false
+    (request : LayoutRequest) (cell : List ℕ)
+    → row_of policy shelf connection request ≡ Err (Unusable cell)
+    → permits policy connection Use (object.Cell cell) ≡ false
 
 -- Each line that names a cell, or shows a shape of one, is of a cell that the session may read.
 abbrev pub LayoutsAreOfReadable : Type 0

@@ -1,7 +1,6 @@
 pub mod CheckingLaws
 pub mod LayoutLaws
 pub mod ListingLaws
-pub mod Permissions
 pub mod PlacingLaws
 pub mod Readable
 pub mod Requested

@@ -5,22 +5,17 @@ use Rattle.mpw_geom.specs.Names.{name_cmp}
 use Rattle.mpw_deck.specs.declared.rule.Rule.{Rule}
 use Rattle.mpw_placings.specs.Placements.{roots_of}
 use Rattle.mpw_markers.specs.declared.marker.Marker.{Marker}
-use Rattle.mpw_permissions.specs.declared.permission.Operation.{Operation}
-use Rattle.mpw_permissions.specs.declared.permission.Object.{Object}
-use Rattle.mpw_rbac.specs.Policy.{Policy, permits}
+use Rattle.mpw_rbac.specs.Policy.{Policy}
 use Rattle.mpw_rbac.specs.Rows.{user_of}
 use Rattle.mpw_requests.specs.declared.sign_off.MarkerName.{MarkerName}
 use Rattle.mpw_requests.specs.declared.sign_off.SignOffRequest.{SignOffRequest}
 use Rattle.mpw_requests.specs.declared.sign_off.SignOffRequest.TheVariants as ask
 use Rattle.mpw_replies.specs.Listing.{Listed, stored}
 use Rattle.mpw_laws.specs.Readable.{IsOfReadable, lines_of}
-use Rattle.mpw_replies.specs.Rows.{denied}
 use Rattle.mpw_replies.specs.Sight.{is_full}
 use Rattle.mpw_access.specs.Seen.{seen_by}
 use Rattle.mpw_replies.specs.declared.reply.Line.TheVariants as line
-use Rattle.mpw_replies.specs.declared.reply.Denial.TheVariants as denial
 use Rattle.mpw_replies.specs.declared.row.Done.TheVariants.{Changes}
-use Rattle.mpw_replies.specs.declared.row.Ending.TheVariants as ending
 use Rattle.mpw_run.specs.declared.phase.Checked.{Checked}
 use Rattle.mpw_run.specs.declared.phase.Phase.TheVariants.{Finished}
 use Rattle.mpw_run.specs.Step.{Run}
@@ -28,6 +23,7 @@ use Rattle.mpw_placings.specs.declared.wafer.Wafer.{Wafer}
 use Rattle.mpw_waiver.specs.declared.waiver.Waiver.{Waiver}
 use Rattle.mpw_laws.specs.WaiverLaws.{IsOwn, MaySign}
 use Rattle.mpw_waiver.specs.Waivers.{waiver_at, is_signed, with_asker, with_signer}
+use Rattle.mpw_signoff.specs.declared.ending.SignOffEnding.TheVariants.{Submitter, Asker}
 use Rattle.mpw_signoff.specs.declared.rows.WaiverChange.{WaiverChange}
 use Rattle.mpw_signoff.specs.Named.{name_for}
 use Rattle.mpw_signoff.specs.SigningOff.{row_of, waivers_after}
@@ -108,15 +104,6 @@ ToldAreShown =
 
 -- ---- denials
 
--- A permission that is denied is lacked.
-abbrev pub SignOffsDenyWhatIsLacked : Type 0
-SignOffsDenyWhatIsLacked =
-    (policy : Policy) (wafer : Wafer) (run : Run) (waivers : List (Option Waiver)) (connection : ℕ)
-    (request : SignOffRequest)
-    (operation : Operation) (object : Object)
-    → row_of policy wafer run waivers connection request ≡ Err (denied operation object)
-    → permits policy connection operation object ≡ false
-
 -- The user submitted a version of the cell that the marker touches, and none of an earlier cell in
 -- alphabetical order.
 pub record IsSubmitter (policy : Policy) (run : Run) (connection : ℕ) (name : MarkerName)
@@ -148,15 +135,14 @@ abbrev pub SubmittersAreTold : Type 0
 SubmittersAreTold =
     (policy : Policy) (wafer : Wafer) (run : Run) (waivers : List (Option Waiver)) (connection : ℕ)
     (request : SignOffRequest) (cell : List ℕ)
-    → row_of policy wafer run waivers connection request
-    ≡ Err (ending.Denied (denial.Submitter cell))
+    → row_of policy wafer run waivers connection request ≡ Err (Submitter cell)
     → (name : MarkerName) × (request ≡ ask.Sign name) × IsSubmitter policy run connection name cell
 
 abbrev pub AskersAreTold : Type 0
 AskersAreTold =
     (policy : Policy) (wafer : Wafer) (run : Run) (waivers : List (Option Waiver)) (connection : ℕ)
     (request : SignOffRequest)
-    → row_of policy wafer run waivers connection request ≡ Err (ending.Denied denial.Asker)
+    → row_of policy wafer run waivers connection request ≡ Err Asker
     → (name : MarkerName) × (request ≡ ask.Sign name) × IsAsker policy run waivers connection name
 
 -- A change leaves the number of entries unchanged.

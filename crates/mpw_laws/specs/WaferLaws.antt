@@ -1,28 +1,14 @@
 -- Laws of the requests of the wafer.
-use Rattle.std.specs.Prelude.{[], ◌≡◌, ℕ, false, List, ◌∷◌, slice_get, Some, Err, IfOk}
+use Rattle.std.specs.Prelude.{[], ◌≡◌, ℕ, List, ◌∷◌, slice_get, Some, IfOk}
 use Rattle.mpw_geom.specs.declared.placing.Placing.{Placing}
-use Rattle.mpw_permissions.specs.declared.permission.Operation.{Operation}
-use Rattle.mpw_permissions.specs.declared.permission.Object.{Object}
-use Rattle.mpw_rbac.specs.Policy.{Policy, permits}
 use Rattle.mpw_hier.specs.declared.submission.Submission.{Submission}
 use Rattle.mpw_hier.specs.Shelf.{present}
-use Rattle.mpw_requests.specs.declared.wafer.WaferRequest.{WaferRequest}
 use Rattle.mpw_requests.specs.declared.wafer.WaferRequest.TheVariants as ask
 use Rattle.mpw_replies.specs.Listing.{Listed, stored}
 use Rattle.mpw_laws.specs.Readable.{lines_of}
-use Rattle.mpw_replies.specs.Rows.{denied}
 use Rattle.mpw_replies.specs.declared.reply.Line.TheVariants as line
 use Rattle.mpw_placings.specs.declared.wafer.Wafer.{Wafer}
 use Rattle.mpw_wafer.specs.Wafers.{row_of}
-
--- A permission that is denied is lacked.
-abbrev pub WafersDenyWhatIsLacked : Type 0
-WafersDenyWhatIsLacked =
-    (policy : Policy) (shelf : List Submission) (wafer : Wafer) (connection : ℕ)
-    (request : WaferRequest)
-    (operation : Operation) (object : Object)
-    → row_of policy shelf wafer connection request ≡ Err (denied operation object)
-    → permits policy connection operation object ≡ false
 
 -- The cell has a present submission, and the reply has its version.
 pub record TellsVersion (shelf : List Submission) (cell : List ℕ) (lines : List Listed) :
@@ -35,8 +21,6 @@ pub record TellsVersion (shelf : List Submission) (cell : List ℕ) (lines : Lis
 
 abbrev pub PlacingsTellTheirVersion : Type 0
 PlacingsTellTheirVersion =
-    (policy : Policy) (shelf : List Submission) (wafer : Wafer) (connection : ℕ)
-    (cell label : List ℕ)
-    (placing : Placing)
-    → IfOk (row_of policy shelf wafer connection (ask.Place cell label placing))
+    (shelf : List Submission) (wafer : Wafer) (cell label : List ℕ) (placing : Placing)
+    → IfOk (row_of shelf wafer (ask.Place cell label placing))
     (λ done. TellsVersion shelf cell (lines_of done))

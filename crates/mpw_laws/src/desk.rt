@@ -8,7 +8,8 @@ ghost use Rattle.mpw_rbac_laws.specs.Existing.{AreTablesSound};
 ghost use Rattle.mpw_rbac_laws.specs.Laws.{IsLeastDynamic, IsLeastStatic};
 ghost use Rattle.mpw_rbac.specs.Sound.{active_authorized, Sound};
 ghost use Rattle.mpw_requests.specs.declared.policy.PolicyRequest.{PolicyRequest as AnyPolicyRequest};
-ghost use Rattle.mpw_laws.specs.Permissions.{Has, need_of};
+ghost use Rattle.mpw_access.specs.Guard.{Has};
+ghost use Rattle.mpw_requests.specs.Needs.{need_of};
 ghost use Rattle.mpw_laws.specs.Requested.{is_administration, requested_policy};
 ghost use Rattle.mpw_events.specs.History.{state_after};
 ghost use Rattle.mpw_replies.specs.Listing.{Listed, stored};
@@ -46,19 +47,17 @@ ghost use Rattle.mpw_laws.specs.RunLaws.{leaves};
 ghost use Rattle.mpw_run.specs.Step.{restarted};
 ghost use Rattle.mpw_core.specs.Answer.{run_response};
 
-use crate::checking::{
-    denials_over_the_run_name_what_is_lacked, lines_of_markers_are_of_readable_cells,
-};
+use crate::checking::lines_of_markers_are_of_readable_cells;
 use crate::layouts::{
     denials_of_layouts_name_what_is_lacked, lines_of_layouts_are_of_readable_cells,
 };
 use crate::runs::unkept_leaves_the_run;
 use crate::sign_off::{
     clean_is_signed_off, denials_of_separation_are_true,
-    denials_over_the_sign_off_name_what_is_lacked, lines_of_the_sign_off_are_of_readable_cells,
-    places_are_left, signers_stand_apart, waivers_are_of_shown_markers,
+    lines_of_the_sign_off_are_of_readable_cells, places_are_left, signers_stand_apart,
+    waivers_are_of_shown_markers,
 };
-use crate::wafer::denials_over_the_wafer_name_what_is_lacked;
+use mpw_access::entering_is_by_the_need;
 use mpw_rbac_laws::{
     denied_only_for_the_least_broken_set, each_request_keeps_the_tables,
     own_requests_need_no_permission, sets_are_told_where_they_are_tested,
@@ -135,10 +134,8 @@ pub fn denials_name_what_the_session_lacks()
     ensures activation { (state : State) (connection : ℕ) (role other : List ℕ) (kept : Bool) → response_of state (event.Ask connection (ask.Policy (Request.Activate role))) kept ≡ response.Told (Reply.Denied (denial.Activation other)) →
         (other ≡ role) × (contains_name (authorized state.policy (user_of state.policy connection)) role ≡ false) }
 {
+    entering_is_by_the_need();
     denials_of_layouts_name_what_is_lacked();
-    denials_over_the_wafer_name_what_is_lacked();
-    denials_over_the_run_name_what_is_lacked();
-    denials_over_the_sign_off_name_what_is_lacked();
 }
 
 /// In every state that calls lead to, the policy's tables name users and roles that exist, and have no more rows than their limits allow.
@@ -149,16 +146,19 @@ pub fn every_state_keeps_its_tables()
 }
 
 /// Whatever the request, it is accepted only if the connection has what it needs: nothing for `open`, a session for a request about one's
-/// own session, else the permission in the table `need_of`.
+/// own session, else a session with the permission in the table `need_of`.
 pub fn accepted_requests_had_what_they_need()
     ensures { (state : State) (connection : ℕ) (request : AnyRequest) (kept : Bool) (lines : List Listed) → response_of state (event.Ask connection request) kept ≡ response.Told (Reply.Ok lines) → Has state.policy connection (need_of request) }
-{}
+{
+    entering_is_by_the_need();
+}
 
 /// A denial for a set of separation of duty names the first set of its kind, in alphabetical order, that the requested policy would break.
 pub fn sets_are_denied_for_what_was_asked()
     ensures ssd { (state : State) (connection : ℕ) (request : AnyPolicyRequest) (kept : Bool) (name : List ℕ) → response_of state (event.Ask connection (ask.Policy request)) kept ≡ response.Told (Reply.Denied (denial.Ssd name)) → IsLeastStatic (requested_policy state.policy connection request) name }
     ensures dsd { (state : State) (connection : ℕ) (request : AnyPolicyRequest) (kept : Bool) (name : List ℕ) → response_of state (event.Ask connection (ask.Policy request)) kept ≡ response.Told (Reply.Denied (denial.Dsd name)) → IsLeastDynamic (requested_policy state.policy connection request) name }
 {
+    entering_is_by_the_need();
     denied_only_for_the_least_broken_set();
     sets_are_told_where_they_are_tested();
 }
@@ -169,6 +169,7 @@ pub fn own_requests_are_never_denied_a_permission()
         is_administration request ≡ false →
         response_of state (event.Ask connection (ask.Policy request)) kept ≡ response.Told (Reply.Denied (denial.Permission operation object)) → ⊥ }
 {
+    entering_is_by_the_need();
     own_requests_need_no_permission();
 }
 
@@ -212,6 +213,7 @@ pub fn denials_to_sign_are_true()
         response_of state (event.Ask connection (ask.SignOff request)) kept ≡ response.Told (Reply.Denied denial.Asker) →
         (name : MarkerName) × (request ≡ sign.Sign name) × IsAsker state.policy state.run state.waivers connection name }
 {
+    entering_is_by_the_need();
     denials_of_separation_are_true();
 }
 

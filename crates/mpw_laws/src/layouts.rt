@@ -4,7 +4,7 @@ ghost use Rattle.mpw_laws.specs.LayoutLaws.{LayoutsAreOfReadable, LayoutsDenyWha
 use mpw_hier::shelves_have_their_numbers;
 use mpw_walk::shapes_are_no_references;
 
-/// If a permission is denied, the connection's session lacks it.
+/// If a decision table denies the use of a cell, the connection's session may not use it. The tables deny no other permission.
 pub fn denials_of_layouts_name_what_is_lacked()
     ensures { LayoutsDenyWhatIsLacked }
 {}

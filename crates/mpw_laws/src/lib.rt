@@ -16,9 +16,7 @@ mod wafer;
 mod waivers;
 mod work;
 
-pub use checking::{
-    denials_over_the_run_name_what_is_lacked, lines_of_markers_are_of_readable_cells,
-};
+pub use checking::lines_of_markers_are_of_readable_cells;
 pub use desk::{
     a_restart_ends_every_session, accepted_requests_had_what_they_need,
     changes_count_once_they_are_kept, clean_runs_are_signed_off,
@@ -46,10 +44,10 @@ pub use runs::{
 pub use serving::served_changes_are_kept_in_order;
 pub use sign_off::{
     clean_is_signed_off, denials_of_separation_are_true,
-    denials_over_the_sign_off_name_what_is_lacked, lines_of_the_sign_off_are_of_readable_cells,
-    places_are_left, signed_off_is_clean, signers_stand_apart, waivers_are_of_shown_markers,
+    lines_of_the_sign_off_are_of_readable_cells, places_are_left, signed_off_is_clean,
+    signers_stand_apart, waivers_are_of_shown_markers,
 };
-pub use wafer::{denials_over_the_wafer_name_what_is_lacked, placings_tell_their_version};
+pub use wafer::placings_tell_their_version;
 pub use waivers::{
     denials_have_their_cause, none_unsigned_where_all_are_signed, signers_are_apart,
     signers_stay_apart, waivers_stand_where_they_were_put,

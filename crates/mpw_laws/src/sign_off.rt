@@ -1,5 +1,5 @@
 //! Laws of the sign-off requests. Each function calls at most the laws that its proof needs. Its contract is the law.
-ghost use Rattle.mpw_laws.specs.SignOffLaws.{AskedAreShown, AskersAreTold, CleanIsSignedOff, PlacesAreLeft, SignOffLinesAreOfReadable, SignOffsDenyWhatIsLacked, SignedOffIsClean, SignersStandApart, SubmittersAreTold, ToldAreShown};
+ghost use Rattle.mpw_laws.specs.SignOffLaws.{AskedAreShown, AskersAreTold, CleanIsSignedOff, PlacesAreLeft, SignOffLinesAreOfReadable, SignedOffIsClean, SignersStandApart, SubmittersAreTold, ToldAreShown};
 
 use crate::waivers::{
     denials_have_their_cause, none_unsigned_where_all_are_signed, signers_are_apart,
@@ -24,11 +24,6 @@ pub fn denials_of_separation_are_true()
     places_are_of_their_keys();
     denials_have_their_cause();
 }
-
-/// If a permission is denied, the connection's session lacks it.
-pub fn denials_over_the_sign_off_name_what_is_lacked()
-    ensures { SignOffsDenyWhatIsLacked }
-{}
 
 /// A change of the waivers by a request leaves the number of entries unchanged.
 pub fn places_are_left()

@@ -1,11 +1,12 @@
--- The requests of the layouts: each with its tests in order, and its result if all pass.
-use Rattle.std.specs.Prelude.{ℕ, ◌^◌, Bool, not, List, [], ◌∷◌, ◌++◌, map, is_some, slice_get, Option, None, Some, Result, Ok, Err, if◌then◌else◌}
+-- The requests of the layouts: each with its tests in order, and its result if all pass. The guard was
+-- passed before.
+use Rattle.std.specs.Prelude.{ℕ, ◌^◌, not, List, [], ◌∷◌, ◌++◌, map, is_some, slice_get, Option, None, Some, Result, Ok, Err, if◌then◌else◌}
 use Rattle.std.specs.List.{flat_map}
 use Rattle.mpw_geom.specs.Names.{by_name}
 use Rattle.mpw_records.specs.declared.fault.ReadFault.{ReadFault}
 use Rattle.mpw_roles.specs.Decided.{decided}
 use Rattle.mpw_roles.specs.Hierarchy.{Name}
-use Rattle.mpw_permissions.specs.declared.permission.Operation.TheVariants.{Submit, Use, Read}
+use Rattle.mpw_permissions.specs.declared.permission.Operation.TheVariants.{Use, Read}
 use Rattle.mpw_permissions.specs.declared.permission.Object.TheVariants as object
 use Rattle.mpw_rbac.specs.Policy.{Policy, permits}
 use Rattle.mpw_rbac.specs.Rows.{user_of}
@@ -23,50 +24,52 @@ use Rattle.mpw_requests.specs.declared.layouts.LayoutRequest.{LayoutRequest}
 use Rattle.mpw_requests.specs.declared.layouts.LayoutRequest.TheVariants as ask
 use Rattle.mpw_replies.specs.Listing.{Listed, stored, line_if}
 use Rattle.mpw_access.specs.Seen.{may_read}
-use Rattle.mpw_replies.specs.Rows.{◌>>=◌, changing, denied, listing}
-use Rattle.mpw_access.specs.Permitted.{in_session, permitted}
+use Rattle.mpw_replies.specs.Rows.{◌>>=◌, changing, denied, listing, needed}
 use Rattle.mpw_replies.specs.declared.reply.Line.{Line}
 use Rattle.mpw_replies.specs.declared.reply.Line.TheVariants as line
 use Rattle.mpw_replies.specs.declared.reply.Code.TheVariants as code
 use Rattle.mpw_replies.specs.declared.row.Done.{Done}
+use Rattle.mpw_replies.specs.declared.row.Done.TheVariants.{Lists}
 use Rattle.mpw_replies.specs.declared.row.Ending.{Ending}
 use Rattle.mpw_replies.specs.declared.row.Ending.TheVariants as ending
+use Rattle.mpw_layouts.specs.declared.ending.LayoutEnding.{LayoutEnding}
+use Rattle.mpw_layouts.specs.declared.ending.LayoutEnding.TheVariants.{Refused, Unusable}
 
 -- ---- tests
 
+-- the denial or refusal of a test
+abbrev pub ending_of : LayoutEnding → Ending
+ending_of (Refused why) = ending.Refused why
+ending_of (Unusable cell) = denied Use (object.Cell cell)
+
 -- the library in a text
-abbrev pub read : Result (List Structure) ReadFault → Result (List Structure) Ending
+abbrev pub read : Result (List Structure) ReadFault → Result (List Structure) LayoutEnding
 read (Ok library) = Ok library
-read (Err fault) = Err (ending.Refused (code.Read fault))
+read (Err fault) = Err (Refused (code.Read fault))
 
 -- the names outside the library that the top refers to
-abbrev pub outside : List Structure → Name → Result (List Name) Ending
+abbrev pub outside : List Structure → Name → Result (List Name) LayoutEnding
 outside library top =
     decided
-    ((is_some (place_of library top), ending.Refused code.NoTop)
-    ∷ (not (is_cyclic library top), ending.Refused code.Cycle) ∷ [])
+    ((is_some (place_of library top), Refused code.NoTop)
+    ∷ (not (is_cyclic library top), Refused code.Cycle) ∷ [])
     (external_names library top)
 
 -- each cell may be used
-abbrev pub usable : Policy → ℕ → List Name → Result (Unit {0}) Ending
+abbrev pub usable : Policy → ℕ → List Name → Result (Unit {0}) LayoutEnding
 usable policy connection [] = Ok tt
 usable policy connection (cell ∷ cells) =
     if permits policy connection Use (object.Cell cell) then usable policy connection cells
-    else Err (denied Use (object.Cell cell))
-
--- each name has a present submission
-abbrev pub all_bindings : Option (List Binding) → Result (List Binding) Ending
-all_bindings None = Err (ending.Refused code.NoCell)
-all_bindings (Some bindings) = Ok bindings
+    else Err (Unusable cell)
 
 -- the limits (that of shapes is the desk's 2^20), and then the submission with its version
-unfoldable pub within_limits : List Submission → Submission → Result Submission Ending
+unfoldable pub within_limits : List Submission → Submission → Result Submission LayoutEnding
 within_limits shelf s =
     decided
-    ((not (is_far shelf s), ending.Refused code.Extent)
-    ∷ (not (is_too_large (2 ^ 20) shelf s), ending.Refused code.Shapes)
-    ∷ (not (is_too_deep shelf s), ending.Refused code.Deep)
-    ∷ (has_room_for shelf s.cell, ending.Refused code.Full)
+    ((not (is_far shelf s), Refused code.Extent)
+    ∷ (not (is_too_large (2 ^ 20) shelf s), Refused code.Shapes)
+    ∷ (not (is_too_deep shelf s), Refused code.Deep)
+    ∷ (has_room_for shelf s.cell, Refused code.Full)
     ∷ [])
     (numbered shelf s)
 
@@ -84,20 +87,19 @@ unnumbered_submission cell submitter library top bindings =
       bound = bindings;
     }
 
--- the submission of a library that was read
+-- the submission of a library that was read: each name outside it has a present submission
 unfoldable pub submitted_library : Policy → List Submission → ℕ → Name → Name → List Structure
-    → Result Submission Ending
+    → Result Submission LayoutEnding
 submitted_library policy shelf connection cell top library = do
   names ← outside library top
   used ← usable policy connection names
-  bindings ← all_bindings (bound_to shelf names)
+  bindings ← needed (Refused code.NoCell) (bound_to shelf names)
   within_limits shelf (unnumbered_submission cell (user_of policy connection) library top bindings)
 
 -- the decision table of `submit`: the submission of a text
 unfoldable pub submit_row : Policy → List Submission → ℕ → Name → Name → List ℕ
-    → Result Submission Ending
+    → Result Submission LayoutEnding
 submit_row policy shelf connection cell top text = do
-  entered ← permitted policy connection Submit (object.Cell cell)
   library ← read (library_of text)
   submitted_library policy shelf connection cell top library
 
@@ -126,17 +128,12 @@ readable_line policy shelf connection cell =
     then cell_line (present_submission shelf cell)
     else []
 
--- the decision table of `cells`
-abbrev pub cells : Policy → List Submission → ℕ → Result (List Listed) Ending
-cells policy shelf connection = decided (in_session policy connection ∷ [])
-    (map stored (flat_map (readable_line policy shelf connection) (cells_of shelf)))
+-- the lines of `cells`
+abbrev pub cells : Policy → List Submission → ℕ → List Listed
+cells policy shelf connection =
+    map stored (flat_map (readable_line policy shelf connection) (cells_of shelf))
 
 -- ---- shapes
-
--- the number of a cell's present submission
-abbrev pub present_number : Option ℕ → Result ℕ Ending
-present_number None = Err (ending.Refused code.NoCell)
-present_number (Some number) = Ok number
 
 -- the line of a shape, if the session may read the cell that the shape comes from
 abbrev pub readable_shape : Policy → List Submission → ℕ → Item → List Listed
@@ -145,10 +142,9 @@ readable_shape policy shelf connection item =
 
 -- the decision table of `shapes`: the shapes of the cell's present submission that come from cells that the
 -- session may read
-unfoldable pub shapes : Policy → List Submission → ℕ → Name → Result (List Listed) Ending
+unfoldable pub shapes : Policy → List Submission → ℕ → Name → Result (List Listed) LayoutEnding
 shapes policy shelf connection cell = do
-  entered ← permitted policy connection Read (object.Cell cell)
-  number ← present_number (present shelf cell)
+  number ← needed (Refused code.NoCell) (present shelf cell)
   Ok (flat_map (readable_shape policy shelf connection) (flat shelf number))
 
 -- ---- each request
@@ -156,10 +152,10 @@ shapes policy shelf connection cell = do
 -- The decision table of each request. An accepted submission is added at the end of the shelf, and the reply
 -- has its version.
 abbrev pub row_of : Policy → List Submission → ℕ → LayoutRequest
-    → Result (Done (List Submission)) Ending
+    → Result (Done (List Submission)) LayoutEnding
 row_of policy shelf connection (ask.Submit cell top text) =
     changing (λ s. shelf ++ s ∷ []) (λ s. line.Version s.version ∷ [])
     (submit_row policy shelf connection cell top text)
-row_of policy shelf connection ask.Cells = listing (λ lines. lines) (cells policy shelf connection)
+row_of policy shelf connection ask.Cells = Ok (Lists (cells policy shelf connection))
 row_of policy shelf connection (ask.Shapes cell) =
     listing (λ lines. lines) (shapes policy shelf connection cell)

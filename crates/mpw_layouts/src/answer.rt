@@ -1,12 +1,13 @@
 //! The decision table of each request of the layouts.
-ghost use Rattle.std.specs.Prelude.{◌≡◌, ◌++◌, ◌∷◌, [], List, Result, Ok, IfOk};
+ghost use Rattle.std.specs.Prelude.{◌≡◌, ◌++◌, ◌∷◌, [], List, Result, Ok, is_some, true, IfOk};
 ghost use Rattle.mpw_hier.specs.declared.submission.Submission.{Submission};
 ghost use Rattle.mpw_layouts.specs.Internal.Answers.{IsShelved};
 ghost use Rattle.mpw_layouts.specs.Layouts.{row_of};
 ghost use Rattle.mpw_replies.specs.Rows.{Answers, changing};
 ghost use Rattle.mpw_replies.specs.declared.reply.Line.TheVariants.{Version};
-ghost use Rattle.mpw_replies.specs.declared.row.Ending.{Ending};
+ghost use Rattle.mpw_rbac.specs.Policy.{session_of};
 
+use crate::ending::LayoutEnding;
 use crate::rows::{Shelved, cells, shapes, submit};
 use mpw_hier::Shelf;
 use mpw_rbac::Policy;
@@ -16,7 +17,7 @@ use std::alloc::{AllocError, Global};
 
 /// The new shelf, and the line with its submission's version.
 fn grown(alloc: Global, next: Shelved) -> Result<Done<Shelf>, AllocError>
-    ensures { (shelf : List Submission) (row : Result Submission Ending) → IsShelved shelf row next.shelf next.version → IfOk result (λ done. changing (λ s. shelf ++ s ∷ []) (λ s. Version s.version ∷ []) row ≡ Ok done) }
+    ensures { (shelf : List Submission) (row : Result Submission LayoutEnding) → IsShelved shelf row next.shelf next.version → IfOk result (λ done. changing (λ s. shelf ++ s ∷ []) (λ s. Version s.version ∷ []) row ≡ Ok done) }
 {
     let Shelved { shelf, version } = next;
     let lines = Lines::of_line(alloc, Line::Version(version))?;
@@ -26,6 +27,8 @@ fn grown(alloc: Global, next: Shelved) -> Result<Done<Shelf>, AllocError>
 /// What a request of the layouts lists, or the shelf with its submission. Cost of a submission: its library's size, a search for each name,
 /// and the number of submissions on the shelf. `cells` costs that number. `shapes` costs it too, and the turns of a walk.
 ///
+/// The guard was passed: the connection has a session.
+///
 /// # Errors
 /// The first test that fails, or out of memory.
 pub fn answer_request(
@@ -34,7 +37,8 @@ pub fn answer_request(
     shelf: &Shelf,
     connection: u32,
     request: &LayoutRequest,
-) -> Result<Done<Shelf>, Fault>
+) -> Result<Done<Shelf>, Fault<LayoutEnding>>
+    requires session { is_some (session_of policy.now connection) ≡ true }
     ensures { Answers (λ done. done) result (row_of policy.now shelf.now connection request.now) }
 {
     match request {

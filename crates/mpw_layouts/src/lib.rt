@@ -4,8 +4,10 @@
 #![tactic(auto)]
 
 mod answer;
+mod ending;
 mod rows;
 mod sight;
 
 pub use answer::answer_request;
+pub use ending::LayoutEnding;
 pub use rows::MAX_SHAPES;

@@ -1,7 +1,7 @@
 //! The decision tables of `submit`, `cells` and `shapes`.
 //!
 //! Each part of a table is a function. It returns its value, or the test that failed, or out of memory.
-ghost use Rattle.std.specs.Prelude.{◌≡◌, ◌<◌, ◌++◌, slice_get, length, map, IfOk, IfErr, OnOk, Some};
+ghost use Rattle.std.specs.Prelude.{◌≡◌, ◌<◌, ◌++◌, slice_get, length, map, is_some, true, IfOk, IfErr, OnOk, Some};
 ghost use Rattle.std.specs.List.{flat_map};
 ghost use Rattle.mpw_library.specs.Grammar.{library_of};
 ghost use Rattle.mpw_structures.specs.Library.{IsLibrary};
@@ -9,15 +9,17 @@ ghost use Rattle.mpw_hier.specs.Outline.{IsOutline};
 ghost use Rattle.mpw_hier.specs.Shelf.{bound_to};
 ghost use Rattle.mpw_hier.specs.declared.submission.Submission.{Submission as SubmissionTold};
 ghost use Rattle.mpw_layouts.specs.Internal.Answers.{IsShelved, fault_of};
-ghost use Rattle.mpw_replies.specs.Rows.{Answers, Told};
+ghost use Rattle.mpw_replies.specs.Rows.{Answers, Told, needed};
 ghost use Rattle.mpw_layouts.specs.Layouts as row;
 ghost use Rattle.mpw_replies.specs.Listing.{stored};
 ghost use Rattle.mpw_hier.specs.Shelf.{present};
+ghost use Rattle.mpw_rbac.specs.Policy.{session_of};
 ghost use Rattle.mpw_rbac.specs.Rows.{user_of};
 ghost use Rattle.mpw_permissions.specs.declared.permission.Operation.TheVariants.{Read};
 
+use crate::ending::LayoutEnding;
 use crate::sight::shapes_of;
-use mpw_access::enter;
+use mpw_access::session_user;
 use mpw_elements::ReadError;
 use mpw_geom::{Name, Names};
 use mpw_hier::{
@@ -27,40 +29,47 @@ use mpw_hier::{
 use mpw_library::LibraryText;
 use mpw_permissions::{Object, Operation};
 use mpw_rbac::{Access, Policy};
-use mpw_replies::{Code, Denial, Ending, Fault, Line, Lines};
+use mpw_replies::{Code, Fault, Line, Lines};
 use mpw_structures::Library;
 use std::alloc::{AllocError, Global};
 
 /// The fault of a decision table for a fault of the shelf.
-fn fault_of(fault: HierFault) -> Fault
+fn fault_of(fault: HierFault) -> Fault<LayoutEnding>
     ensures { result ≡ fault_of fault }
 {
     match fault {
         HierFault::Memory => Fault::Memory,
-        HierFault::NoTop => Fault::from_code(Code::NoTop),
-        HierFault::Cycle => Fault::from_code(Code::Cycle),
-        HierFault::NoCell => Fault::from_code(Code::NoCell),
-        HierFault::Extent => Fault::from_code(Code::Extent),
-        HierFault::Shapes => Fault::from_code(Code::Shapes),
-        HierFault::Deep => Fault::from_code(Code::Deep),
-        HierFault::Full => Fault::from_code(Code::Full),
+        HierFault::NoTop => refused(Code::NoTop),
+        HierFault::Cycle => refused(Code::Cycle),
+        HierFault::NoCell => refused(Code::NoCell),
+        HierFault::Extent => refused(Code::Extent),
+        HierFault::Shapes => refused(Code::Shapes),
+        HierFault::Deep => refused(Code::Deep),
+        HierFault::Full => refused(Code::Full),
     }
 }
 
+/// The fault of a refusal.
+fn refused(code: Code) -> Fault<LayoutEnding>
+    ensures { result ≡ Fault.Told (LayoutEnding.Refused code) }
+{
+    Fault::Told(LayoutEnding::Refused(code))
+}
+
 /// The library in a text.
-fn read(alloc: Global, text: &LibraryText) -> Result<Library, Fault>
+fn read(alloc: Global, text: &LibraryText) -> Result<Library, Fault<LayoutEnding>>
     ensures read { Answers (λ library. library) result (row.read (library_of text.now)) }
     ensures shape { IfOk result IsLibrary }
 {
     match text.library(alloc) {
         Ok(library) => Ok(library),
-        Err(ReadError::Fault(fault)) => Err(Fault::from_code(Code::Read(fault))),
+        Err(ReadError::Fault(fault)) => Err(refused(Code::Read(fault))),
         Err(ReadError::Memory) => Err(Fault::Memory),
     }
 }
 
 /// The structures that the top of the library reaches, with the names outside the library.
-fn outside(alloc: Global, library: &Library, top: &Name) -> Result<Outline, Fault>
+fn outside(alloc: Global, library: &Library, top: &Name) -> Result<Outline, Fault<LayoutEnding>>
     ensures outside { Answers (λ outline. outline.names) result (row.outside library.now top.now) }
     ensures outline { IfOk result (IsOutline library.now top.now) }
 {
@@ -71,23 +80,23 @@ fn outside(alloc: Global, library: &Library, top: &Name) -> Result<Outline, Faul
     }
 }
 
-/// Whether each cell may be used. The denial names the first that may not.
-fn usable(policy: &Policy, connection: u32, cells: &[Name]) -> Result<(), Fault>
+/// Each cell may be used. The denial names the first that may not.
+fn usable(policy: &Policy, connection: u32, cells: &[Name]) -> Result<(), Fault<LayoutEnding>>
     ensures { Answers (λ x. x) result (row.usable policy.now connection cells.now) }
 {
     let access = policy.access(connection, Operation::Use);
     for cell in cells {
         let object = Object::Cell(cell.copy()?);
         if !access.permits(&object) {
-            return Err(Fault::Told(Ending::Denied(Denial::Permission(Operation::Use, object))));
+            return Err(Fault::Told(LayoutEnding::Unusable(cell.copy()?)));
         }
     }
     Ok(())
 }
 
 /// The present submission of each name.
-fn bind(alloc: Global, shelf: &Shelf, names: &[Name]) -> Result<Bindings, Fault>
-    ensures bound { Answers (λ bindings. bindings) result (row.all_bindings (bound_to shelf.now names.now)) }
+fn bind(alloc: Global, shelf: &Shelf, names: &[Name]) -> Result<Bindings, Fault<LayoutEnding>>
+    ensures bound { Answers (λ bindings. bindings) result (needed (LayoutEnding.Refused Code.NoCell) (bound_to shelf.now names.now)) }
     ensures is { IfOk result (λ bindings. bound_to shelf.now names.now ≡ Some bindings) }
 {
     match shelf.bind(alloc, names) {
@@ -113,7 +122,7 @@ fn keep(
     shelf: &Shelf,
     submission: Submission,
     outline: &Outline,
-) -> Result<Shelved, Fault>
+) -> Result<Shelved, Fault<LayoutEnding>>
     requires library { IsLibrary submission.library }
     requires outline { IsOutline submission.library submission.top outline.now }
     requires bound { bound_to shelf.now outline.now.names ≡ Some submission.bound }
@@ -158,7 +167,7 @@ fn submit_library(
     shelf: &Shelf,
     connection: u32,
     offer: Offer,
-) -> Result<Shelved, Fault>
+) -> Result<Shelved, Fault<LayoutEnding>>
     requires library { IsLibrary offer.library }
     requires submitter { offer.submitter ≡ user_of policy.now connection }
     ensures ok { IfOk result (λ next. IsShelved shelf.now (row.submitted_library policy.now shelf.now connection offer.cell offer.top offer.library) next.shelf next.version) }
@@ -194,17 +203,13 @@ pub(crate) fn submit(
     cell: &Name,
     top: &Name,
     text: &LibraryText,
-) -> Result<Shelved, Fault>
+) -> Result<Shelved, Fault<LayoutEnding>>
+    requires session { is_some (session_of policy.now connection) ≡ true }
     ensures ok { IfOk result (λ next. IsShelved shelf.now (row.submit_row policy.now shelf.now connection cell.now top.now text.now) next.shelf next.version) }
     ensures err { IfErr result (λ fault. Told fault (row.submit_row policy.now shelf.now connection cell.now top.now text.now)) }
 {
-    let submitter = enter(
-        policy,
-        connection,
-        Operation::Submit,
-        Object::Cell(cell.copy()?),
-    )?;
     let library = read(alloc, text)?;
+    let submitter = session_user(policy, connection).copy()?;
     let cell = cell.copy()?;
     let top = top.copy()?;
     submit_library(
@@ -272,25 +277,22 @@ pub(crate) fn cells(
     policy: &Policy,
     shelf: &Shelf,
     connection: u32,
-) -> Result<Lines, Fault>
-    ensures { Answers (λ lines. lines) result (row.cells policy.now shelf.now connection) }
+) -> Result<Lines, AllocError>
+    ensures { IfOk result (λ lines. lines ≡ row.cells policy.now shelf.now connection) }
 {
-    if !policy.has_session(connection) {
-        return Err(Fault::Told(Ending::Denied(Denial::Session)));
-    }
     let cells = shelf.cells(alloc)?;
-    Ok(cell_lines(alloc, policy, shelf, connection, cells.as_slice())?)
+    cell_lines(alloc, policy, shelf, connection, cells.as_slice())
 }
 
 /// The number of the present submission of a cell.
-fn present_number(shelf: &Shelf, cell: &Name) -> Result<u32, Fault>
-    ensures shown { Answers (λ number. number) result (row.present_number (present shelf.now cell.now)) }
+fn present_number(shelf: &Shelf, cell: &Name) -> Result<u32, Fault<LayoutEnding>>
+    ensures shown { Answers (λ number. number) result (needed (LayoutEnding.Refused Code.NoCell) (present shelf.now cell.now)) }
     ensures within { IfOk result (λ number. number < length shelf.now) }
 {
     shelves_have_their_numbers();
     match shelf.present(cell) {
         Some(number) => Ok(number),
-        None => Err(Fault::from_code(Code::NoCell)),
+        None => Err(refused(Code::NoCell)),
     }
 }
 
@@ -302,15 +304,9 @@ pub(crate) fn shapes(
     shelf: &Shelf,
     connection: u32,
     cell: &Name,
-) -> Result<Lines, Fault>
+) -> Result<Lines, Fault<LayoutEnding>>
     ensures { Answers (λ lines. lines) result (row.shapes policy.now shelf.now connection cell.now) }
 {
-    enter(
-        policy,
-        connection,
-        Operation::Read,
-        Object::Cell(cell.copy()?),
-    )?;
     let number = present_number(shelf, cell)?;
     let listing = shapes_of(alloc, policy, shelf, connection, number)?;
     Ok(Lines::of_shapes(alloc, listing)?)

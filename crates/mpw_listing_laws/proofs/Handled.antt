@@ -9,25 +9,24 @@ use Rattle.mpw_replies.specs.Rows.{listing, needed}
 use Rattle.mpw_replies.specs.declared.reply.Code.TheVariants as code
 use Rattle.mpw_replies.specs.declared.reply.Reply.TheVariants as reply
 use Rattle.mpw_replies.specs.declared.row.Done.{Done}
-use Rattle.mpw_access.specs.Permitted.{session_test}
+use Rattle.mpw_replies.specs.declared.row.Ending.TheVariants as ending
 use Rattle.mpw_wafer.specs.Run.Checking as checking
 use Rattle.mpw_requests.specs.declared.request.Request.{Request}
 use Rattle.mpw_requests.specs.declared.request.Request.TheVariants as ask
 use Rattle.mpw_requests.specs.declared.run.RunRequest.TheVariants as run
 use Rattle.mpw_run.specs.declared.phase.Checked.{Checked}
-use Rattle.mpw_run.specs.declared.phase.Phase.TheVariants.{Finished}
+use Rattle.mpw_run.specs.declared.phase.Phase.{Phase}
+use Rattle.mpw_run.specs.declared.phase.Phase.TheVariants.{Idle, Cutting, Checking, Finished}
 use Rattle.mpw_run.specs.Step.{findings}
 use Rattle.mpw_events.specs.declared.event.Event.{Event}
 use Rattle.mpw_events.specs.declared.event.Event.TheVariants as event
 use Rattle.mpw_events.specs.declared.event.Response.TheVariants as response
 use Rattle.mpw_events.specs.declared.keeper.KeptChange.{KeptChange}
 use Rattle.mpw_events.specs.History.{Desk, KeptDesk, Handled, IsHandled, kept_desk, state_of, max_events, closed_response, limit_response, nothing_added, answering, handling}
-use Rattle.mpw_events.specs.Step.{State, Outcome, outcome_of, event_outcome, response_of, step}
+use Rattle.mpw_events.specs.Step.{State, over_run, response_of}
 use Rattle.mpw_laws.specs.Readable.{lines_of}
 use Rattle.mpw_laws.proofs.AcceptedLemmas.{accepted}
-use Rattle.mpw_laws.proofs.RefusalLemmas.{settlement-ok}
-use Rattle.mpw_laws.proofs.RowParts.{if_behind, if_listed}
-use Rattle.mpw_laws.proofs.Shown.{finished_is}
+use Rattle.mpw_laws.proofs.GuardLemmas.{guarded_ok}
 use Rattle.mpw_listing_laws.specs.Markers.{Sight, AreTold, sight_of, MarkersAreTold}
 use Rattle.mpw_listing_laws.proofs.MarkerLines.{HaveRules, book_told}
 
@@ -66,26 +65,26 @@ record ListsBook (s : State) (connection : ℕ) (lines : List Listed) : Type 0 w
   lines_are : lines ≡ checking.checked_lines s.policy connection checked
 
 markers_list : (s : State) (connection : ℕ)
-    → IfOk (listing (λ lines. lines) (checking.markers s.policy s.run connection))
-    (λ (done : Done checking.RunChange). ListsBook s connection (lines_of done))
-unfolding checking.markers
-markers_list s connection =
-    let Of : List Listed → Type 0 = ListsBook s connection in
-    if_listed _ _ (checking.markers s.policy s.run connection)
-    (if_behind Of (session_test s.policy connection) _ (λ inside is.
-    if_behind Of (needed code.NotFinished (findings s.run.phase)) _ (λ f is.
-    record { checked = f; finished = finished_is s.run.phase f is; lines_are = refl })))
+    → IfOk (checking.row_of s.policy s.shelf s.wafer s.run connection run.Markers)
+    (λ done. ListsBook s connection (lines_of done))
+markers_list s connection = by s.run.phase refl
+  where
+    by : (phase : Phase) → s.run.phase ≡ phase
+        → IfOk (listing (checking.checked_lines s.policy connection)
+        (needed code.NotFinished (findings phase)))
+        (λ (done : Done checking.RunChange). ListsBook s connection (lines_of done))
+    by Idle is = tt
+    by (Cutting planned) is = tt
+    by (Checking c) is = tt
+    by (Finished f) is = record { checked = f; finished = is; lines_are = refl }
 
 step_lists : (s : State) (connection : ℕ) (kept : Bool) (lines : List Listed)
     → response_of s (event.Ask connection (ask.Run run.Markers)) kept
     ≡ response.Told (reply.Ok lines) → ListsBook s connection lines
-unfolding step event_outcome
 step_lists s connection kept lines e =
-    let same =
-    settlement-ok s (event.Ask connection (ask.Run run.Markers)) kept
-    (outcome_of s connection (ask.Run run.Markers)) lines e in
-    accepted _ _ s _ (ListsBook s connection) lines (markers_list s connection)
-    (ap (λ (o : Outcome). o.response) (sym same) ∙ e)
+    accepted ending.Refused (over_run s) s _ (ListsBook s connection) lines
+    (markers_list s connection)
+    (guarded_ok s connection (ask.Run run.Markers) kept lines e).row
 
 -- ---- the book
 

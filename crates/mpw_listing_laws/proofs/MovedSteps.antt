@@ -1,9 +1,11 @@
 -- The answers of a desk at another connection, step by step.
-use Rattle.std.proofs.Common.{◌≡◌, ◌∙◌, ℕ, Bool, true, false, ◌&&◌, not, List, [], Result, Ok, Err, refl, sym, ap}
+use Rattle.std.proofs.Common.{◌≡◌, ◌∙◌, ℕ, Bool, true, false, ◌&&◌, not, List, [], map, Result, Ok, Err, refl, sym, ap}
 use Rattle.std.specs.Prelude.{if◌then◌else◌}
 use Rattle.std.proofs.lemmas.Bool.{true≢false}
 use Rattle.mpw_rbac.specs.Rows as rows
 use Rattle.mpw_layouts.specs.Layouts as layouts
+use Rattle.mpw_run.specs.Step.{findings}
+use Rattle.mpw_rbac.specs.declared.session.Identity.{Identity}
 use Rattle.mpw_wafer.specs.Run.Checking as checking
 use Rattle.mpw_signoff.specs.SigningOff as signing
 use Rattle.mpw_requests.specs.declared.layouts.LayoutRequest.TheVariants as layout
@@ -11,17 +13,25 @@ use Rattle.mpw_requests.specs.declared.request.Request.{Request}
 use Rattle.mpw_requests.specs.declared.request.Request.TheVariants as ask
 use Rattle.mpw_requests.specs.declared.run.RunRequest.TheVariants as run
 use Rattle.mpw_requests.specs.declared.sign_off.SignOffRequest.TheVariants as sign
-use Rattle.mpw_replies.specs.Listing.{Listed}
-use Rattle.mpw_replies.specs.Rows.{changing, listing}
+use Rattle.mpw_requests.specs.Needs.{need_of}
+use Rattle.mpw_access.specs.Guard.{entered}
+use Rattle.mpw_replies.specs.Listing.{Listed, stored}
+use Rattle.mpw_replies.specs.Rows.{changing, listing, needed}
+use Rattle.mpw_replies.specs.declared.reply.Code.TheVariants as code
+use Rattle.mpw_replies.specs.declared.reply.Reply.TheVariants as reply
+use Rattle.mpw_replies.specs.declared.row.Done.{Done}
 use Rattle.mpw_replies.specs.declared.entry.Entry.{Entry}
 use Rattle.mpw_replies.specs.declared.row.Ending.{Ending}
+use Rattle.mpw_replies.specs.declared.row.Ending.TheVariants as ending
+use Rattle.mpw_signoff.specs.declared.ending.SignOffEnding.{SignOffEnding}
 use Rattle.mpw_signoff.specs.declared.rows.ByUser.{ByUser}
 use Rattle.mpw_signoff.specs.declared.rows.WaiverChange.{WaiverChange}
 use Rattle.mpw_signoff.specs.declared.rows.WaiverChange.TheVariants.{Asked, Signed}
 use Rattle.mpw_events.specs.declared.event.Event.TheVariants as event
-use Rattle.mpw_events.specs.Step.{State, Outcome, no_change, not_kept_response, outcome_by, over_waivers, outcome_of, event_outcome, settlement, step, response_of, after}
+use Rattle.mpw_events.specs.declared.event.Response.TheVariants as response
+use Rattle.mpw_events.specs.Step.{State, Outcome, ending_of, guarded, identity_lines, no_change, not_kept_response, outcome_by, over_policy, over_run, over_shelf, over_waivers, outcome_of, row_outcome, event_outcome, settlement, step, response_of, after}
 use Rattle.mpw_secrecy.specs.Questions.{is_of_view}
-use Rattle.mpw_listing_laws.proofs.Moving.{moved, whoami_moved, cells_moved, shapes_moved, status_moved, markers_moved, waive_moved, sign_moved, waivers_moved}
+use Rattle.mpw_listing_laws.proofs.Moving.{moved, entered_moved, whoami_moved, cells_moved, shapes_moved, markers_moved, waive_moved, sign_moved, waivers_moved}
 
 -- ---- outcomes
 
@@ -40,11 +50,12 @@ IsMoved here there trail s request =
 
 -- a table that lists the same there
 list_moved : {A E P : Type 0} (how : E → Ending) (over other : P → State) (lines : A → List Listed)
-    (here there : ℕ) (trail : List Entry) (s : State) (row second : Result A E) → row ≡ second
-    → outcome_by how over (moved here there trail s) (listing lines row)
+    (here there : ℕ) (trail : List Entry) (s : State) (row : Result (Done P) E) (second : Result A E)
+    → row ≡ listing lines second
+    → outcome_by how over (moved here there trail s) row
     ≡ moved_outcome here there trail (outcome_by how other s (listing lines second))
 list_moved {A = A} {E = E} how over other lines here there trail s row second e =
-    ap (λ r. outcome_by how over (moved here there trail s) (listing lines r)) e ∙ go second
+    ap (outcome_by how over (moved here there trail s)) e ∙ go second
   where
     go : (r : Result A E) → outcome_by how over (moved here there trail s) (listing lines r)
         ≡ moved_outcome here there trail (outcome_by how other s (listing lines r))
@@ -53,57 +64,80 @@ list_moved {A = A} {E = E} how over other lines here there trail s row second e 
 
 -- a table that changes the waivers in the same way
 put_moved : (put : ByUser → WaiverChange) (here there : ℕ) (trail : List Entry) (s : State)
-    (row second : Result ByUser Ending) → row ≡ second
-    → outcome_by (λ e. e) (over_waivers (moved here there trail s)) (moved here there trail s)
-    (changing put (λ by. []) row)
+    (row second : Result ByUser SignOffEnding) → row ≡ second
+    → outcome_by signing.ending_of (over_waivers (moved here there trail s))
+    (moved here there trail s) (changing put (λ by. []) row)
     ≡ moved_outcome here there trail
-    (outcome_by (λ e. e) (over_waivers s) s (changing put (λ by. []) second))
+    (outcome_by signing.ending_of (over_waivers s) s (changing put (λ by. []) second))
 put_moved put here there trail s row second e = ap out e ∙ go second
   where
-    out : Result ByUser Ending → Outcome
+    out : Result ByUser SignOffEnding → Outcome
     out r =
-        outcome_by (λ e. e) (over_waivers (moved here there trail s)) (moved here there trail s)
-        (changing put (λ by. []) r)
+        outcome_by signing.ending_of (over_waivers (moved here there trail s))
+        (moved here there trail s) (changing put (λ by. []) r)
 
-    go : (r : Result ByUser Ending) → out r ≡ moved_outcome here there trail
-        (outcome_by (λ e. e) (over_waivers s) s (changing put (λ by. []) r))
+    go : (r : Result ByUser SignOffEnding) → out r ≡ moved_outcome here there trail
+        (outcome_by signing.ending_of (over_waivers s) s (changing put (λ by. []) r))
     go (Ok by) = refl
     go (Err why) = refl
 
-asked_moved : (here there : ℕ) (trail : List Entry) (s : State) (request : Request)
-    → is_of_view request ≡ true → IsMoved here there trail s request
-asked_moved here there trail s (ask.Policy request) is = absurd (true≢false (sym is))
-asked_moved here there trail s ask.Whoami is =
-    list_moved _ _ _ _ here there trail s _ (rows.whoami s.policy there)
-    (whoami_moved here there s.policy)
-asked_moved here there trail s (ask.Layout (layout.Submit cell top text)) is =
+row_moved : (here there : ℕ) (trail : List Entry) (s : State) (request : Request)
+    → is_of_view request ≡ true
+    → row_outcome (moved here there trail s) here request
+    ≡ moved_outcome here there trail (row_outcome s there request)
+row_moved here there trail s (ask.Policy request) is = absurd (true≢false (sym is))
+row_moved here there trail s ask.Whoami is =
+    list_moved ending_of (over_policy (moved here there trail s)) (over_policy s) lines here there
+    trail s _ (rows.whoami s.policy there) (ap (listing lines) (whoami_moved here there s.policy))
+  where
+    lines : Identity → List Listed
+    lines identity = map stored (identity_lines identity)
+row_moved here there trail s (ask.Layout (layout.Submit cell top text)) is =
     absurd (true≢false (sym is))
-asked_moved here there trail s (ask.Layout layout.Cells) is =
-    list_moved _ _ _ _ here there trail s _ (layouts.cells s.policy s.shelf there)
+row_moved here there trail s (ask.Layout layout.Cells) is =
+    ap (λ lines. no_change (response.Told (reply.Ok lines)) (moved here there trail s))
     (cells_moved here there s.policy s.shelf)
-asked_moved here there trail s (ask.Layout (layout.Shapes cell)) is =
-    list_moved _ _ _ _ here there trail s _ (layouts.shapes s.policy s.shelf there cell)
-    (shapes_moved here there s.policy s.shelf cell)
-asked_moved here there trail s (ask.Wafer request) is = absurd (true≢false (sym is))
-asked_moved here there trail s (ask.Run run.Run) is = absurd (true≢false (sym is))
-asked_moved here there trail s (ask.Run run.Cancel) is = absurd (true≢false (sym is))
-asked_moved here there trail s (ask.Run run.Status) is =
-    list_moved _ _ _ _ here there trail s _ (checking.status s.policy s.run there)
-    (status_moved here there s.policy s.run)
-asked_moved here there trail s (ask.Run run.Markers) is =
-    list_moved _ _ _ _ here there trail s _ (checking.markers s.policy s.run there)
-    (markers_moved here there s.policy s.run)
-asked_moved here there trail s (ask.SignOff (sign.Waive name)) is =
+row_moved here there trail s (ask.Layout (layout.Shapes cell)) is =
+    list_moved layouts.ending_of (over_shelf (moved here there trail s)) (over_shelf s)
+    (λ lines. lines) here there trail s _ (layouts.shapes s.policy s.shelf there cell)
+    (ap (listing (λ lines. lines)) (shapes_moved here there s.policy s.shelf cell))
+row_moved here there trail s (ask.Wafer request) is = absurd (true≢false (sym is))
+row_moved here there trail s (ask.Run run.Run) is = absurd (true≢false (sym is))
+row_moved here there trail s (ask.Run run.Cancel) is = absurd (true≢false (sym is))
+row_moved here there trail s (ask.Run run.Status) is = refl
+row_moved here there trail s (ask.Run run.Markers) is =
+    list_moved ending.Refused (over_run (moved here there trail s)) (over_run s)
+    (checking.checked_lines s.policy there) here there trail s _
+    (needed code.NotFinished (findings s.run.phase))
+    (markers_moved code.NotFinished here there s.policy s.run)
+row_moved here there trail s (ask.SignOff (sign.Waive name)) is =
     put_moved Asked here there trail s _ (signing.waive_row s.policy s.run s.waivers there name)
     (waive_moved here there s.policy s.run s.waivers name)
-asked_moved here there trail s (ask.SignOff (sign.Sign name)) is =
+row_moved here there trail s (ask.SignOff (sign.Sign name)) is =
     put_moved Signed here there trail s _ (signing.sign_row s.policy s.run s.waivers there name)
     (sign_moved here there s.policy s.run s.waivers name)
-asked_moved here there trail s (ask.SignOff sign.Waivers) is =
-    list_moved _ _ _ _ here there trail s _ (signing.waivers_row s.policy s.run s.waivers there)
+row_moved here there trail s (ask.SignOff sign.Waivers) is =
+    list_moved signing.ending_of (over_waivers (moved here there trail s)) (over_waivers s)
+    (λ f. map stored (signing.waiver_lines s.policy there f s.waivers)) here there trail s _
+    (signing.finished s.run)
     (waivers_moved here there s.policy s.run s.waivers)
-asked_moved here there trail s (ask.SignOff sign.Verdict) is = absurd (true≢false (sym is))
-asked_moved here there trail s ask.Trail is = absurd (true≢false (sym is))
+row_moved here there trail s (ask.SignOff sign.Verdict) is = absurd (true≢false (sym is))
+row_moved here there trail s ask.Trail is = absurd (true≢false (sym is))
+
+asked_moved : (here there : ℕ) (trail : List Entry) (s : State) (request : Request)
+    → is_of_view request ≡ true → IsMoved here there trail s request
+asked_moved here there trail s request is =
+    ap (λ met. guarded (moved here there trail s) met
+    (row_outcome (moved here there trail s) here request))
+    (entered_moved here there s.policy (need_of request))
+    ∙ go (entered s.policy there (need_of request))
+  where
+    go : (met : Result (Unit {0}) Ending)
+        → guarded (moved here there trail s) met
+        (row_outcome (moved here there trail s) here request)
+        ≡ moved_outcome here there trail (guarded s met (row_outcome s there request))
+    go (Ok passed) = row_moved here there trail s request is
+    go (Err why) = refl
 
 -- ---- the step
 

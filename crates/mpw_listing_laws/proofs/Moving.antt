@@ -29,18 +29,20 @@ use Rattle.mpw_hier.specs.Items.{Item}
 use Rattle.mpw_hier.specs.Shelf.{present}
 use Rattle.mpw_hier.specs.Values.{flat}
 use Rattle.mpw_permissions.specs.declared.permission.Object.TheVariants as objects
-use Rattle.mpw_permissions.specs.declared.permission.Operation.TheVariants as operations
 use Rattle.mpw_permissions.specs.declared.permission.Operation.TheVariants.{Read}
 use Rattle.mpw_rbac.specs.declared.refusal.Refusal.TheVariants.{NoSession}
 use Rattle.mpw_rbac.specs.Policy.{identity_of, session_permits}
-use Rattle.mpw_replies.specs.Listing.{Listed, stored, line_if}
-use Rattle.mpw_replies.specs.Rows.{◌>>=◌, needed, denied}
+use Rattle.mpw_replies.specs.Listing.{stored, line_if}
+use Rattle.mpw_replies.specs.Rows.{◌>>=◌, denied, listing, needed}
 use Rattle.mpw_replies.specs.Sight.{book_lines}
 use Rattle.mpw_replies.specs.declared.reply.Code.TheVariants as code
 use Rattle.mpw_replies.specs.declared.reply.Denial.TheVariants as denial
-use Rattle.mpw_replies.specs.declared.row.Ending.{Ending}
 use Rattle.mpw_replies.specs.declared.row.Ending.TheVariants as ending
-use Rattle.mpw_access.specs.Permitted.{session_test, permitted}
+use Rattle.mpw_layouts.specs.declared.ending.LayoutEnding.TheVariants as layout_ending
+use Rattle.mpw_signoff.specs.declared.ending.SignOffEnding.{SignOffEnding}
+use Rattle.mpw_requests.specs.declared.need.Need.{Need}
+use Rattle.mpw_requests.specs.declared.need.Need.TheVariants as need
+use Rattle.mpw_access.specs.Guard.{entered}
 use Rattle.mpw_run.specs.declared.phase.Checked.{Checked}
 use Rattle.mpw_run.specs.Step.{findings}
 use Rattle.mpw_waiver.specs.Signing.{ask_test}
@@ -181,29 +183,19 @@ book_moved here there policy waivers (Finished f) =
     ∙ ap (λ (user : Name). book_by waivers f (permits policy there) user)
     (user_moved here there policy)
 
+-- ---- the guard
+
+pub entered_moved : (here there : ℕ) (policy : Policy) (need : Need)
+    → entered (policy_at here there policy) here need ≡ entered policy there need
+entered_moved here there policy need.Nothing = refl
+entered_moved here there policy need.Session =
+    ap (λ (b : Bool). decided ((b, ending.Denied denial.Session) ∷ []) tt)
+    (inside_moved here there policy)
+entered_moved here there policy (need.Permission operation object) =
+    λ i. decided ((inside_moved here there policy i, ending.Denied denial.Session)
+    ∷ (permits_moved here there policy operation object i, denied operation object) ∷ []) tt
+
 -- ---- decision tables
-
-abbrev entered : Bool → Result (Unit {0}) Ending
-entered b = let test : Bool × Ending = (b, ending.Denied denial.Session) in decided (test ∷ []) tt
-
-test_moved : (here there : ℕ) (policy : Policy)
-    → session_test (policy_at here there policy) here ≡ session_test policy there
-test_moved here there policy = ap entered (inside_moved here there policy)
-
-abbrev gate : Operation → Object → Bool → Bool → Result (Unit {0}) Ending
-gate operation object inside may =
-    let first : Bool × Ending = (inside, ending.Denied denial.Session) in
-    let second : Bool × Ending = (may, denied operation object) in
-    decided (first ∷ second ∷ []) tt
-
-permitted_moved : (here there : ℕ) (policy : Policy) (operation : Operation) (object : Object)
-    → permitted (policy_at here there policy) here operation object
-    ≡ permitted policy there operation object
-permitted_moved here there policy operation object =
-    ap (λ (b : Bool). gate operation object b
-    (permits (policy_at here there policy) here operation object)) (inside_moved here there policy)
-    ∙ ap (gate operation object (is_some (session_of policy there)))
-    (permits_moved here there policy operation object)
 
 abbrev who : Policy → Bool → Name → List Name → Result Identity Refusal
 who policy inside user active =
@@ -221,74 +213,44 @@ whoami_moved here there policy =
     ∙ ap (λ (active : List Name). who policy (is_some (session_of policy there))
     (rows.user_of policy there) active) (active_moved here there policy)
 
-abbrev cells_by : List Submission → Bool → May → Result (List Listed) Ending
-cells_by shelf inside may =
-    let test : Bool × Ending = (inside, ending.Denied denial.Session) in
-    decided (test ∷ []) (map stored (flat_map (λ (cell : Name).
-    if may Read (objects.Cell cell)
-    then layouts.cell_line (layouts.present_submission shelf cell)
-    else []) (layouts.cells_of shelf)))
-
 pub cells_moved : (here there : ℕ) (policy : Policy) (shelf : List Submission)
     → layouts.cells (policy_at here there policy) shelf here ≡ layouts.cells policy shelf there
 cells_moved here there policy shelf =
-    ap (λ (b : Bool). cells_by shelf b (permits (policy_at here there policy) here))
-    (inside_moved here there policy)
-    ∙ ap (λ (may : May). cells_by shelf (is_some (session_of policy there)) may)
-    (may_moved here there policy)
-
-abbrev shapes_by : List Submission → Name → Result (Unit {0}) Ending → May
-    → Result (List Listed) Ending
-shapes_by shelf cell allowed may =
-    allowed >>= λ entered. layouts.present_number (present shelf cell) >>= λ number.
-    Ok (flat_map (λ (item : Item). line_if (λ (s : Submission). may Read (objects.Cell s.cell))
-    (slice_get shelf item.origin) item) (flat shelf number))
+    ap (λ (may : May). map stored (flat_map (λ (cell : Name).
+    if may Read (objects.Cell cell)
+    then layouts.cell_line (layouts.present_submission shelf cell)
+    else []) (layouts.cells_of shelf))) (may_moved here there policy)
 
 pub shapes_moved : (here there : ℕ) (policy : Policy) (shelf : List Submission) (cell : Name)
     → layouts.shapes (policy_at here there policy) shelf here cell
     ≡ layouts.shapes policy shelf there cell
 unfolding layouts.shapes
 shapes_moved here there policy shelf cell =
-    ap (λ (t : Result (Unit {0}) Ending). shapes_by shelf cell t
-    (permits (policy_at here there policy) here))
-    (permitted_moved here there policy Read (objects.Cell cell))
-    ∙ ap (λ (may : May). shapes_by shelf cell (permitted policy there Read (objects.Cell cell)) may)
+    ap (λ (may : May). needed (layout_ending.Refused code.NoCell) (present shelf cell) >>= λ number.
+    Ok (flat_map (λ (item : Item). line_if (λ (s : Submission). may Read (objects.Cell s.cell))
+    (slice_get shelf item.origin) item) (flat shelf number))) (may_moved here there policy)
+
+pub markers_moved : {E P : Type 0} (why : E) (here there : ℕ) (policy : Policy) (r : Run)
+    → listing {P = P} (checking.checked_lines (policy_at here there policy) here)
+    (needed why (findings r.phase))
+    ≡ listing (checking.checked_lines policy there) (needed why (findings r.phase))
+markers_moved why here there policy r =
+    ap (λ (may : May). listing (λ (f : Checked).
+    book_lines f.planned.snapshot.deck.rules f.planned.snapshot.shelf
+    (seen_with f.planned.snapshot.shelf may) f.book) (needed why (findings r.phase)))
     (may_moved here there policy)
 
-pub status_moved : (here there : ℕ) (policy : Policy) (r : Run)
-    → checking.status (policy_at here there policy) r here ≡ checking.status policy r there
-unfolding checking.status
-status_moved here there policy r =
-    ap (λ (t : Result (Unit {0}) Ending). t >>= λ inside.
-    Ok (stored (checking.phase_line r.number r.phase) ∷ [])) (test_moved here there policy)
-
-abbrev markers_by : Run → Result (Unit {0}) Ending → May → Result (List Listed) Ending
-markers_by r inside may =
-    inside >>= λ entered. needed code.NotFinished (findings r.phase) >>= λ f.
-    Ok (book_lines f.planned.snapshot.deck.rules f.planned.snapshot.shelf
-    (seen_with f.planned.snapshot.shelf may) f.book)
-
-pub markers_moved : (here there : ℕ) (policy : Policy) (r : Run)
-    → checking.markers (policy_at here there policy) r here ≡ checking.markers policy r there
-unfolding checking.markers
-markers_moved here there policy r =
-    ap (λ (t : Result (Unit {0}) Ending).
-    markers_by r t (permits (policy_at here there policy) here)) (test_moved here there policy)
-    ∙ ap (λ (may : May). markers_by r (session_test policy there) may)
-    (may_moved here there policy)
-
-abbrev full_by : Checked → MarkerName → May → Result Named Ending
+abbrev full_by : Checked → MarkerName → May → Result Named SignOffEnding
 full_by f name may = signing.if_shown (seen_with f.planned.snapshot.shelf may)
     (named_in f.planned.snapshot.deck.rules f.book name)
 
 abbrev user_at : Name → Named → ByUser
 user_at user n = record { place = n.place; user = user }
 
-abbrev waive_by : Run → List (Option Waiver) → MarkerName → Result (Unit {0}) Ending → May → Name
-    → Result ByUser Ending
-waive_by r waivers name allowed may user =
-    allowed >>= λ entered. needed code.NotFinished (findings r.phase) >>= λ f.
-    full_by f name may >>= λ n.
+abbrev waive_by : Run → List (Option Waiver) → MarkerName → May → Name
+    → Result ByUser SignOffEnding
+waive_by r waivers name may user =
+    signing.finished r >>= λ f. full_by f name may >>= λ n.
     signing.passes (ask_test (waiver_at waivers n.place)) >>= λ free. Ok (user_at user n)
 
 pub waive_moved : (here there : ℕ) (policy : Policy) (r : Run) (waivers : List (Option Waiver))
@@ -297,22 +259,12 @@ pub waive_moved : (here there : ℕ) (policy : Policy) (r : Run) (waivers : List
     ≡ signing.waive_row policy r waivers there name
 unfolding signing.waive_row signing.full_marker
 waive_moved here there policy r waivers name =
-    ap (λ (t : Result (Unit {0}) Ending). waive_by r waivers name t
-    (permits (policy_at here there policy) here)
-    (rows.user_of (policy_at here there policy) here))
-    (permitted_moved here there policy operations.Waive objects.Desk)
-    ∙ ap (λ (may : May). waive_by r waivers name
-    (permitted policy there operations.Waive objects.Desk) may
-    (rows.user_of (policy_at here there policy) here)) (may_moved here there policy)
-    ∙ ap (λ (user : Name). waive_by r waivers name
-    (permitted policy there operations.Waive objects.Desk) (permits policy there) user)
-    (user_moved here there policy)
+    λ i. waive_by r waivers name (may_moved here there policy i) (user_moved here there policy i)
 
-abbrev sign_by : Run → List (Option Waiver) → MarkerName → Result (Unit {0}) Ending → May → Name
-    → Result ByUser Ending
-sign_by r waivers name allowed may user =
-    allowed >>= λ entered. needed code.NotFinished (findings r.phase) >>= λ f.
-    full_by f name may >>= λ n.
+abbrev sign_by : Run → List (Option Waiver) → MarkerName → May → Name
+    → Result ByUser SignOffEnding
+sign_by r waivers name may user =
+    signing.finished r >>= λ f. full_by f name may >>= λ n.
     signing.apart f waivers n user >>= λ free. Ok (user_at user n)
 
 pub sign_moved : (here there : ℕ) (policy : Policy) (r : Run) (waivers : List (Option Waiver))
@@ -321,31 +273,14 @@ pub sign_moved : (here there : ℕ) (policy : Policy) (r : Run) (waivers : List 
     ≡ signing.sign_row policy r waivers there name
 unfolding signing.sign_row signing.full_marker
 sign_moved here there policy r waivers name =
-    ap (λ (t : Result (Unit {0}) Ending). sign_by r waivers name t
-    (permits (policy_at here there policy) here)
-    (rows.user_of (policy_at here there policy) here))
-    (permitted_moved here there policy operations.Sign objects.Desk)
-    ∙ ap (λ (may : May). sign_by r waivers name
-    (permitted policy there operations.Sign objects.Desk) may
-    (rows.user_of (policy_at here there policy) here)) (may_moved here there policy)
-    ∙ ap (λ (user : Name). sign_by r waivers name
-    (permitted policy there operations.Sign objects.Desk) (permits policy there) user)
-    (user_moved here there policy)
+    λ i. sign_by r waivers name (may_moved here there policy i) (user_moved here there policy i)
 
-abbrev waivers_by : Run → List (Option Waiver) → Result (Unit {0}) Ending → May
-    → Result (List Listed) Ending
-waivers_by r waivers inside may =
-    inside >>= λ entered. needed code.NotFinished (findings r.phase) >>= λ f.
-    Ok (map stored (lines_from f.planned.snapshot.deck.rules
-    (seen_with f.planned.snapshot.shelf may) waivers 0 f.book))
-
-pub waivers_moved : (here there : ℕ) (policy : Policy) (r : Run) (waivers : List (Option Waiver))
-    → signing.waivers_row (policy_at here there policy) r waivers here
-    ≡ signing.waivers_row policy r waivers there
-unfolding signing.waivers_row
+pub waivers_moved : {P : Type 0} (here there : ℕ) (policy : Policy) (r : Run)
+    (waivers : List (Option Waiver))
+    → listing {P = P} (λ f. map stored
+    (signing.waiver_lines (policy_at here there policy) here f waivers)) (signing.finished r)
+    ≡ listing (λ f. map stored (signing.waiver_lines policy there f waivers)) (signing.finished r)
 waivers_moved here there policy r waivers =
-    ap (λ (t : Result (Unit {0}) Ending).
-    waivers_by r waivers t (permits (policy_at here there policy) here))
-    (test_moved here there policy)
-    ∙ ap (λ (may : May). waivers_by r waivers (session_test policy there) may)
-    (may_moved here there policy)
+    ap (λ (may : May). listing (λ (f : Checked). map stored
+    (lines_from f.planned.snapshot.deck.rules (seen_with f.planned.snapshot.shelf may) waivers 0
+    f.book)) (signing.finished r)) (may_moved here there policy)

@@ -2,13 +2,12 @@
 -- them, it changes this one in the same way.
 use Rattle.std.proofs.Common.{◌≡◌, ℕ, ◌+◌, true, false, List, [], ◌∷◌, Option, Result, Ok, Err, refl, sym, ap, subst}
 use Rattle.mpw_rbac.specs.Rows as rows
-use Rattle.mpw_permissions.specs.declared.permission.Object.TheVariants as object
-use Rattle.mpw_permissions.specs.declared.permission.Operation.TheVariants as operation
-use Rattle.mpw_access.specs.Permitted.{permitted}
+use Rattle.mpw_access.specs.Guard.{entered}
 use Rattle.mpw_layouts.specs.Layouts as layouts
 use Rattle.mpw_wafer.specs.Wafers as wafers
 use Rattle.mpw_wafer.specs.Run.Checking as checking
 use Rattle.mpw_signoff.specs.SigningOff as signing
+use Rattle.mpw_signoff.specs.declared.ending.SignOffEnding.TheVariants.{Refused}
 use Rattle.mpw_waiver.specs.Signing.{ask_test}
 use Rattle.mpw_waiver.specs.Waivers.{waiver_at}
 use Rattle.mpw_run.specs.declared.phase.Checked.{Checked}
@@ -18,12 +17,14 @@ use Rattle.mpw_run.specs.Step as run
 use Rattle.mpw_replies.specs.Listing.{Listed}
 use Rattle.mpw_replies.specs.Rows.{◌>>=◌, changing, listing, needed}
 use Rattle.mpw_replies.specs.declared.entry.Entry.{Entry as Noted}
+use Rattle.mpw_replies.specs.declared.reply.Code.{Code}
 use Rattle.mpw_replies.specs.declared.reply.Code.TheVariants as code
 use Rattle.mpw_replies.specs.declared.reply.Line.{Line}
 use Rattle.mpw_replies.specs.declared.reply.Line.TheVariants as line
 use Rattle.mpw_replies.specs.declared.row.Done.{Done}
 use Rattle.mpw_replies.specs.declared.row.Done.TheVariants.{Lists, Changes}
 use Rattle.mpw_replies.specs.declared.row.Ending.{Ending}
+use Rattle.mpw_replies.specs.declared.row.Ending.TheVariants as ending
 use Rattle.mpw_requests.specs.declared.request.Request.{Request}
 use Rattle.mpw_requests.specs.declared.request.Request.TheVariants as ask
 use Rattle.mpw_requests.specs.declared.run.RunRequest.{RunRequest}
@@ -31,7 +32,8 @@ use Rattle.mpw_requests.specs.declared.run.RunRequest.TheVariants as running
 use Rattle.mpw_requests.specs.declared.sign_off.MarkerName.{MarkerName}
 use Rattle.mpw_requests.specs.declared.sign_off.SignOffRequest.{SignOffRequest}
 use Rattle.mpw_requests.specs.declared.sign_off.SignOffRequest.TheVariants as sign_off
-use Rattle.mpw_events.specs.Step.{State, Outcome, acceptance, ending_of, outcome_by, outcome_of, over_policy, over_shelf, over_wafer, over_run, over_waivers, policy_row}
+use Rattle.mpw_requests.specs.Needs.{need_of}
+use Rattle.mpw_events.specs.Step.{State, Outcome, acceptance, ending_of, guarded, outcome_by, outcome_of, row_outcome, over_policy, over_shelf, over_wafer, over_run, over_waivers, policy_row}
 use Rattle.mpw_reopening_laws.specs.Leading.{stored_state}
 
 -- the same response, with the state that rows lead to
@@ -70,25 +72,15 @@ found_same (Cutting planned) = refl
 found_same (Checking c) = refl
 found_same (Finished f) = refl
 
-run_row_same : (s : State) (connection : ℕ)
-    → checking.run_row s.policy s.shelf s.wafer (run.restarted s.run) connection
-    ≡ checking.run_row s.policy s.shelf s.wafer s.run connection
+run_row_same : (s : State)
+    → checking.run_row s.shelf s.wafer (run.restarted s.run)
+    ≡ checking.run_row s.shelf s.wafer s.run
 unfolding checking.run_row
-run_row_same s connection =
-    ap (λ (free : Result (Unit {0}) Ending).
-    permitted s.policy connection operation.Run object.Desk >>= λ allowed.
+run_row_same s =
+    ap (λ (free : Result (Unit {0}) Code).
     free >>= λ x. needed code.NoDeck s.wafer.deck >>= λ deck.
     checking.planning (checking.snapshot_of deck s.wafer.placings s.shelf))
     (rest_same s.run.phase)
-
-cancel_row_same : (s : State) (connection : ℕ)
-    → checking.cancel_row s.policy (run.restarted s.run) connection
-    ≡ checking.cancel_row s.policy s.run connection
-unfolding checking.cancel_row
-cancel_row_same s connection =
-    ap (λ (on : Result (Unit {0}) Ending).
-    permitted s.policy connection operation.Run object.Desk >>= λ allowed. on)
-    (on_same s.run.phase)
 
 waive_row_same : (s : State) (connection : ℕ) (name : MarkerName)
     → signing.waive_row s.policy (run.restarted s.run) s.waivers connection name
@@ -96,8 +88,7 @@ waive_row_same : (s : State) (connection : ℕ) (name : MarkerName)
 unfolding signing.waive_row
 waive_row_same s connection name =
     ap (λ (found : Option Checked).
-    permitted s.policy connection operation.Waive object.Desk >>= λ allowed.
-    needed code.NotFinished found >>= λ f.
+    needed (Refused code.NotFinished) found >>= λ f.
     signing.full_marker s.policy connection f name >>= λ n.
     signing.passes (ask_test (waiver_at s.waivers n.place)) >>= λ free.
     Ok (signing.by_user s.policy connection n))
@@ -109,8 +100,7 @@ sign_row_same : (s : State) (connection : ℕ) (name : MarkerName)
 unfolding signing.sign_row
 sign_row_same s connection name =
     ap (λ (found : Option Checked).
-    permitted s.policy connection operation.Sign object.Desk >>= λ allowed.
-    needed code.NotFinished found >>= λ f.
+    needed (Refused code.NotFinished) found >>= λ f.
     signing.full_marker s.policy connection f name >>= λ n.
     signing.apart f s.waivers n (rows.user_of s.policy connection) >>= λ free.
     Ok (signing.by_user s.policy connection n))
@@ -153,56 +143,63 @@ over_run_same s trail (checking.begun planned) = refl
 over_run_same s trail checking.left_off = refl
 
 run_same : (s : State) (trail : List Noted) (connection : ℕ) (request : RunRequest)
-    → Same s trail (outcome_of s connection (ask.Run request))
-    (outcome_of (stored_state s trail) connection (ask.Run request))
+    → Same s trail (row_outcome s connection (ask.Run request))
+    (row_outcome (stored_state s trail) connection (ask.Run request))
 run_same s trail connection running.Run =
-    changing_same s trail (λ e. e) (over_run s) (over_run (stored_state s trail)) _
+    changing_same s trail ending.Refused (over_run s) (over_run (stored_state s trail)) _
     (λ planned. line.Run (s.run.number + 1) ∷ [])
-    (checking.run_row s.policy s.shelf s.wafer s.run connection) _ (run_row_same s connection)
-    (over_run_same s trail)
+    (checking.run_row s.shelf s.wafer s.run) _ (run_row_same s) (over_run_same s trail)
 run_same s trail connection running.Cancel =
-    changing_same s trail (λ e. e) (over_run s) (over_run (stored_state s trail)) _ (λ x. [])
-    (checking.cancel_row s.policy s.run connection) _ (cancel_row_same s connection)
-    (over_run_same s trail)
-run_same s trail connection running.Status =
-    listing_same s trail (λ e. e) (over_run s) _ (checking.status s.policy s.run connection) _
+    changing_same s trail ending.Refused (over_run s) (over_run (stored_state s trail)) _ (λ x. [])
+    (checking.going_on s.run.phase) _ (on_same s.run.phase) (over_run_same s trail)
+run_same s trail connection running.Status = Same.stays refl refl
 run_same s trail connection running.Markers =
-    listing_same s trail (λ e. e) (over_run s) _ (checking.markers s.policy s.run connection) _
+    listing_same s trail ending.Refused (over_run s) _
+    (needed code.NotFinished (run.findings s.run.phase)) _
 
 sign_off_same : (s : State) (trail : List Noted) (connection : ℕ) (request : SignOffRequest)
-    → Same s trail (outcome_of s connection (ask.SignOff request))
-    (outcome_of (stored_state s trail) connection (ask.SignOff request))
+    → Same s trail (row_outcome s connection (ask.SignOff request))
+    (row_outcome (stored_state s trail) connection (ask.SignOff request))
 sign_off_same s trail connection (sign_off.Waive marker) =
-    changing_same s trail (λ e. e) (over_waivers s) (over_waivers (stored_state s trail)) _
+    changing_same s trail signing.ending_of (over_waivers s) (over_waivers (stored_state s trail)) _
     (λ by. []) (signing.waive_row s.policy s.run s.waivers connection marker) _
     (waive_row_same s connection marker) (λ change. refl)
 sign_off_same s trail connection (sign_off.Sign marker) =
-    changing_same s trail (λ e. e) (over_waivers s) (over_waivers (stored_state s trail)) _
+    changing_same s trail signing.ending_of (over_waivers s) (over_waivers (stored_state s trail)) _
     (λ by. []) (signing.sign_row s.policy s.run s.waivers connection marker) _
     (sign_row_same s connection marker) (λ change. refl)
 sign_off_same s trail connection sign_off.Waivers =
-    listing_same s trail (λ e. e) (over_waivers s) _
-    (signing.waivers_row s.policy s.run s.waivers connection) _
+    listing_same s trail signing.ending_of (over_waivers s) _ (signing.finished s.run) _
 sign_off_same s trail connection sign_off.Verdict =
-    listing_same s trail (λ e. e) (over_waivers s) _
-    (signing.verdict_row s.policy s.wafer s.run s.waivers connection) _
+    listing_same s trail signing.ending_of (over_waivers s) _ (signing.finished s.run) _
 
+outcome_same : (s : State) (trail : List Noted) (connection : ℕ) (request : Request)
+    → Same s trail (row_outcome s connection request)
+    (row_outcome (stored_state s trail) connection request)
+outcome_same s trail connection (ask.Policy request) =
+    row_same s trail ending_of (over_policy s) (over_policy (stored_state s trail))
+    (policy_row s.policy connection request) (λ part. refl)
+outcome_same s trail connection ask.Whoami =
+    listing_same s trail ending_of (over_policy s) _ (rows.whoami s.policy connection) _
+outcome_same s trail connection (ask.Layout request) =
+    row_same s trail layouts.ending_of (over_shelf s) (over_shelf (stored_state s trail))
+    (layouts.row_of s.policy s.shelf connection request) (λ part. refl)
+outcome_same s trail connection (ask.Wafer request) =
+    row_same s trail ending.Refused (over_wafer s) (over_wafer (stored_state s trail))
+    (wafers.row_of s.shelf s.wafer request) (λ part. refl)
+outcome_same s trail connection (ask.Run request) = run_same s trail connection request
+outcome_same s trail connection (ask.SignOff request) = sign_off_same s trail connection request
+outcome_same s trail connection ask.Trail = Same.stays refl refl
+
+-- the guard looks at the policy alone, which both states have
 pub request_same : (s : State) (trail : List Noted) (connection : ℕ) (request : Request)
     → Same s trail (outcome_of s connection request)
     (outcome_of (stored_state s trail) connection request)
-request_same s trail connection (ask.Policy request) =
-    row_same s trail ending_of (over_policy s) (over_policy (stored_state s trail))
-    (policy_row s.policy connection request) (λ part. refl)
-request_same s trail connection ask.Whoami =
-    listing_same s trail ending_of (over_policy s) _ (rows.whoami s.policy connection) _
-request_same s trail connection (ask.Layout request) =
-    row_same s trail (λ e. e) (over_shelf s) (over_shelf (stored_state s trail))
-    (layouts.row_of s.policy s.shelf connection request) (λ part. refl)
-request_same s trail connection (ask.Wafer request) =
-    row_same s trail (λ e. e) (over_wafer s) (over_wafer (stored_state s trail))
-    (wafers.row_of s.policy s.shelf s.wafer connection request) (λ part. refl)
-request_same s trail connection (ask.Run request) = run_same s trail connection request
-request_same s trail connection (ask.SignOff request) = sign_off_same s trail connection request
-request_same s trail connection ask.Trail =
-    listing_same s trail (λ e. e) (over_policy s) _
-    (permitted s.policy connection operation.Audit object.Desk) _
+request_same s trail connection request = go (entered s.policy connection (need_of request))
+  where
+    go : (met : Result (Unit {0}) Ending)
+        → Same s trail (guarded s met (row_outcome s connection request))
+        (guarded (stored_state s trail) met
+        (row_outcome (stored_state s trail) connection request))
+    go (Ok passed) = outcome_same s trail connection request
+    go (Err why) = Same.stays refl refl

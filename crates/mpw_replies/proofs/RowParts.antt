@@ -3,7 +3,6 @@ use Rattle.std.proofs.Common.{◌≡◌, List, Result, Ok, Err, refl}
 use Rattle.mpw_replies.specs.Listing.{Listed}
 use Rattle.mpw_replies.specs.Rows.{◌>>=◌, changing, listing}
 use Rattle.mpw_replies.specs.declared.reply.Line.{Line}
-use Rattle.mpw_replies.specs.declared.row.Done.{Done}
 use Rattle.mpw_replies.specs.declared.row.Done.TheVariants.{Lists, Changes}
 
 -- a table that gives a value passes both parts

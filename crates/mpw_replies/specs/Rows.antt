@@ -4,7 +4,6 @@ use Rattle.mpw_permissions.specs.declared.permission.Operation.{Operation}
 use Rattle.mpw_permissions.specs.declared.permission.Object.{Object}
 use Rattle.mpw_replies.specs.Listing.{Listed, stored}
 use Rattle.mpw_replies.specs.declared.reply.Line.{Line}
-use Rattle.mpw_replies.specs.declared.reply.Code.{Code}
 use Rattle.mpw_replies.specs.declared.reply.Denial.TheVariants as denial
 use Rattle.mpw_replies.specs.declared.reply.Reply.{Reply}
 use Rattle.mpw_replies.specs.declared.reply.Reply.TheVariants as reply
@@ -39,25 +38,25 @@ ended_by (ending.Refused why) = reply.Refused why
 abbrev pub denied : Operation → Object → Ending
 denied operation object = ending.Denied (denial.Permission operation object)
 
--- A value that must be there: if it isn't, the table ends with that refusal.
-abbrev pub needed : {A : Type 0} → Code → Option A → Result A Ending
-needed code None = Err (ending.Refused code)
-needed code (Some x) = Ok x
+-- A value that must be there: if it isn't, that ends the table.
+abbrev pub needed : {A E : Type 0} → E → Option A → Result A E
+needed e None = Err e
+needed e (Some x) = Ok x
 
 -- The answer of a function of a decision table: its value, as contracts see it, or the test that
 -- failed, or out of memory.
-abbrev pub Told : {B : Type 0} → Fault → Result B Ending → Type 0
+abbrev pub Told : {B E : Type 0} → Fault E → Result B E → Type 0
 Told fault.Memory row = Unit {0}
-Told (fault.Told ending) row = row ≡ Err ending
+Told (fault.Told e) row = row ≡ Err e
 
-abbrev pub Answers : {A B : Type 0} → (A → B) → Result A Fault → Result B Ending → Type 0
+abbrev pub Answers : {A B E : Type 0} → (A → B) → Result A (Fault E) → Result B E → Type 0
 Answers view (Ok x) row = row ≡ Ok (view x)
 Answers view (Err e) row = Told e row
 
 -- The answer of a function of a whole decision table, where the part that the code made stands for the
 -- table's.
-abbrev pub AnswersBy : {P Q : Type 0} → (P → Q → Type 0) → Result (Done P) Fault
-    → Result (Done Q) Ending → Type 0
+abbrev pub AnswersBy : {P Q E : Type 0} → (P → Q → Type 0) → Result (Done P) (Fault E)
+    → Result (Done Q) E → Type 0
 AnswersBy stands (Ok (Lists lines)) row = row ≡ Ok (Lists lines)
 AnswersBy {Q = Q} stands (Ok (Changes part lines)) row =
     (q : Q) × (stands part q × (row ≡ Ok (Changes q lines)))

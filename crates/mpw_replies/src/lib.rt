@@ -25,5 +25,5 @@ pub use markers::{MarkerLines, MarkerListing, MarkerView, MarkerViews};
 pub use masked::{MaskedView, MaskedViews};
 pub use met::MetCells;
 pub use reply::{Code, Denial, Line, Reply};
-pub use row::{Done, Ending, Fault, need};
+pub use row::{Done, Ending, Ends, Fault, need};
 pub use trail::{Trail, TrailBlock, TrailListing};

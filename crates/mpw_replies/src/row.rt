@@ -1,6 +1,7 @@
 //! The result of a request's decision table: what it lists or changes, or the denial or refusal of the first test that fails.
 ghost use Rattle.std.specs.Prelude.{◌≡◌, IfErr, option_map};
 ghost use Rattle.mpw_replies.specs.Rows.{Answers, ended_by, needed};
+ghost use Rattle.mpw_replies.specs.declared.row.Ending.{Ending as AnyEnding};
 ghost use Rattle.mpw_replies.specs.declared.row.Fault.TheVariants.{Memory};
 
 use crate::{Code, Denial, Lines, Reply};
@@ -36,28 +37,46 @@ impl Ending {
     }
 }
 
-/// Why a decision table gives no value.
+/// What may end the decision tables of a group of requests.
+pub trait Ends {
+    ghost ending: { Self → AnyEnding };
+
+    /// As a denial or a refusal. It takes no memory.
+    fn ending(self) -> Ending
+        ensures { result ≡ ending self };
+}
+
+impl Ends for Code {
+    ghost use Rattle.mpw_replies.specs.declared.row.Ending.TheVariants.{Refused};
+
+    ghost ending = { λ code. Refused code };
+
+    fn ending(self) -> Ending {
+        Ending::Refused(self)
+    }
+}
+
+impl Ends for Ending {
+    ghost ending = { λ e. e };
+
+    fn ending(self) -> Ending {
+        self
+    }
+}
+
+/// Why a decision table gives no value. `E` is what may end the table.
 #[derive(Drop)]
-pub enum Fault {
+pub enum Fault<E> {
     /// A test failed.
-    Told(Ending),
+    Told(E),
     /// Memory ran out. There is no reply.
     Memory,
 }
 
-impl Fault {
-    /// The fault of a refusal.
-    pub fn from_code(code: Code) -> Fault
-        ensures { result ≡ Fault.Told (Ending.Refused code) }
-    {
-        Fault::Told(Ending::Refused(code))
-    }
-}
-
-impl From<AllocError> for Fault {
+impl<E> From<AllocError> for Fault<E> {
     ghost from_gives = { λ _ fault. fault ≡ Memory };
 
-    fn from(_error: AllocError) -> Fault {
+    fn from(_error: AllocError) -> Fault<E> {
         Fault::Memory
     }
 }
@@ -65,13 +84,13 @@ impl From<AllocError> for Fault {
 /// The value, which must be there.
 ///
 /// # Errors
-/// That refusal if there is no value.
-pub fn need<T>(value: Option<&T>, code: Code) -> Result<&T, Fault>
-    ensures row { Answers (λ x. x.now) result (needed code (option_map (λ x. x.now) value.entry)) }
-    ensures told { IfErr result (λ fault. fault ≡ Fault.Told (Ending.Refused code)) }
+/// That ending if there is no value.
+pub fn need<T, E: Drop>(value: Option<&T>, ending: E) -> Result<&T, Fault<E>>
+    ensures row { Answers (λ x. x.now) result (needed ending (option_map (λ x. x.now) value.entry)) }
+    ensures told { IfErr result (λ fault. fault ≡ Fault.Told ending) }
 {
     match value {
         Some(value) => Ok(value),
-        None => Err(Fault::from_code(code)),
+        None => Err(Fault::Told(ending)),
     }
 }

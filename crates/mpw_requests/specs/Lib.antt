@@ -1,4 +1,5 @@
 pub mod Digest
+pub mod Needs
 pub mod Parts
 pub mod Table
 pub mod Words

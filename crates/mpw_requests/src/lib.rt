@@ -4,6 +4,7 @@
 
 mod digest;
 mod layouts;
+mod need;
 mod parts;
 mod policy;
 mod request;
@@ -15,6 +16,7 @@ mod words;
 
 pub use digest::{digest_of, read_digest};
 pub use layouts::LayoutRequest;
+pub use need::{Need, need_of};
 pub use parts::{
     Operands, Parts, Upload, parts_of, payload_of, request_of, requests_have_their_parts, upload_of,
 };

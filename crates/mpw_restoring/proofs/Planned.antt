@@ -12,12 +12,9 @@ use Rattle.mpw_run.specs.declared.phase.Phase.TheVariants.{Idle, Cutting, Checki
 use Rattle.mpw_run.specs.Run.{Planned, Tile, Checks, answered}
 use Rattle.mpw_run.specs.Same.{same_snapshot, same_tile_job}
 use Rattle.mpw_run.specs.Step.{Run, Offer, Outcome as RunOutcome, answered_by, next_from, handed, taken_in, cut_in, kept, job_of_tile, tile_compared, tile_checked, tile_in, restarted_phase}
-use Rattle.mpw_permissions.specs.declared.permission.Object.TheVariants as object
-use Rattle.mpw_permissions.specs.declared.permission.Operation.TheVariants as operation
-use Rattle.mpw_access.specs.Permitted.{permitted}
 use Rattle.mpw_replies.specs.Rows.{◌>>=◌, needed}
+use Rattle.mpw_replies.specs.declared.reply.Code.{Code}
 use Rattle.mpw_replies.specs.declared.reply.Code.TheVariants as code
-use Rattle.mpw_replies.specs.declared.row.Ending.{Ending}
 use Rattle.mpw_wafer.specs.Run.Checking as checking
 use Rattle.mpw_requests.specs.declared.request.Request.{Request}
 use Rattle.mpw_events.specs.declared.event.Call.{Call}
@@ -96,7 +93,7 @@ restart_keeps (Finished f) p = tt
 
 -- ---- a run that begins
 
-ok_is : (x y : Planned) → ◌≡◌ {A = Result Planned Ending} (Ok x) (Ok y) → x ≡ y
+ok_is : (x y : Planned) → ◌≡◌ {A = Result Planned Code} (Ok x) (Ok y) → x ≡ y
 ok_is x y e = cc
 
 covered_plan : (s : Snapshot) (p : Planned) (o : Option Tiling) → plan_for s ≡ o
@@ -110,22 +107,18 @@ planned_plan : (s : Snapshot) (p : Planned) (items : List Item)
 planned_plan s p [] e = absurd cc
 planned_plan s p (item ∷ items) e = covered_plan s p (plan_for s) refl e
 
-row_plan : (p : Planned) (a b : Result (Unit {0}) Ending) (c : Result Deck Ending) (s : Deck
-    → Snapshot)
-    → (a >>= λ x. b >>= λ y. c >>= λ deck. checking.planning (s deck)) ≡ Ok p
+row_plan : (p : Planned) (b : Result (Unit {0}) Code) (c : Result Deck Code) (s : Deck → Snapshot)
+    → (b >>= λ y. c >>= λ deck. checking.planning (s deck)) ≡ Ok p
     → plan_for p.snapshot ≡ Some p.plan
-row_plan p (Err w) b c s e = absurd cc
-row_plan p (Ok x) (Err w) c s e = absurd cc
-row_plan p (Ok x) (Ok y) (Err w) s e = absurd cc
-row_plan p (Ok x) (Ok y) (Ok deck) s e = planned_plan (s deck) p (shown (s deck)) e
+row_plan p (Err w) c s e = absurd cc
+row_plan p (Ok y) (Err w) s e = absurd cc
+row_plan p (Ok y) (Ok deck) s e = planned_plan (s deck) p (shown (s deck)) e
 
-begun_plan : (s : State) (connection : ℕ) (p : Planned)
-    → checking.run_row s.policy s.shelf s.wafer s.run connection ≡ Ok p
+begun_plan : (s : State) (p : Planned) → checking.run_row s.shelf s.wafer s.run ≡ Ok p
     → plan_for p.snapshot ≡ Some p.plan
 unfolding checking.run_row
-begun_plan s connection p e =
-    row_plan p (permitted s.policy connection operation.Run object.Desk)
-    (checking.at_rest s.run.phase) (needed code.NoDeck s.wafer.deck)
+begun_plan s p e =
+    row_plan p (checking.at_rest s.run.phase) (needed code.NoDeck s.wafer.deck)
     (λ deck. checking.snapshot_of deck s.wafer.placings s.shelf) e
 
 -- ---- every event
@@ -140,7 +133,7 @@ request_plan s connection request h = request_keeps Has s connection request (re
   policy = λ request p is. h;
   shelf = λ submissions. h;
   wafer = λ w. h;
-  begun = begun_plan s connection;
+  begun = begun_plan s;
   left = tt;
   waivers = λ change. h;
 })

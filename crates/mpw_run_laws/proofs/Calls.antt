@@ -4,8 +4,6 @@ use Rattle.std.specs.Prelude.{if◌then◌else◌}
 use Rattle.std.proofs.lemmas.Bool.{true≢false}
 use Rattle.mpw_deck.specs.Decks.{Deck}
 use Rattle.mpw_hier.specs.Items.{Item}
-use Rattle.mpw_permissions.specs.declared.permission.Operation.TheVariants as operation
-use Rattle.mpw_permissions.specs.declared.permission.Object.TheVariants as object
 use Rattle.mpw_tiles.specs.Plan.{Tiling}
 use Rattle.mpw_tiles.specs.Snapshots.{Snapshot, plan_for, shown}
 use Rattle.mpw_job.specs.Jobs.{CutWindows, FoundMarkers}
@@ -15,20 +13,22 @@ use Rattle.mpw_run.specs.Step as machine
 use Rattle.mpw_requests.specs.declared.request.Request.{Request}
 use Rattle.mpw_requests.specs.declared.request.Request.TheVariants as ask
 use Rattle.mpw_requests.specs.declared.run.RunRequest.TheVariants as run
-use Rattle.mpw_replies.specs.Listing.{Listed}
-use Rattle.mpw_replies.specs.Rows.{◌>>=◌, changing, ended_by, listing, needed}
+use Rattle.mpw_requests.specs.Needs.{need_of}
+use Rattle.mpw_replies.specs.Rows.{◌>>=◌, changing, ended_by, needed}
+use Rattle.mpw_replies.proofs.RowParts.{listing_changes_nothing}
+use Rattle.mpw_replies.specs.declared.reply.Code.{Code}
 use Rattle.mpw_replies.specs.declared.reply.Code.TheVariants as code
 use Rattle.mpw_replies.specs.declared.reply.Line.TheVariants as line
 use Rattle.mpw_replies.specs.declared.row.Ending.{Ending}
 use Rattle.mpw_replies.specs.declared.row.Ending.TheVariants as ending
-use Rattle.mpw_access.specs.Permitted.{permitted}
+use Rattle.mpw_access.specs.Guard.{entered}
 use Rattle.mpw_wafer.specs.Run.Checking as checking
 use Rattle.mpw_events.specs.declared.event.Call.{Call}
 use Rattle.mpw_events.specs.declared.event.Event.{Event}
 use Rattle.mpw_events.specs.declared.event.Event.TheVariants as event
 use Rattle.mpw_events.specs.declared.event.Response.{Response}
 use Rattle.mpw_events.specs.declared.event.Response.TheVariants as response
-use Rattle.mpw_events.specs.Step.{State, Outcome, after, no_change, outcome_by, over_run, of_run, outcome_of, event_outcome, not_kept_response, response_of, settlement, step}
+use Rattle.mpw_events.specs.Step.{State, Outcome, after, guarded, no_change, outcome_by, over_run, of_run, outcome_of, row_outcome, event_outcome, not_kept_response, response_of, settlement, step}
 use Rattle.mpw_core.proofs.OutcomeLemmas.{holds-row}
 use Rattle.mpw_run_laws.specs.Calls.{asks_run, asks_cancel, is_restart, is_accepted, begins, leaves, GoesOn, is_kept, KeepsTile}
 use Rattle.mpw_run_laws.specs.Finishing.{StandsIn}
@@ -90,7 +90,7 @@ told_of e = ap (λ (o : Outcome). o.response) e
 
 -- ---- the decision table of a run
 
-ok_is : (x y : Planned) → ◌≡◌ {A = Result Planned Ending} (Ok x) (Ok y) → x ≡ y
+ok_is : (x y : Planned) → ◌≡◌ {A = Result Planned Code} (Ok x) (Ok y) → x ≡ y
 ok_is x y e = cc
 
 record IsOver (s : Snapshot) (p : Planned) : Type 0 where
@@ -113,23 +113,20 @@ record LooksAt (deck : Option Deck) (s : Deck → Snapshot) (p : Planned) : Type
   has : deck ≡ Some own
   over : IsOver (s own) p
 
-row_looks : (p : Planned) (a b : Result (Unit {0}) Ending) (deck : Option Deck)
+row_looks : (p : Planned) (rest : Result (Unit {0}) Code) (deck : Option Deck)
     (s : Deck → Snapshot)
-    → (a >>= λ x. b >>= λ y. needed code.NoDeck deck >>= λ d. checking.planning (s d)) ≡ Ok p
+    → (rest >>= λ y. needed code.NoDeck deck >>= λ d. checking.planning (s d)) ≡ Ok p
     → LooksAt deck s p
-row_looks p (Err w) b deck s e = absurd cc
-row_looks p (Ok x) (Err w) deck s e = absurd cc
-row_looks p (Ok x) (Ok y) None s e = absurd cc
-row_looks p (Ok x) (Ok y) (Some d) s e =
+row_looks p (Err w) deck s e = absurd cc
+row_looks p (Ok y) None s e = absurd cc
+row_looks p (Ok y) (Some d) s e =
     record { own = d; has = refl; over = planned_over (s d) p (shown (s d)) e }
 
-run_looks : (s : State) (connection : ℕ) (p : Planned)
-    → checking.run_row s.policy s.shelf s.wafer s.run connection ≡ Ok p
+run_looks : (s : State) (p : Planned) → checking.run_row s.shelf s.wafer s.run ≡ Ok p
     → LooksAt s.wafer.deck (λ d. checking.snapshot_of d s.wafer.placings s.shelf) p
 unfolding checking.run_row
-run_looks s connection p e =
-    row_looks p (permitted s.policy connection operation.Run object.Desk)
-    (checking.at_rest s.run.phase) s.wafer.deck
+run_looks s p e =
+    row_looks p (checking.at_rest s.run.phase) s.wafer.deck
     (λ d. checking.snapshot_of d s.wafer.placings s.shelf) e
 
 stands : (s : State) (p : Planned)
@@ -152,20 +149,15 @@ abbrev RunStays : State → State → Type 0
 RunStays s t = t.run ≡ s.run
 
 -- what a table that begins a run, or leaves it, makes of what its tests give
-abbrev begun_by : State → Result Planned Ending → Outcome
+abbrev begun_by : State → Result Planned Code → Outcome
 begun_by s row =
-    outcome_by (λ e. e) (over_run s) s
+    outcome_by ending.Refused (over_run s) s
     (changing checking.RunChange.begun (λ planned. line.Run (s.run.number + 1) ∷ []) row)
 
-abbrev left_by : State → Result (Unit {0}) Ending → Outcome
+abbrev left_by : State → Result (Unit {0}) Code → Outcome
 left_by s row =
-    outcome_by (λ e. e) (over_run s) s
+    outcome_by ending.Refused (over_run s) s
     (changing (λ x. checking.RunChange.left_off) (λ x. []) row)
-
-listing_stays : (s : State) (row : Result (List Listed) Ending)
-    → RunStays s (outcome_by (λ e. e) (over_run s) s (listing (λ lines. lines) row)).state
-listing_stays s (Ok lines) = refl
-listing_stays s (Err why) = refl
 
 wanted : (s : State) (connection : ℕ) (request : Request)
     → event_outcome s (event.Ask connection request) ≡ outcome_of s connection request
@@ -208,29 +200,32 @@ call_of e r kept = record { event = e; response = r; kept = kept }
 abbrev DoesAs : State → Event → Response → Bool → Type 0
 DoesAs s e r kept = Does s (call_of e r kept) (after s e kept)
 
--- a request that leaves the run unchanged, whatever its reply
+-- a request whose table leaves the run unchanged, whatever its reply
 left_alone : (s : State) (connection : ℕ) (request : Request) (r : Response) (kept : Bool)
     → asks_run (event.Ask connection request) ≡ false
     → asks_cancel (event.Ask connection request) ≡ false
-    → (outcome_of s connection request).state.run ≡ s.run
+    → RunStays s (row_outcome s connection request).state
     → DoesAs s (event.Ask connection request) r kept
 left_alone s connection request r kept runs cancels same =
     Does.stayed (quiet _ runs cancels (no_tile connection request)) refl
-    (by (settled s (event.Ask connection request) kept _ (wanted s connection request)))
+    (by (entered s.policy connection (need_of request))
+    (settled s (event.Ask connection request) kept _ (wanted s connection request)))
   where
-    by : Settled s (event.Ask connection request) kept (outcome_of s connection request)
+    by : (met : Result (Unit {0}) Ending)
+        → Settled s (event.Ask connection request) kept
+        (guarded s met (row_outcome s connection request))
         → (step s (event.Ask connection request) kept).state.run ≡ s.run
-    by (Settled.as_wanted e) = run_of e ∙ same
-    by (Settled.closes e c) = run_of e
+    by (Ok passed) (Settled.as_wanted e) = run_of e ∙ same
+    by (Err why) (Settled.as_wanted e) = run_of e
+    by met (Settled.closes e c) = run_of e
 
 begun_does : (s : State) (connection : ℕ) (r : Response) (kept : Bool)
     → r ≡ response_of s (event.Ask connection (ask.Run run.Run)) kept
-    → (row : Result Planned Ending)
-    → checking.run_row s.policy s.shelf s.wafer s.run connection ≡ row
     → DoesAs s (event.Ask connection (ask.Run run.Run)) r kept
-begun_does s connection r kept told row is =
-    by row is (settled s e kept (begun_by s row)
-    (wanted s connection (ask.Run run.Run) ∙ ap (begun_by s) is))
+begun_does s connection r kept told =
+    by (entered s.policy connection (need_of (ask.Run run.Run)))
+    (checking.run_row s.shelf s.wafer s.run) refl
+    (settled s e kept _ (wanted s connection (ask.Run run.Run)))
   where
     e : Event
     e = event.Ask connection (ask.Run run.Run)
@@ -238,26 +233,26 @@ begun_does s connection r kept told row is =
     none : (answer : FoundMarkers) → e ≡ event.Tile answer → ⊥
     none = no_tile connection (ask.Run run.Run)
 
-    by : (row : Result Planned Ending)
-        → checking.run_row s.policy s.shelf s.wafer s.run connection ≡ row
-        → Settled s e kept (begun_by s row) → DoesAs s e r kept
-    by (Ok p) is (Settled.as_wanted q) =
-        let l = run_looks s connection p is in
-        Does.begun p (ap is_accepted (told ∙ told_of q)) (stands s p l) l.over.plan (run_of q)
-    by (Err why) is (Settled.as_wanted q) =
+    by : (met : Result (Unit {0}) Ending) (row : Result Planned Code)
+        → checking.run_row s.shelf s.wafer s.run ≡ row
+        → Settled s e kept (guarded s met (begun_by s row)) → DoesAs s e r kept
+    by (Err why) row is (Settled.as_wanted q) =
         Does.stayed (refused _ (ap is_accepted (told ∙ told_of q) ∙ not_accepted why) none) refl
         (run_of q)
-    by row is (Settled.closes q c) =
+    by (Ok passed) (Ok p) is (Settled.as_wanted q) =
+        let l = run_looks s p is in
+        Does.begun p (ap is_accepted (told ∙ told_of q)) (stands s p l) l.over.plan (run_of q)
+    by (Ok passed) (Err why) is (Settled.as_wanted q) =
+        Does.stayed (refused _ (ap is_accepted (told ∙ told_of q)) none) refl (run_of q)
+    by met row is (Settled.closes q c) =
         Does.stayed (refused _ (ap is_accepted (told ∙ told_of q)) none) refl (run_of q)
 
 cancelled_does : (s : State) (connection : ℕ) (r : Response) (kept : Bool)
     → r ≡ response_of s (event.Ask connection (ask.Run run.Cancel)) kept
-    → (row : Result (Unit {0}) Ending)
-    → checking.cancel_row s.policy s.run connection ≡ row
     → DoesAs s (event.Ask connection (ask.Run run.Cancel)) r kept
-cancelled_does s connection r kept told row is =
-    by row (settled s e kept (left_by s row)
-    (wanted s connection (ask.Run run.Cancel) ∙ ap (left_by s) is))
+cancelled_does s connection r kept told =
+    by (entered s.policy connection (need_of (ask.Run run.Cancel))) (checking.going_on s.run.phase)
+    (settled s e kept _ (wanted s connection (ask.Run run.Cancel)))
   where
     e : Event
     e = event.Ask connection (ask.Run run.Cancel)
@@ -265,14 +260,16 @@ cancelled_does s connection r kept told row is =
     none : (answer : FoundMarkers) → e ≡ event.Tile answer → ⊥
     none = no_tile connection (ask.Run run.Cancel)
 
-    by : (row : Result (Unit {0}) Ending)
-        → Settled s e kept (left_by s row) → DoesAs s e r kept
-    by (Ok x) (Settled.as_wanted q) =
-        Does.left (ap is_accepted (told ∙ told_of q)) refl (run_of q)
-    by (Err why) (Settled.as_wanted q) =
+    by : (met : Result (Unit {0}) Ending) (row : Result (Unit {0}) Code)
+        → Settled s e kept (guarded s met (left_by s row)) → DoesAs s e r kept
+    by (Err why) row (Settled.as_wanted q) =
         Does.stayed (refused _ (ap is_accepted (told ∙ told_of q) ∙ not_accepted why) none) refl
         (run_of q)
-    by row (Settled.closes q c) =
+    by (Ok passed) (Ok x) (Settled.as_wanted q) =
+        Does.left (ap is_accepted (told ∙ told_of q)) refl (run_of q)
+    by (Ok passed) (Err why) (Settled.as_wanted q) =
+        Does.stayed (refused _ (ap is_accepted (told ∙ told_of q)) none) refl (run_of q)
+    by met row (Settled.closes q c) =
         Does.stayed (refused _ (ap is_accepted (told ∙ told_of q)) none) refl (run_of q)
 
 asked_does : (s : State) (connection : ℕ) (request : Request) (r : Response) (kept : Bool)
@@ -289,22 +286,21 @@ asked_does s connection (ask.Layout request) r kept told =
     (holds-row (RunStays s) _ _ s _ refl (λ shelf lines is. refl))
 asked_does s connection (ask.Wafer request) r kept told =
     left_alone s connection (ask.Wafer request) r kept refl refl
-    (holds-row (RunStays s) _ _ s _ refl (λ wafer lines is. refl))
-asked_does s connection (ask.Run run.Run) r kept told = begun_does s connection r kept told _ refl
-asked_does s connection (ask.Run run.Cancel) r kept told =
-    cancelled_does s connection r kept told _ refl
+    (holds-row (RunStays s) ending.Refused _ s _ refl (λ wafer lines is. refl))
+asked_does s connection (ask.Run run.Run) r kept told = begun_does s connection r kept told
+asked_does s connection (ask.Run run.Cancel) r kept told = cancelled_does s connection r kept told
 asked_does s connection (ask.Run run.Status) r kept told =
-    left_alone s connection (ask.Run run.Status) r kept refl refl
-    (listing_stays s (checking.status s.policy s.run connection))
+    left_alone s connection (ask.Run run.Status) r kept refl refl refl
 asked_does s connection (ask.Run run.Markers) r kept told =
     left_alone s connection (ask.Run run.Markers) r kept refl refl
-    (listing_stays s (checking.markers s.policy s.run connection))
+    (holds-row (RunStays s) ending.Refused (over_run s) s _ refl (λ change lines is.
+    absurd (listing_changes_nothing _ (needed code.NotFinished (machine.findings s.run.phase))
+    change lines is)))
 asked_does s connection (ask.SignOff request) r kept told =
     left_alone s connection (ask.SignOff request) r kept refl refl
     (holds-row (RunStays s) _ _ s _ refl (λ change lines is. refl))
 asked_does s connection ask.Trail r kept told =
-    left_alone s connection ask.Trail r kept refl refl
-    (holds-row (RunStays s) _ _ s _ refl (λ policy lines is. refl))
+    left_alone s connection ask.Trail r kept refl refl refl
 
 -- ---- other events
 

@@ -1,7 +1,10 @@
 -- What a restart leaves unchanged, and what it undoes.
-use Rattle.std.proofs.Common.{◌≡◌, ◌∙◌, ℕ, Bool, true, false, Option, Some, Ok, refl, sym, ap, None}
+use Rattle.std.proofs.Common.{◌≡◌, ◌∙◌, ℕ, Bool, true, false, List, Option, Some, refl, sym, ap, None}
 use Rattle.std.proofs.lemmas.Option.{none-some, same_Some}
+use Rattle.mpw_hier.specs.declared.submission.Submission.{Submission}
+use Rattle.mpw_placings.specs.declared.wafer.Wafer.{Wafer}
 use Rattle.mpw_rbac.specs.Policy.{Policy}
+use Rattle.mpw_requests.specs.declared.run.RunRequest.TheVariants.{Markers}
 use Rattle.mpw_tiles.specs.Plan.{tiles}
 use Rattle.mpw_job.specs.Jobs.{CutWindows, FoundMarkers}
 use Rattle.mpw_job.specs.declared.job.Job.TheVariants as job
@@ -11,12 +14,11 @@ use Rattle.mpw_run.specs.declared.phase.Phase.TheVariants.{Idle, Cutting, Checki
 use Rattle.mpw_run.specs.declared.phase.RunReply.TheVariants as reply
 use Rattle.mpw_run.specs.Run.{Planned, Checks, answered}
 use Rattle.mpw_run.specs.Step as machine
-use Rattle.mpw_run.specs.Step.{findings, new_tiles, restarted_phase}
+use Rattle.mpw_run.specs.Step.{findings, restarted_phase}
 use Rattle.mpw_run.proofs.TileLists.{new_answered}
-use Rattle.mpw_replies.specs.Rows.{◌>>=◌, needed}
+use Rattle.mpw_replies.specs.Rows.{listing, needed}
 use Rattle.mpw_replies.specs.declared.reply.Code.TheVariants as code
-use Rattle.mpw_access.specs.Permitted.{session_test}
-use Rattle.mpw_wafer.specs.Run.Checking.{markers, checked_lines}
+use Rattle.mpw_wafer.specs.Run.Checking.{checked_lines, row_of}
 use Rattle.mpw_events.specs.declared.event.Event.TheVariants as event
 use Rattle.mpw_events.specs.declared.event.Response.TheVariants as response
 use Rattle.mpw_events.specs.Step.{State, after, event_outcome, of_run, response_of, step}
@@ -59,13 +61,12 @@ unchecked (Cutting planned) c e = cc
 unchecked (Checking d) c e = cc
 unchecked (Finished f) c e = cc
 
-lists_by : (policy : Policy) (a b : machine.Run) (connection : ℕ)
-    → findings a.phase ≡ findings b.phase
-    → markers policy a connection ≡ markers policy b connection
-unfolding markers
-lists_by policy a b connection e = ap (λ (o : Option Checked).
-    session_test policy connection >>= λ inside.
-    needed code.NotFinished o >>= λ f. Ok (checked_lines policy connection f)) e
+lists_by : (policy : Policy) (shelf : List Submission) (wafer : Wafer) (a b : machine.Run)
+    (connection : ℕ) → findings a.phase ≡ findings b.phase
+    → row_of policy shelf wafer a connection Markers ≡ row_of policy shelf wafer b connection Markers
+lists_by policy shelf wafer a b connection e =
+    ap (λ (o : Option Checked). listing (checked_lines policy connection)
+    (needed code.NotFinished o)) e
 
 -- ---- events after it
 
@@ -131,7 +132,7 @@ takes_back s kept = record {
   number = ap (λ (r : machine.Run). r.number) run_is;
   looks_at = ap looked_at phase_is ∙ looks_same s.run.phase;
   finds = ap findings phase_is ∙ finds_same s.run.phase;
-  lists = λ policy connection. lists_by policy behind.run s.run connection
+  lists = λ policy shelf wafer connection. lists_by policy shelf wafer behind.run s.run connection
       (ap findings phase_is ∙ finds_same s.run.phase);
   waivers = restart_keeps s kept;
   keeps_none = unkept behind none;

@@ -1,6 +1,9 @@
 -- What a restart leaves unchanged, and what it undoes.
-use Rattle.std.specs.Prelude.{◌≡◌, ℕ, Bool, false, Option, None, Some}
+use Rattle.std.specs.Prelude.{◌≡◌, ℕ, Bool, false, List, Option, None, Some}
+use Rattle.mpw_hier.specs.declared.submission.Submission.{Submission}
+use Rattle.mpw_placings.specs.declared.wafer.Wafer.{Wafer}
 use Rattle.mpw_rbac.specs.Policy.{Policy}
+use Rattle.mpw_requests.specs.declared.run.RunRequest.TheVariants.{Markers}
 use Rattle.mpw_job.specs.Jobs.{CutWindows, FoundMarkers}
 use Rattle.mpw_job.specs.declared.job.CutJob.{CutJob}
 use Rattle.mpw_job.specs.declared.job.Job.TheVariants as job
@@ -9,7 +12,7 @@ use Rattle.mpw_run.specs.declared.phase.Phase.TheVariants.{Idle, Cutting, Checki
 use Rattle.mpw_run.specs.declared.phase.RunReply.TheVariants as reply
 use Rattle.mpw_run.specs.Run.{Planned, Checks, answered}
 use Rattle.mpw_run.specs.Step.{findings, restarted}
-use Rattle.mpw_wafer.specs.Run.Checking.{markers}
+use Rattle.mpw_wafer.specs.Run.Checking.{row_of}
 use Rattle.mpw_events.specs.declared.event.Event.TheVariants as event
 use Rattle.mpw_events.specs.declared.event.Response.TheVariants as response
 use Rattle.mpw_events.specs.Step.{State, response_of, after}
@@ -40,8 +43,9 @@ pub record TakesBack (state behind : State) : Type 0 where
   pub number : behind.run.number ≡ state.run.number
   pub looks_at : looked_at behind.run.phase ≡ looked_at state.run.phase
   pub finds : findings behind.run.phase ≡ findings state.run.phase
-  pub lists : (policy : Policy) (connection : ℕ)
-      → markers policy behind.run connection ≡ markers policy state.run connection
+  pub lists : (policy : Policy) (shelf : List Submission) (wafer : Wafer) (connection : ℕ)
+      → row_of policy shelf wafer behind.run connection Markers
+      ≡ row_of policy shelf wafer state.run connection Markers
   pub waivers : behind.waivers ≡ state.waivers
   pub keeps_none : (answer : FoundMarkers) (kept : Bool)
       → is_kept (response_of behind (event.Tile answer) kept) ≡ false

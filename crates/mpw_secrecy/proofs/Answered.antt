@@ -1,6 +1,6 @@
 -- Two desks with the same view give the same answers to the requests that a view decides, and have the same
 -- view after it.
-use Rattle.std.proofs.Common.{◌≡◌, ◌∙◌, ℕ, Bool, true, false, cond, List, [], ◌∷◌, Result, Ok, Err, refl}
+use Rattle.std.proofs.Common.{◌≡◌, ◌∙◌, ℕ, Bool, true, false, cond, [], ◌∷◌, refl}
 use Rattle.std.specs.Prelude.{◌&&◌, not}
 use Rattle.mpw_hier.specs.Shelved.{PresentAreOfTheirCell}
 use Rattle.mpw_markers.specs.Laws.{PlacesAreOfKeys}
@@ -10,52 +10,57 @@ use Rattle.mpw_requests.specs.declared.run.RunRequest.TheVariants as run
 use Rattle.mpw_requests.specs.declared.sign_off.SignOffRequest.TheVariants as sign
 use Rattle.mpw_layouts.specs.Layouts as layouts
 use Rattle.mpw_signoff.specs.SigningOff as signing
-use Rattle.mpw_wafer.specs.Run.Checking as checking
+use Rattle.mpw_run.specs.Step.{findings}
 use Rattle.mpw_laws.specs.SignOffLaws.{PlacesAreLeft}
 use Rattle.mpw_events.specs.declared.event.Event.TheVariants as event
-use Rattle.mpw_events.specs.Step.{State, Outcome, after, no_change, ending_of, outcome_by, outcome_of, over_policy, over_run, over_shelf, over_waivers, whoami_row, settlement, step, not_kept_response, event_outcome}
-use Rattle.mpw_core.proofs.OutcomeLemmas.{holds-row}
-use Rattle.mpw_replies.specs.Listing.{Listed}
-use Rattle.mpw_replies.specs.Rows.{listing}
-use Rattle.mpw_replies.specs.declared.row.Ending.{Ending}
+use Rattle.mpw_events.specs.Step.{State, Outcome, after, no_change, ending_of, outcome_of, over_policy, over_run, over_shelf, over_waivers, row_outcome, whoami_row, settlement, step, not_kept_response, event_outcome}
+use Rattle.mpw_core.proofs.OutcomeLemmas.{holds-guarded, holds-row}
+use Rattle.mpw_requests.specs.Needs.{need_of}
+use Rattle.mpw_access.specs.Guard.{EnteredHas, Has, entered}
+use Rattle.mpw_replies.specs.Rows.{needed}
+use Rattle.mpw_replies.specs.declared.reply.Code.TheVariants as code
+use Rattle.mpw_replies.specs.declared.row.Ending.TheVariants as ending
+use Rattle.mpw_replies.proofs.RowParts.{listing_changes_nothing}
 use Rattle.mpw_secrecy.specs.Questions.{is_of_view}
 use Rattle.mpw_secrecy.specs.Secrecy.{EqualViewsGiveEqualAnswers, EqualViewsGiveEqualAnswersToLists, EqualViewsStayEqual, IsOrderly}
 use Rattle.mpw_secrecy.specs.Views.{SameView}
-use Rattle.mpw_secrecy.proofs.Listings.{SameOutcome, after_alike, listed, step_alike}
+use Rattle.mpw_secrecy.proofs.Listings.{SameOutcome, after_alike, entered_alike, listed, step_alike}
 use Rattle.mpw_secrecy.proofs.Signing.{sign_alike_in, waive_alike}
 
 -- ---- orderly states
 
-listing_orderly : (s : State) (row : Result (List Listed) Ending) → IsOrderly s
-    → IsOrderly (outcome_by (λ e. e) (over_run s) s (listing (λ lines. lines) row)).state
-listing_orderly s (Ok lines) orderly = orderly
-listing_orderly s (Err why) orderly = orderly
-
 module _ (places_left : PlacesAreLeft) where
-  stays_orderly : (s : State) (connection : ℕ) (request : Request) → is_of_view request ≡ true
-      → IsOrderly s → IsOrderly (outcome_of s connection request).state
-  stays_orderly s connection (ask.Policy request) is orderly = absurd cc
-  stays_orderly s connection ask.Whoami is orderly =
+  row_orderly : (s : State) (connection : ℕ) (request : Request) → is_of_view request ≡ true
+      → IsOrderly s → IsOrderly (row_outcome s connection request).state
+  row_orderly s connection (ask.Policy request) is orderly = absurd cc
+  row_orderly s connection ask.Whoami is orderly =
       holds-row IsOrderly ending_of (over_policy s) s (whoami_row s.policy connection) orderly
       (λ policy lines e.
       record { run = orderly.run; places = orderly.places })
-  stays_orderly s connection (ask.Layout request) is orderly =
-      holds-row IsOrderly (λ e. e) (over_shelf s) s
+  row_orderly s connection (ask.Layout request) is orderly =
+      holds-row IsOrderly layouts.ending_of (over_shelf s) s
       (layouts.row_of s.policy s.shelf connection request) orderly (λ shelf lines e.
       record { run = orderly.run; places = orderly.places })
-  stays_orderly s connection (ask.Wafer request) is orderly = absurd cc
-  stays_orderly s connection (ask.Run run.Run) is orderly = absurd cc
-  stays_orderly s connection (ask.Run run.Cancel) is orderly = absurd cc
-  stays_orderly s connection (ask.Run run.Status) is orderly =
-      listing_orderly s (checking.status s.policy s.run connection) orderly
-  stays_orderly s connection (ask.Run run.Markers) is orderly =
-      listing_orderly s (checking.markers s.policy s.run connection) orderly
-  stays_orderly s connection (ask.SignOff request) is orderly =
-      holds-row IsOrderly (λ e. e) (over_waivers s) s
+  row_orderly s connection (ask.Wafer request) is orderly = absurd cc
+  row_orderly s connection (ask.Run run.Run) is orderly = absurd cc
+  row_orderly s connection (ask.Run run.Cancel) is orderly = absurd cc
+  row_orderly s connection (ask.Run run.Status) is orderly = orderly
+  row_orderly s connection (ask.Run run.Markers) is orderly =
+      holds-row IsOrderly ending.Refused (over_run s) s _ orderly
+      (λ change lines e. absurd (listing_changes_nothing _
+      (needed code.NotFinished (findings s.run.phase)) change lines e))
+  row_orderly s connection (ask.SignOff request) is orderly =
+      holds-row IsOrderly signing.ending_of (over_waivers s) s
       (signing.row_of s.policy s.wafer s.run s.waivers connection request) orderly
       (λ change lines e.
       record { run = orderly.run; places = places_left s.waivers change ∙ orderly.places })
-  stays_orderly s connection ask.Trail is orderly = absurd cc
+  row_orderly s connection ask.Trail is orderly = absurd cc
+
+  stays_orderly : (s : State) (connection : ℕ) (request : Request) → is_of_view request ≡ true
+      → IsOrderly s → IsOrderly (outcome_of s connection request).state
+  stays_orderly s connection request is orderly =
+      holds-guarded IsOrderly s (entered s.policy connection (need_of request))
+      (row_outcome s connection request) orderly (row_orderly s connection request is orderly)
 
   settled_orderly : (s : State) (connection : ℕ) (request : Request) (kept : Bool) (o : Outcome)
       → IsOrderly s → IsOrderly o.state
@@ -84,23 +89,23 @@ module _ (places_left : PlacesAreLeft) where
 
 -- ---- answers
 
-module _ (presents : PresentAreOfTheirCell) (keys : PlacesAreOfKeys) where
+module _ (presents : PresentAreOfTheirCell) (has : EnteredHas) (keys : PlacesAreOfKeys) where
   answered : (connection : ℕ) (a b : State) (request : Request) → IsOrderly a → IsOrderly b
       → SameView connection a b → is_of_view request ≡ true
-      → SameOutcome connection (outcome_of a connection request) (outcome_of b connection request)
+      → Has a.policy connection (need_of request)
+      → SameOutcome connection (row_outcome a connection request) (row_outcome b connection request)
   answered connection a b (ask.Policy request) orderly ordered same is = absurd cc
-  answered connection a b ask.Whoami orderly ordered same is = listed presents connection a b
-      ask.Whoami same
-      refl
+  answered connection a b ask.Whoami orderly ordered same is =
+      listed presents connection a b ask.Whoami same refl
   answered connection a b (ask.Layout request) orderly ordered same is =
       listed presents connection a b (ask.Layout request) same is
   answered connection a b (ask.Wafer request) orderly ordered same is = absurd cc
   answered connection a b (ask.Run request) orderly ordered same is =
       listed presents connection a b (ask.Run request) same is
   answered connection a b (ask.SignOff (sign.Waive name)) orderly ordered same is =
-      waive_alike keys connection a b orderly ordered same name
+      λ has. waive_alike keys connection a b orderly ordered same has.0 name
   answered connection a b (ask.SignOff (sign.Sign name)) orderly ordered same is =
-      sign_alike_in keys connection a b orderly ordered same name
+      λ has. sign_alike_in keys connection a b orderly ordered same has.0 name
   answered connection a b (ask.SignOff sign.Waivers) orderly ordered same is =
       listed presents connection a b (ask.SignOff sign.Waivers) same refl
   answered connection a b (ask.SignOff sign.Verdict) orderly ordered same is = absurd cc
@@ -113,7 +118,8 @@ module _ (presents : PresentAreOfTheirCell) (keys : PlacesAreOfKeys) where
       (step b (event.Ask connection request) kept)
   stepped connection a b request kept orderly ordered same is = step_alike connection a b request
       kept same
-      (answered connection a b request orderly ordered same is)
+      (entered_alike has connection a b request same
+      (answered connection a b request orderly ordered same is))
 
   pub equal_answers : EqualViewsGiveEqualAnswers
   equal_answers connection a b request kept orderly ordered same is =

@@ -15,15 +15,14 @@ use Rattle.mpw_roles.specs.Hierarchy.{Name}
 use Rattle.mpw_rbac.specs.Policy.{Policy, session_of}
 use Rattle.mpw_rbac.specs.Rows.{user_of}
 use Rattle.mpw_replies.specs.Listing.{Listed, stored, marker}
-use Rattle.mpw_replies.specs.Rows.{◌>>=◌, needed}
+use Rattle.mpw_replies.specs.Rows.{listing, needed}
 use Rattle.mpw_run.specs.Step.{findings}
 use Rattle.mpw_replies.specs.Sight.{is_full, line_for, full_line, full_lines, masked_line, masked_lines, masked_number}
 use Rattle.mpw_access.specs.Seen.{seen_by}
-use Rattle.mpw_replies.specs.declared.reply.Code.TheVariants as code
 use Rattle.mpw_replies.specs.declared.reply.Line.{Line}
 use Rattle.mpw_replies.specs.declared.reply.Line.TheVariants as line
-use Rattle.mpw_replies.specs.declared.row.Ending.{Ending}
-use Rattle.mpw_replies.specs.declared.row.Ending.TheVariants as ending
+use Rattle.mpw_replies.specs.declared.row.Done.{Done}
+use Rattle.mpw_replies.specs.declared.row.Done.TheVariants.{Lists}
 use Rattle.mpw_run.specs.declared.phase.Checked.{Checked}
 use Rattle.mpw_run.specs.declared.phase.Phase.{Phase}
 use Rattle.mpw_run.specs.declared.phase.Phase.TheVariants.{Idle, Cutting, Checking, Finished}
@@ -35,7 +34,6 @@ use Rattle.mpw_signoff.specs.SigningOff as signing
 use Rattle.mpw_signoff.specs.WaiverLines.{waiver_line, rule_line, marker_line, shown_line, lines_from}
 use Rattle.mpw_events.specs.Step.{State}
 use Rattle.mpw_secrecy.specs.Views.{BookSeen, MarkerSeen, RuleSeen, RunSeen, SameView, Stage, book_view, checked_view, marker_of, marker_seen, markers_seen, rules_seen, stage_of}
-use Rattle.mpw_secrecy.proofs.Parts.{inside, inside_tells, same_behind, same_session}
 
 -- ---- status
 
@@ -52,26 +50,40 @@ phase_by number (Cutting planned) = refl
 phase_by number (Checking c) = refl
 phase_by number (Finished f) = refl
 
-same_inside : (connection : ℕ) (a b : State) → SameView connection a b
-    → inside (is_some (session_of a.policy connection))
-    ≡ inside (is_some (session_of b.policy connection))
-same_inside connection a b same = ap inside (same_session connection a b same)
-
 pub status_alike : (connection : ℕ) (a b : State) → SameView connection a b
-    → checking.status a.policy a.run connection ≡ checking.status b.policy b.run connection
-unfolding checking.status
-status_alike connection a b same =
-    same_behind (inside (is_some (session_of a.policy connection)))
-    (inside (is_some (session_of b.policy connection)))
-    (λ entered. Ok (stored (checking.phase_line a.run.number a.run.phase) ∷ []))
-    (λ entered. Ok (stored (checking.phase_line b.run.number b.run.phase) ∷ []))
-    (same_inside connection a b same)
-    (λ entered is.
-    let told = phase_by a.run.number a.run.phase
-    ∙ ap (λ (r : RunSeen). stage_line r.number r.stage)
-    ((same.sight (inside_tells (is_some (session_of a.policy connection)) entered is)).run)
-    ∙ sym (phase_by b.run.number b.run.phase) in
-    ap (λ l. Ok (stored l ∷ [])) told)
+    → is_some (session_of a.policy connection) ≡ true
+    → checking.phase_line a.run.number a.run.phase ≡ checking.phase_line b.run.number b.run.phase
+status_alike connection a b same is =
+    phase_by a.run.number a.run.phase
+    ∙ ap (λ (r : RunSeen). stage_line r.number r.stage) ((same.sight is).run)
+    ∙ sym (phase_by b.run.number b.run.phase)
+
+-- ---- decision tables that list what a finished run found
+
+abbrev of_book : {E P : Type 0} → E → (BookSeen → List Listed) → Option BookSeen
+    → Result (Done P) E
+of_book why told None = Err why
+of_book why told (Some book) = Ok (Lists (told book))
+
+-- lines that depend on what is seen of the book are the same
+book_alike : {E P : Type 0} (why : E) (told : BookSeen → List Listed) (connection : ℕ)
+    (lines : Policy → List (Option Waiver) → Checked → List Listed)
+    → ((policy : Policy) (waivers : List (Option Waiver)) (f : Checked)
+    → lines policy waivers f ≡ told (checked_view policy connection waivers f))
+    → (a b : State) → SameView connection a b → is_some (session_of a.policy connection) ≡ true
+    → listing {P = P} (lines a.policy a.waivers) (needed why (findings a.run.phase))
+    ≡ listing (lines b.policy b.waivers) (needed why (findings b.run.phase))
+book_alike {E} {P} why told connection lines by a b same is =
+    of a.policy a.waivers a.run.phase ∙ ap (of_book why told) ((same.sight is).book)
+    ∙ sym (of b.policy b.waivers b.run.phase)
+  where
+    of : (policy : Policy) (waivers : List (Option Waiver)) (phase : Phase)
+        → listing {P = P} (lines policy waivers) (needed why (findings phase))
+        ≡ of_book why told (book_view policy connection waivers phase)
+    of policy waivers Idle = refl
+    of policy waivers (Cutting planned) = refl
+    of policy waivers (Checking c) = refl
+    of policy waivers (Finished f) = ap (λ l. Ok (Lists l)) (by policy waivers f)
 
 -- ---- markers
 
@@ -167,10 +179,10 @@ names_in book = map (λ (rule : RuleSeen). rule.name) book.rules
 abbrev book_told : BookSeen → List Listed
 book_told book = flat_map (told_in (names_in book)) book.markers ++ flat_map rule_told book.rules
 
-checked_by : (policy : Policy) (connection : ℕ) (waivers : List (Option Waiver)) (f : Checked)
+checked_by : (connection : ℕ) (policy : Policy) (waivers : List (Option Waiver)) (f : Checked)
     → checking.checked_lines policy connection f
     ≡ book_told (checked_view policy connection waivers f)
-checked_by policy connection waivers f =
+checked_by connection policy waivers f =
     let rules = f.planned.snapshot.deck.rules in
     let shelf = f.planned.snapshot.shelf in
     let seen = seen_by policy connection shelf in
@@ -180,36 +192,15 @@ checked_by policy connection waivers f =
     ∙ ap (λ names. flat_map (told_in names) markers
     ++ flat_map rule_told (rules_seen seen f.book 0 rules)) (names_from seen f.book 0 rules)
 
--- the decision tables after their first test
-abbrev book_row : Option BookSeen → Result (List Listed) Ending
-book_row None = Err (ending.Refused code.NotFinished)
-book_row (Some book) = Ok (book_told book)
-
-markers_by : (policy : Policy) (connection : ℕ) (waivers : List (Option Waiver)) (phase : Phase)
-    → (needed code.NotFinished (findings phase) >>= (λ f. Ok (checking.checked_lines policy connection f)))
-    ≡ book_row (book_view policy connection waivers phase)
-markers_by policy connection waivers Idle = refl
-markers_by policy connection waivers (Cutting planned) = refl
-markers_by policy connection waivers (Checking c) = refl
-markers_by policy connection waivers (Finished f) =
-    ap (λ l. Ok l) (checked_by policy connection waivers f)
-
-pub markers_alike : (connection : ℕ) (a b : State) → SameView connection a b
-    → checking.markers a.policy a.run connection ≡ checking.markers b.policy b.run connection
-unfolding checking.markers
-markers_alike connection a b same =
-    same_behind (inside (is_some (session_of a.policy connection)))
-    (inside (is_some (session_of b.policy connection)))
-    (λ entered. needed code.NotFinished (findings a.run.phase)
-    >>= (λ f. Ok (checking.checked_lines a.policy connection f)))
-    (λ entered. needed code.NotFinished (findings b.run.phase)
-    >>= (λ f. Ok (checking.checked_lines b.policy connection f)))
-    (same_inside connection a b same)
-    (λ entered is.
-    markers_by a.policy connection a.waivers a.run.phase
-    ∙ ap book_row ((same.sight (inside_tells (is_some (session_of a.policy connection)) entered
-    is)).book)
-    ∙ sym (markers_by b.policy connection b.waivers b.run.phase))
+pub markers_alike : {E P : Type 0} (why : E) (connection : ℕ) (a b : State)
+    → SameView connection a b → is_some (session_of a.policy connection) ≡ true
+    → listing {P = P} (checking.checked_lines a.policy connection)
+    (needed why (findings a.run.phase))
+    ≡ listing (checking.checked_lines b.policy connection) (needed why (findings b.run.phase))
+markers_alike why connection =
+    book_alike why book_told connection
+    (λ policy waivers f. checking.checked_lines policy connection f)
+    (checked_by connection)
 
 -- ---- waivers
 
@@ -272,44 +263,32 @@ waivers_from rules shelf seen user waivers =
 abbrev waivers_of : BookSeen → List Line
 waivers_of book = flat_map (waiver_in (names_in book)) book.markers
 
-abbrev waivers_row : Option BookSeen → Result (List Listed) Ending
-waivers_row None = Err (ending.Refused code.NotFinished)
-waivers_row (Some book) = Ok (map stored (waivers_of book))
+abbrev waivers_told : BookSeen → List Listed
+waivers_told book = map stored (waivers_of book)
 
-waivers_by : (policy : Policy) (connection : ℕ) (waivers : List (Option Waiver)) (phase : Phase)
-    → (needed code.NotFinished (findings phase) >>= (λ f. Ok
-    (map stored (signing.waiver_lines policy connection f waivers)))) ≡ waivers_row
-    (book_view policy connection waivers phase)
-waivers_by policy connection waivers Idle = refl
-waivers_by policy connection waivers (Cutting planned) = refl
-waivers_by policy connection waivers (Checking c) = refl
-waivers_by policy connection waivers (Finished f) =
+waivers_by : (connection : ℕ) (policy : Policy) (waivers : List (Option Waiver)) (f : Checked)
+    → map stored (signing.waiver_lines policy connection f waivers)
+    ≡ waivers_told (checked_view policy connection waivers f)
+waivers_by connection policy waivers f =
     let rules = f.planned.snapshot.deck.rules in
     let shelf = f.planned.snapshot.shelf in
     let seen = seen_by policy connection shelf in
-    ap (λ l. Ok (map stored l))
+    ap (map stored)
     (waivers_from rules shelf seen (user_of policy connection) waivers 0 f.book
     ∙ ap (λ names. flat_map (waiver_in names)
     (markers_seen shelf seen (user_of policy connection) waivers 0 f.book))
     (names_from seen f.book 0 rules))
 
-pub waivers_alike : (connection : ℕ) (a b : State) → SameView connection a b
-    → signing.waivers_row a.policy a.run a.waivers connection ≡ signing.waivers_row b.policy b.run
-    b.waivers connection
-unfolding signing.waivers_row
-waivers_alike connection a b same =
-    same_behind (inside (is_some (session_of a.policy connection)))
-    (inside (is_some (session_of b.policy connection)))
-    (λ entered. needed code.NotFinished (findings a.run.phase)
-    >>= (λ f. Ok (map stored (signing.waiver_lines a.policy connection f a.waivers))))
-    (λ entered. needed code.NotFinished (findings b.run.phase)
-    >>= (λ f. Ok (map stored (signing.waiver_lines b.policy connection f b.waivers))))
-    (same_inside connection a b same)
-    (λ entered is.
-    waivers_by a.policy connection a.waivers a.run.phase
-    ∙ ap waivers_row ((same.sight (inside_tells (is_some (session_of a.policy connection)) entered
-    is)).book)
-    ∙ sym (waivers_by b.policy connection b.waivers b.run.phase))
+pub waivers_alike : {E P : Type 0} (why : E) (connection : ℕ) (a b : State)
+    → SameView connection a b → is_some (session_of a.policy connection) ≡ true
+    → listing {P = P} (λ f. map stored (signing.waiver_lines a.policy connection f a.waivers))
+    (needed why (findings a.run.phase))
+    ≡ listing (λ f. map stored (signing.waiver_lines b.policy connection f b.waivers))
+    (needed why (findings b.run.phase))
+waivers_alike why connection =
+    book_alike why waivers_told connection
+    (λ policy waivers f. map stored (signing.waiver_lines policy connection f waivers))
+    (waivers_by connection)
 
 -- ---- the rule of a name
 

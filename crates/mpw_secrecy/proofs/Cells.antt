@@ -9,26 +9,23 @@ use Rattle.mpw_hier.specs.Items.{Item}
 use Rattle.mpw_hier.specs.Shelf.{present, present_from, later}
 use Rattle.mpw_hier.specs.Shelved.{PresentAreOfTheirCell}
 use Rattle.mpw_hier.specs.Values.{flat}
-use Rattle.mpw_roles.specs.Decided.{decided}
 use Rattle.mpw_roles.specs.Hierarchy.{Name}
 use Rattle.mpw_permissions.specs.declared.permission.Object.TheVariants as object
 use Rattle.mpw_permissions.specs.declared.permission.Operation.TheVariants.{Read}
 use Rattle.mpw_rbac.specs.Policy.{Policy, permits, session_of}
 use Rattle.mpw_replies.specs.Listing.{Listed, stored, shape, shape_line, line_if}
-use Rattle.mpw_replies.specs.Rows.{◌>>=◌}
-use Rattle.mpw_access.specs.Permitted.{permitted}
+use Rattle.mpw_replies.specs.Rows.{◌>>=◌, needed}
 use Rattle.mpw_access.specs.Seen.{may_read}
 use Rattle.mpw_replies.specs.declared.reply.Code.TheVariants as code
-use Rattle.mpw_replies.specs.declared.reply.Denial.TheVariants as denial
 use Rattle.mpw_replies.specs.declared.reply.Line.{Line}
 use Rattle.mpw_replies.specs.declared.reply.Line.TheVariants as line
-use Rattle.mpw_replies.specs.declared.row.Ending.{Ending}
-use Rattle.mpw_replies.specs.declared.row.Ending.TheVariants as ending
-use Rattle.mpw_layouts.specs.Layouts.{cell_line, cells, cells_of, numbered_at, present_submission, readable_line, readable_shape, shapes, present_number}
+use Rattle.mpw_layouts.specs.declared.ending.LayoutEnding.{LayoutEnding}
+use Rattle.mpw_layouts.specs.declared.ending.LayoutEnding.TheVariants.{Refused}
+use Rattle.mpw_layouts.specs.Layouts.{cell_line, cells, numbered_at, present_submission, readable_line, readable_shape, shapes}
 use Rattle.mpw_events.specs.Step.{State}
 use Rattle.mpw_secrecy.specs.Views.{CellSeen, ShapeSeen, SameView, shape_of, shape_seen, seen_at, cell_at, cell_view}
 use Rattle.mpw_secrecy.proofs.Names.{apart_both, told_alike}
-use Rattle.mpw_secrecy.proofs.Parts.{allowed_tells, cond_alike, one_alike, same_behind, same_grants, same_permitted, same_session}
+use Rattle.mpw_secrecy.proofs.Parts.{cond_alike, same_grants}
 
 both_false : (a b : Bool) → (a || b) ≡ false → (a ≡ false) × (b ≡ false)
 both_false false b e = (refl, e)
@@ -103,18 +100,14 @@ module _ (presents : PresentAreOfTheirCell) where
       ∙ ap (λ t. cond t told []) (same_grants connection a b same Read (object.Cell cell))
 
   pub cells_alike : (connection : ℕ) (a b : State) → SameView connection a b
+      → is_some (session_of a.policy connection) ≡ true
       → cells a.policy a.shelf connection ≡ cells b.policy b.shelf connection
-  cells_alike connection a b same =
-      let lines_b : List Listed = map stored
-      (flat_map (readable_line b.policy b.shelf connection) (cells_of b.shelf)) in
-      one_alike (is_some (session_of a.policy connection)) (ending.Denied denial.Session) _ lines_b
-      (λ is. ap (map stored) (told_alike (readable_line a.policy a.shelf connection)
+  cells_alike connection a b same is =
+      ap (map stored) (told_alike (readable_line a.policy a.shelf connection)
       (readable_line b.policy b.shelf connection) (map (λ s. s.cell) a.shelf)
       (map (λ s. s.cell) b.shelf)
       (line_alike connection a b same is) (nothing_told a.policy a.shelf connection)
-      (nothing_told b.policy b.shelf connection)))
-      ∙ ap (λ s. decided ((s, ending.Denied denial.Session) ∷ []) lines_b)
-      (same_session connection a b same)
+      (nothing_told b.policy b.shelf connection))
 
   -- ---- shapes
 
@@ -142,12 +135,12 @@ module _ (presents : PresentAreOfTheirCell) where
       ++ shapes_at policy connection shelf items i) ∙ sym (map-append shape_told seen rest)
 
   -- the shapes of a cell by what is seen of it
-  abbrev shapes_told : Option CellSeen → Result (List Listed) Ending
-  shapes_told None = Err (ending.Refused code.NoCell)
+  abbrev shapes_told : Option CellSeen → Result (List Listed) LayoutEnding
+  shapes_told None = Err (Refused code.NoCell)
   shapes_told (Some seen) = Ok (map shape_told seen.shapes)
 
-  abbrev rest_of : Policy → ℕ → List Submission → Option ℕ → Result (List Listed) Ending
-  rest_of policy connection shelf o = present_number o
+  abbrev rest_of : Policy → ℕ → List Submission → Option ℕ → Result (List Listed) LayoutEnding
+  rest_of policy connection shelf o = needed (Refused code.NoCell) o
       >>= (λ number. Ok (flat_map (readable_shape policy shelf connection) (flat shelf number)))
 
   shapes_by : (policy : Policy) (connection : ℕ) (shelf : List Submission) (cell : Name)
@@ -170,17 +163,11 @@ module _ (presents : PresentAreOfTheirCell) where
           there number (slice_get shelf number) p.submission p.is
 
   pub shapes_alike : (connection : ℕ) (a b : State) → SameView connection a b → (cell : Name)
+      → is_some (session_of a.policy connection) ≡ true
+      → permits a.policy connection Read (object.Cell cell) ≡ true
       → shapes a.policy a.shelf connection cell ≡ shapes b.policy b.shelf connection cell
   unfolding shapes
-  shapes_alike connection a b same cell =
-      same_behind (permitted a.policy connection Read (object.Cell cell))
-      (permitted b.policy connection Read (object.Cell cell))
-      (λ entered. rest_of a.policy connection a.shelf (present a.shelf cell))
-      (λ entered. rest_of b.policy connection b.shelf (present b.shelf cell))
-      (same_permitted connection a b same Read (object.Cell cell))
-      (λ entered is.
-      let may = allowed_tells Read (object.Cell cell) (is_some (session_of a.policy connection))
-      (permits a.policy connection Read (object.Cell cell)) entered is in
+  shapes_alike connection a b same cell is may =
       shapes_by a.policy connection a.shelf cell
-      ∙ ap shapes_told ((same.sight may.0).cells cell may.1)
-      ∙ sym (shapes_by b.policy connection b.shelf cell))
+      ∙ ap shapes_told ((same.sight is).cells cell may)
+      ∙ sym (shapes_by b.policy connection b.shelf cell)

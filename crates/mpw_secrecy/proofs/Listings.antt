@@ -1,5 +1,5 @@
 -- Two desks with the same view list the same, and their views are unchanged after it.
-use Rattle.std.proofs.Common.{◌≡◌, ◌∙◌, ℕ, Bool, true, false, cond, List, [], ◌∷◌, Option, None, Some, Result, Ok, Err, is_some, refl, sym, ap, subst}
+use Rattle.std.proofs.Common.{◌≡◌, ◌∙◌, ℕ, Bool, true, false, cond, List, [], ◌∷◌, map, Option, None, Some, Result, Ok, Err, is_some, refl, sym, ap, subst}
 use Rattle.std.specs.Prelude.{◌&&◌, not, option_map}
 use Rattle.std.specs.Option.{option_map_or}
 use Rattle.mpw_hier.specs.Shelved.{PresentAreOfTheirCell}
@@ -15,20 +15,31 @@ use Rattle.mpw_requests.specs.declared.request.Request.{Request}
 use Rattle.mpw_requests.specs.declared.request.Request.TheVariants as ask
 use Rattle.mpw_requests.specs.declared.run.RunRequest.TheVariants as run
 use Rattle.mpw_requests.specs.declared.sign_off.SignOffRequest.TheVariants as sign
-use Rattle.mpw_replies.specs.Listing.{Listed}
-use Rattle.mpw_replies.specs.Rows.{listing}
+use Rattle.mpw_requests.specs.Needs.{need_of}
+use Rattle.mpw_replies.specs.Listing.{Listed, stored}
+use Rattle.mpw_replies.specs.Rows.{listing, needed}
 use Rattle.mpw_replies.specs.declared.entry.Entry.{Entry}
+use Rattle.mpw_replies.specs.declared.reply.Code.TheVariants as code
+use Rattle.mpw_replies.specs.declared.reply.Reply.TheVariants as reply
+use Rattle.mpw_replies.specs.declared.row.Done.{Done}
+use Rattle.mpw_replies.specs.declared.row.Done.TheVariants.{Lists}
 use Rattle.mpw_replies.specs.declared.row.Ending.{Ending}
+use Rattle.mpw_replies.specs.declared.row.Ending.TheVariants as ending
+use Rattle.mpw_access.specs.Guard.{EnteredHas, Has, entered}
 use Rattle.mpw_layouts.specs.Layouts as layouts
-use Rattle.mpw_wafer.specs.Run.Checking as checking
+use Rattle.mpw_signoff.specs.declared.ending.SignOffEnding.TheVariants.{Refused}
 use Rattle.mpw_signoff.specs.SigningOff as signing
+use Rattle.mpw_wafer.specs.Run.Checking as checking
+use Rattle.mpw_run.specs.Step.{findings}
 use Rattle.mpw_events.specs.declared.event.Event.TheVariants as event
-use Rattle.mpw_events.specs.Step.{State, Outcome, after, no_change, outcome_by, outcome_of, settlement, step, not_kept_response, event_outcome}
+use Rattle.mpw_events.specs.declared.event.Response.TheVariants as response
+use Rattle.mpw_events.specs.Step.{State, Outcome, after, ending_of, guarded, identity_lines, no_change, outcome_by, outcome_of, over_policy, over_run, over_shelf, over_waivers, row_outcome, settlement, step, not_kept_response, event_outcome, whoami_row}
 use Rattle.mpw_secrecy.specs.Questions.{is_listing}
 use Rattle.mpw_secrecy.specs.Secrecy.{EqualViewsGiveEqualListings, ListingsLeaveTheViews, EqualViewsGiveEqualLists}
 use Rattle.mpw_secrecy.specs.Views.{SameView}
 use Rattle.mpw_secrecy.proofs.Books.{markers_alike, status_alike, waivers_alike}
 use Rattle.mpw_secrecy.proofs.Cells.{cells_alike, shapes_alike}
+use Rattle.mpw_secrecy.proofs.Parts.{same_entered}
 
 -- outcomes with the same response and the same change or none, and the same view after them
 pub record SameOutcome (connection : ℕ) (a b : Outcome) : Type 0 where
@@ -47,22 +58,50 @@ besides connection a b first second c d same = record {
       record { grants = s.grants; cells = s.cells; run = s.run; book = s.book };
 }
 
+-- ---- the guard
+
+-- both desks deny alike what the connection lacks, so only what one who has it is answered is to be compared
+pub entered_alike : EnteredHas → (connection : ℕ) (a b : State) (request : Request)
+    → SameView connection a b
+    → (Has a.policy connection (need_of request)
+    → SameOutcome connection (row_outcome a connection request) (row_outcome b connection request))
+    → SameOutcome connection (outcome_of a connection request) (outcome_of b connection request)
+entered_alike has connection a b request same rows =
+    subst (λ met. SameOutcome connection (outcome_of a connection request)
+    (guarded b met (row_outcome b connection request)))
+    (same_entered connection a b same (need_of request))
+    (go (entered a.policy connection (need_of request)) refl)
+  where
+    go : (met : Result (Unit {0}) Ending) → entered a.policy connection (need_of request) ≡ met
+        → SameOutcome connection (guarded a met (row_outcome a connection request))
+        (guarded b met (row_outcome b connection request))
+    go (Ok passed) is = rows (has a.policy connection (need_of request) is)
+    go (Err why) is = record { told = refl; changes = refl; view = same }
+
 -- ---- decision tables that list
 
 -- equal ones have the same outcome on both desks
 of_row : {A E P : Type 0} (how : E → Ending) (over other : P → State) (lines : A → List Listed)
-    (connection : ℕ) (a b : State) (first second : Result A E) → SameView connection a b
-    → first ≡ second
+    (connection : ℕ) (a b : State) (first : Result A E) (second : Result (Done P) E)
+    → SameView connection a b → listing lines first ≡ second
     → SameOutcome connection (outcome_by how over a (listing lines first))
-    (outcome_by how other b (listing lines second))
+    (outcome_by how other b second)
 of_row {A = A} {E = E} how over other lines connection a b first second same e =
     subst (λ row. SameOutcome connection (outcome_by how over a (listing lines first))
-    (outcome_by how other b (listing lines row))) e (go first)
+    (outcome_by how other b row)) e (go first)
   where
     go : (row : Result A E) → SameOutcome connection (outcome_by how over a (listing lines row))
         (outcome_by how other b (listing lines row))
     go (Ok x) = record { told = refl; changes = refl; view = same }
     go (Err why) = record { told = refl; changes = refl; view = same }
+
+-- lines are the same on both desks
+of_lines : {E P : Type 0} (how : E → Ending) (over other : P → State) (connection : ℕ) (a b : State)
+    (first second : List Listed) → SameView connection a b → first ≡ second
+    → SameOutcome connection (outcome_by how over a (Ok (Lists first)))
+    (outcome_by how other b (Ok (Lists second)))
+of_lines how over other connection a b first second same e =
+    record { told = ap (λ l. response.Told (reply.Ok l)) e; changes = refl; view = same }
 
 -- ---- whoami
 
@@ -81,45 +120,51 @@ whoami_at policy None = refl
 whoami_at policy (Some s) = refl
 
 same_whoami : (connection : ℕ) (a b : State) → SameView connection a b
-    → whoami a.policy connection ≡ whoami b.policy connection
+    → whoami_row a.policy connection ≡ whoami_row b.policy connection
 same_whoami connection a b same =
-    whoami_at a.policy (session_of a.policy connection) ∙ ap whoami_told same.identity
-    ∙ sym (whoami_at b.policy (session_of b.policy connection))
+    ap (listing (λ identity. map stored (identity_lines identity))) (whoami_at a.policy (session_of a.policy connection)
+    ∙ ap whoami_told same.identity ∙ sym (whoami_at b.policy (session_of b.policy connection)))
 
 -- ---- each listing
 
 pub listed : PresentAreOfTheirCell → (connection : ℕ) (a b : State) (request : Request)
     → SameView connection a b → is_listing request ≡ true
-    → SameOutcome connection (outcome_of a connection request) (outcome_of b connection request)
-listed presents connection a b (ask.Policy request) same is = absurd cc
-listed presents connection a b ask.Whoami same is =
-    of_row _ _ _ _ connection a b (whoami a.policy connection) (whoami b.policy connection) same
+    → Has a.policy connection (need_of request)
+    → SameOutcome connection (row_outcome a connection request) (row_outcome b connection request)
+listed presents connection a b (ask.Policy request) same is has = absurd cc
+listed presents connection a b ask.Whoami same is has =
+    of_row ending_of (over_policy a) (over_policy b) _ connection a b (whoami a.policy connection)
+    (whoami_row b.policy connection) same
     (same_whoami connection a b same)
-listed presents connection a b (ask.Layout (layout.Submit cell top text)) same is = absurd cc
-listed presents connection a b (ask.Layout layout.Cells) same is =
-    of_row _ _ _ _ connection a b (layouts.cells a.policy a.shelf connection)
-    (layouts.cells b.policy b.shelf connection) same (cells_alike presents connection a b same)
-listed presents connection a b (ask.Layout (layout.Shapes cell)) same is =
-    of_row _ _ _ _ connection a b (layouts.shapes a.policy a.shelf connection cell)
-    (layouts.shapes b.policy b.shelf connection cell) same
-    (shapes_alike presents connection a b same cell)
-listed presents connection a b (ask.Wafer request) same is = absurd cc
-listed presents connection a b (ask.Run run.Run) same is = absurd cc
-listed presents connection a b (ask.Run run.Cancel) same is = absurd cc
-listed presents connection a b (ask.Run run.Status) same is =
-    of_row _ _ _ _ connection a b (checking.status a.policy a.run connection)
-    (checking.status b.policy b.run connection) same (status_alike connection a b same)
-listed presents connection a b (ask.Run run.Markers) same is =
-    of_row _ _ _ _ connection a b (checking.markers a.policy a.run connection)
-    (checking.markers b.policy b.run connection) same (markers_alike connection a b same)
-listed presents connection a b (ask.SignOff (sign.Waive marker)) same is = absurd cc
-listed presents connection a b (ask.SignOff (sign.Sign marker)) same is = absurd cc
-listed presents connection a b (ask.SignOff sign.Waivers) same is =
-    of_row _ _ _ _ connection a b (signing.waivers_row a.policy a.run a.waivers connection)
-    (signing.waivers_row b.policy b.run b.waivers connection) same
-    (waivers_alike connection a b same)
-listed presents connection a b (ask.SignOff sign.Verdict) same is = absurd cc
-listed presents connection a b ask.Trail same is = absurd cc
+listed presents connection a b (ask.Layout (layout.Submit cell top text)) same is has = absurd cc
+listed presents connection a b (ask.Layout layout.Cells) same is has =
+    of_lines layouts.ending_of (over_shelf a) (over_shelf b) connection a b
+    (layouts.cells a.policy a.shelf connection)
+    (layouts.cells b.policy b.shelf connection) same
+    (cells_alike presents connection a b same has)
+listed presents connection a b (ask.Layout (layout.Shapes cell)) same is has =
+    of_row layouts.ending_of (over_shelf a) (over_shelf b) (λ lines. lines) connection a b
+    (layouts.shapes a.policy a.shelf connection cell) _ same
+    (ap (listing (λ lines. lines)) (shapes_alike presents connection a b same cell has.0 has.1))
+listed presents connection a b (ask.Wafer request) same is has = absurd cc
+listed presents connection a b (ask.Run run.Run) same is has = absurd cc
+listed presents connection a b (ask.Run run.Cancel) same is has = absurd cc
+listed presents connection a b (ask.Run run.Status) same is has =
+    of_lines ending.Refused (over_run a) (over_run b) connection a b _ _ same
+    (ap (λ l. stored l ∷ []) (status_alike connection a b same has))
+listed presents connection a b (ask.Run run.Markers) same is has =
+    of_row ending.Refused (over_run a) (over_run b) (checking.checked_lines a.policy connection)
+    connection a b (needed code.NotFinished (findings a.run.phase)) _ same
+    (markers_alike code.NotFinished connection a b same has)
+listed presents connection a b (ask.SignOff (sign.Waive marker)) same is has = absurd cc
+listed presents connection a b (ask.SignOff (sign.Sign marker)) same is has = absurd cc
+listed presents connection a b (ask.SignOff sign.Waivers) same is has =
+    of_row signing.ending_of (over_waivers a) (over_waivers b)
+    (λ f. map stored (signing.waiver_lines a.policy connection f a.waivers)) connection a b
+    (needed (Refused code.NotFinished) (findings a.run.phase)) _ same
+    (waivers_alike (Refused code.NotFinished) connection a b same has)
+listed presents connection a b (ask.SignOff sign.Verdict) same is has = absurd cc
+listed presents connection a b ask.Trail same is has = absurd cc
 
 -- ---- with whether the change is stored
 
@@ -169,23 +214,31 @@ after_alike connection a b request kept both =
 
 -- ---- the laws
 
-pub equal_listings : PresentAreOfTheirCell → EqualViewsGiveEqualListings
-equal_listings presents connection a b request kept same is =
-    (step_alike connection a b request kept same
-    (listed presents connection a b request same is)).told
+module _ (presents : PresentAreOfTheirCell) (has : EnteredHas) where
+  stepped : (connection : ℕ) (a b : State) (request : Request) (kept : Bool)
+      → SameView connection a b → is_listing request ≡ true
+      → SameOutcome connection (step a (event.Ask connection request) kept)
+      (step b (event.Ask connection request) kept)
+  stepped connection a b request kept same is = step_alike connection a b request kept same
+      (entered_alike has connection a b request same
+      (listed presents connection a b request same is))
 
-pub views_left : PresentAreOfTheirCell → ListingsLeaveTheViews
-views_left presents connection a b request kept same is = after_alike connection a b request kept
-    (step_alike connection a b request kept same (listed presents connection a b request same is))
+  pub equal_listings : EqualViewsGiveEqualListings
+  equal_listings connection a b request kept same is =
+      (stepped connection a b request kept same is).told
 
-pub equal_lists : PresentAreOfTheirCell → EqualViewsGiveEqualLists
-equal_lists presents connection a b [] same are = record { answers = refl; view = same }
-equal_lists presents connection a b (asked ∷ rest) same are =
-    let e = event.Ask connection asked.request in
-    let behind = equal_lists presents connection (after a e asked.kept) (after b e asked.kept) rest
-    (views_left presents connection a b asked.request asked.kept same are.0) are.1 in
-    record {
-      answers = λ i. equal_listings presents connection a b asked.request asked.kept same are.0 i
-          ∷ behind.answers i;
-      view = behind.view;
-    }
+  pub views_left : ListingsLeaveTheViews
+  views_left connection a b request kept same is =
+      after_alike connection a b request kept (stepped connection a b request kept same is)
+
+  pub equal_lists : EqualViewsGiveEqualLists
+  equal_lists connection a b [] same are = record { answers = refl; view = same }
+  equal_lists connection a b (asked ∷ rest) same are =
+      let e = event.Ask connection asked.request in
+      let behind = equal_lists connection (after a e asked.kept) (after b e asked.kept) rest
+      (views_left connection a b asked.request asked.kept same are.0) are.1 in
+      record {
+        answers = λ i. equal_listings connection a b asked.request asked.kept same are.0 i
+            ∷ behind.answers i;
+        view = behind.view;
+      }

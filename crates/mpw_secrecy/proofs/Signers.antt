@@ -144,11 +144,9 @@ module _ (shown : AskedAreShown) (apart : SignersStandApart) where
       subst (SignedIn s.run.phase) (sym is.left)
       (of_signed s.policy s.run s.waivers connection name _ is fit)
   fit-sign s connection sign_ask.Waivers change lines e fit =
-      absurd (listing_changes_nothing _ (signing.waivers_row s.policy s.run s.waivers connection)
-      change lines e)
+      absurd (listing_changes_nothing _ (signing.finished s.run) change lines e)
   fit-sign s connection sign_ask.Verdict change lines e fit =
-      absurd (listing_changes_nothing _
-      (signing.verdict_row s.policy s.wafer s.run s.waivers connection) change lines e)
+      absurd (listing_changes_nothing _ (signing.finished s.run) change lines e)
 
   -- ---- every state
 

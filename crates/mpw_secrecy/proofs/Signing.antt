@@ -14,20 +14,14 @@ use Rattle.mpw_markers.specs.Laws.{PlacesAreOfKeys}
 use Rattle.mpw_markers.specs.Markers.{key_of}
 use Rattle.mpw_requests.specs.declared.sign_off.MarkerName.{MarkerName}
 use Rattle.mpw_roles.specs.Hierarchy.{Name}
-use Rattle.mpw_permissions.specs.declared.permission.Object.TheVariants as object
-use Rattle.mpw_permissions.specs.declared.permission.Operation.{Operation}
-use Rattle.mpw_permissions.specs.declared.permission.Operation.TheVariants as operation
 use Rattle.mpw_rbac.specs.declared.session.Identity.{Identity}
 use Rattle.mpw_rbac.specs.declared.session.Session.{Session}
-use Rattle.mpw_rbac.specs.Policy.{Policy, identity_of, permits, session_of}
+use Rattle.mpw_rbac.specs.Policy.{Policy, identity_of, session_of}
 use Rattle.mpw_rbac.specs.Rows.{user_of}
 use Rattle.mpw_replies.specs.Rows.{◌>>=◌, changing, ended_by, needed}
-use Rattle.mpw_access.specs.Permitted.{permitted}
 use Rattle.mpw_replies.specs.Sight.{is_full}
 use Rattle.mpw_access.specs.Seen.{seen_by}
 use Rattle.mpw_replies.specs.declared.reply.Code.TheVariants as code
-use Rattle.mpw_replies.specs.declared.row.Ending.{Ending}
-use Rattle.mpw_replies.specs.declared.row.Ending.TheVariants as ending
 use Rattle.mpw_run.specs.declared.phase.Checked.{Checked}
 use Rattle.mpw_run.specs.declared.phase.Phase.{Phase}
 use Rattle.mpw_run.specs.declared.phase.Phase.TheVariants.{Idle, Cutting, Checking, Finished}
@@ -39,6 +33,8 @@ use Rattle.mpw_waiver.specs.Signing.{ask_test, least_own_cell, separation_test, 
 use Rattle.mpw_waiver.specs.Waivers.{signed_by, waiver_at}
 use Rattle.mpw_signoff.specs.Named.{Named, found_at, found_by, key_by, named_in, rule_place, with_place}
 use Rattle.mpw_signoff.specs.SigningOff as signing
+use Rattle.mpw_signoff.specs.declared.ending.SignOffEnding.{SignOffEnding}
+use Rattle.mpw_signoff.specs.declared.ending.SignOffEnding.TheVariants.{Refused}
 use Rattle.mpw_signoff.specs.declared.rows.ByUser.{ByUser}
 use Rattle.mpw_signoff.specs.declared.rows.WaiverChange.{WaiverChange}
 use Rattle.mpw_signoff.specs.declared.rows.WaiverChange.TheVariants.{Asked, Signed}
@@ -48,7 +44,6 @@ use Rattle.mpw_secrecy.specs.Secrecy.{IsOrderly}
 use Rattle.mpw_secrecy.specs.Views.{BookSeen, MarkerSeen, SameView, book_view, checked_view, marker_of, markers_seen, rules_seen}
 use Rattle.mpw_secrecy.proofs.Books.{names_from, rule_by_name}
 use Rattle.mpw_secrecy.proofs.Listings.{SameOutcome}
-use Rattle.mpw_secrecy.proofs.Parts.{allowed_tells, same_behind, same_permitted}
 use Rattle.mpw_secrecy.proofs.Places.{found_key, nowhere, only_at, put_here, put_there}
 use Rattle.mpw_secrecy.proofs.Waived.{changed_at, marker_with, seen_at_place, seen_nowhere, with_waiver}
 use Rattle.mpw_secrecy.proofs.SeenTests.{Test, Change, test_row, of_rule, of_book, row_seen, view_left, put_at, IsTold}
@@ -59,7 +54,7 @@ module _ {B : Type 0} (keys : PlacesAreOfKeys) (policy : Policy) (connection : �
     (behind : B → List (Option Waiver))
     (puts : (n : Named) → behind (end n) ≡ put_at change waivers n.place
     (user_of policy connection))
-    (test : Named → Result (Unit {0}) Ending) (seen_test : Test)
+    (test : Named → Result (Unit {0}) SignOffEnding) (seen_test : Test)
     (alike : (n : Named) → seen_test (marker_of f.planned.snapshot.shelf (user_of policy connection)
     n.marker (waiver_at waivers n.place)) ≡ test n)
     (is : IsBook f.book) (places : length waivers ≡ length f.book) where
@@ -75,10 +70,10 @@ module _ {B : Type 0} (keys : PlacesAreOfKeys) (policy : Policy) (connection : �
   abbrev markers : List MarkerSeen
   markers = markers_seen shelf seen user waivers 0 f.book
 
-  abbrev Gives : Result B Ending → Result Key Ending → Type 0
+  abbrev Gives : Result B SignOffEnding → Result Key SignOffEnding → Type 0
   Gives row told = IsTold policy connection (change user) (Finished f) waivers behind row told
 
-  abbrev tail : Named → Result B Ending
+  abbrev tail : Named → Result B SignOffEnding
   tail n = test n >>= (λ free. Ok (end n))
 
   abbrev new_at : ℕ → List (Option Waiver)
@@ -105,7 +100,7 @@ module _ {B : Type 0} (keys : PlacesAreOfKeys) (policy : Policy) (connection : �
 
   by_test : (key : Key) (n : Named) → slice_get f.book n.place ≡ Some n.marker
       → place_in f.book key ≡ Some n.place → key_of n.marker ≡ key
-      → (r : Result (Unit {0}) Ending) → Gives (r >>= (λ free. Ok (end n)))
+      → (r : Result (Unit {0}) SignOffEnding) → Gives (r >>= (λ free. Ok (end n)))
       (r >>= (λ passed. Ok key))
   by_test key n at e has (Err why) = refl
   by_test key n at e has (Ok x) =
@@ -118,7 +113,7 @@ module _ {B : Type 0} (keys : PlacesAreOfKeys) (policy : Policy) (connection : �
 
   by_full : (key : Key) (n : Named) → slice_get f.book n.place ≡ Some n.marker
       → place_in f.book key ≡ Some n.place → key_of n.marker ≡ key → (b : Bool)
-      → Gives (cond b (Ok n) (Err (ending.Refused code.NoMarker)) >>= tail)
+      → Gives (cond b (Ok n) (Err (Refused code.NoMarker)) >>= tail)
       (test_row seen_test key (cond b (Some
       (marker_of shelf user n.marker (waiver_at waivers n.place))) None))
   by_full key n at e has false = refl
@@ -130,7 +125,7 @@ module _ {B : Type 0} (keys : PlacesAreOfKeys) (policy : Policy) (connection : �
       → Gives (signing.if_shown seen (found_at f.book o) >>= tail)
       (test_row seen_test key (marker_with key markers))
   by_key key None e =
-      subst (λ o. Gives (Err (ending.Refused code.NoMarker)) (test_row seen_test key o))
+      subst (λ o. Gives (Err (Refused code.NoMarker)) (test_row seen_test key o))
       (sym (seen_nowhere shelf seen user key waivers 0 f.book (nowhere f.book key e))) refl
   by_key key (Some i) e =
       let found = keys f.book key i e in
@@ -187,16 +182,6 @@ unfolding least_own_cell
 sign_alike stock m who None = refl
 sign_alike stock m who (Some waiver) = refl
 
--- after a test that both have
-after_test : {B : Type 0} (policy : Policy) (connection : ℕ) (change : Change)
-    (waivers : List (Option Waiver)) (phase : Phase) (behind : B → List (Option Waiver))
-    (p : Result (Unit {0}) Ending) (row : Result B Ending) (told : Result Key Ending)
-    → IsTold policy connection change phase waivers behind row told
-    → IsTold policy connection change phase waivers behind (p >>= (λ allowed. row))
-    (p >>= (λ allowed. told))
-after_test policy connection change waivers phase behind (Ok x) row told is = is
-after_test policy connection change waivers phase behind (Err why) row told is = refl
-
 module _ (keys : PlacesAreOfKeys) (number : ℕ) (policy : Policy) (connection : ℕ)
     (waivers : List (Option Waiver)) (name : MarkerName) where
   abbrev after_by : (ByUser → WaiverChange) → ByUser → List (Option Waiver)
@@ -205,7 +190,7 @@ module _ (keys : PlacesAreOfKeys) (number : ℕ) (policy : Policy) (connection :
   waive_phase : (phase : Phase) → IsPhase number phase → length waivers ≡ book_size phase
       → IsTold policy connection (asked_by (user_of policy connection)) phase waivers
       (after_by Asked)
-      (needed code.NotFinished (findings phase)
+      (needed (Refused code.NotFinished) (findings phase)
       >>= (λ f. signing.full_marker policy connection f name
       >>= (λ n. signing.passes (ask_test (waiver_at waivers n.place))
       >>= (λ free. Ok (signing.by_user policy connection n)))))
@@ -222,7 +207,7 @@ module _ (keys : PlacesAreOfKeys) (number : ℕ) (policy : Policy) (connection :
   sign_phase : (phase : Phase) → IsPhase number phase → length waivers ≡ book_size phase
       → IsTold policy connection (signed_by (user_of policy connection)) phase waivers
       (after_by Signed)
-      (needed code.NotFinished (findings phase)
+      (needed (Refused code.NotFinished) (findings phase)
       >>= (λ f. signing.full_marker policy connection f name
       >>= (λ n. signing.apart f waivers n (user_of policy connection)
       >>= (λ free. Ok (signing.by_user policy connection n)))))
@@ -241,12 +226,12 @@ module _ (keys : PlacesAreOfKeys) (number : ℕ) (policy : Policy) (connection :
 
 -- ---- of a state
 
-abbrev told_of : Operation → Test → MarkerName → State → ℕ → Result Key Ending
-told_of op test name s connection = permitted s.policy connection op object.Desk
-    >>= (λ allowed. row_seen test name (book_view s.policy connection s.waivers s.run.phase))
+abbrev told_of : Test → MarkerName → State → ℕ → Result Key SignOffEnding
+told_of test name s connection =
+    row_seen test name (book_view s.policy connection s.waivers s.run.phase)
 
-abbrev IsToldOf : State → ℕ → (Name → Change) → (ByUser → WaiverChange) → Result ByUser Ending
-    → Result Key Ending → Type 0
+abbrev IsToldOf : State → ℕ → (Name → Change) → (ByUser → WaiverChange)
+    → Result ByUser SignOffEnding → Result Key SignOffEnding → Type 0
 IsToldOf s connection change put row told =
     IsTold s.policy connection (change (user_of s.policy connection)) s.run.phase s.waivers
     (λ by. signing.waivers_after s.waivers (put by)) row told
@@ -254,37 +239,20 @@ IsToldOf s connection change put row told =
 waive_told : PlacesAreOfKeys → (s : State) (connection : ℕ) (name : MarkerName) → IsOrderly s
     → IsToldOf s connection asked_by Asked
     (signing.waive_row s.policy s.run s.waivers connection name)
-    (told_of operation.Waive ask_seen name s connection)
+    (told_of ask_seen name s connection)
 unfolding signing.waive_row
 waive_told keys s connection name orderly =
-    after_test s.policy connection (asked_by (user_of s.policy connection)) s.waivers s.run.phase
-    (λ by. signing.waivers_after s.waivers (Asked by))
-    (permitted s.policy connection operation.Waive object.Desk)
-    (needed code.NotFinished (findings s.run.phase)
-    >>= (λ f. signing.full_marker s.policy connection f name
-    >>= (λ n. signing.passes (ask_test (waiver_at s.waivers n.place))
-    >>= (λ free. Ok (signing.by_user s.policy connection n)))))
-    (row_seen ask_seen name (book_view s.policy connection s.waivers s.run.phase))
-    (waive_phase keys s.run.number s.policy connection s.waivers name s.run.phase orderly.run
-    orderly.places)
+    waive_phase keys s.run.number s.policy connection s.waivers name s.run.phase orderly.run
+    orderly.places
 
 sign_told : PlacesAreOfKeys → (s : State) (connection : ℕ) (name : MarkerName) → IsOrderly s
     → IsToldOf s connection signed_by Signed
     (signing.sign_row s.policy s.run s.waivers connection name)
-    (told_of operation.Sign (sign_seen (user_of s.policy connection)) name s connection)
+    (told_of (sign_seen (user_of s.policy connection)) name s connection)
 unfolding signing.sign_row
 sign_told keys s connection name orderly =
-    after_test s.policy connection (signed_by (user_of s.policy connection)) s.waivers s.run.phase
-    (λ by. signing.waivers_after s.waivers (Signed by))
-    (permitted s.policy connection operation.Sign object.Desk)
-    (needed code.NotFinished (findings s.run.phase)
-    >>= (λ f. signing.full_marker s.policy connection f name
-    >>= (λ n. signing.apart f s.waivers n (user_of s.policy connection)
-    >>= (λ free. Ok (signing.by_user s.policy connection n)))))
-    (row_seen (sign_seen (user_of s.policy connection)) name
-    (book_view s.policy connection s.waivers s.run.phase))
-    (sign_phase keys s.run.number s.policy connection s.waivers name s.run.phase orderly.run
-    orderly.places)
+    sign_phase keys s.run.number s.policy connection s.waivers name s.run.phase orderly.run
+    orderly.places
 
 -- ---- of two states
 
@@ -302,28 +270,19 @@ same_user connection a b same =
     ∙ sym (user_seen b.policy (session_of b.policy connection))
 
 told_alike : (connection : ℕ) (a b : State) → SameView connection a b
-    → (op : Operation) (test : Name → Test) (name : MarkerName)
-    → told_of op (test (user_of a.policy connection)) name a connection
-    ≡ told_of op (test (user_of b.policy connection)) name b connection
-told_alike connection a b same op test name =
-    same_behind (permitted a.policy connection op object.Desk)
-    (permitted b.policy connection op object.Desk)
-    (λ allowed. row_seen (test (user_of a.policy connection)) name
-    (book_view a.policy connection a.waivers a.run.phase))
-    (λ allowed. row_seen (test (user_of b.policy connection)) name
-    (book_view b.policy connection b.waivers b.run.phase))
-    (same_permitted connection a b same op object.Desk)
-    (λ allowed is.
-    let inside = (allowed_tells op object.Desk (is_some (session_of a.policy connection))
-    (permits a.policy connection op object.Desk) allowed is).0 in
-    λ i. row_seen (test (same_user connection a b same i)) name ((same.sight inside).book i))
+    → is_some (session_of a.policy connection) ≡ true → (test : Name → Test) (name : MarkerName)
+    → told_of (test (user_of a.policy connection)) name a connection
+    ≡ told_of (test (user_of b.policy connection)) name b connection
+told_alike connection a b same is test name =
+    λ i. row_seen (test (same_user connection a b same i)) name ((same.sight is).book i)
 
 -- the outcome of a table that changes a waiver
-abbrev put_by : State → (ByUser → WaiverChange) → Result ByUser Ending → Outcome
-put_by s put row = outcome_by (λ e. e) (over_waivers s) s (changing put (λ by. []) row)
+abbrev put_by : State → (ByUser → WaiverChange) → Result ByUser SignOffEnding → Outcome
+put_by s put row =
+    outcome_by signing.ending_of (over_waivers s) s (changing put (λ by. []) row)
 
 both_alike : (connection : ℕ) (a b : State) → SameView connection a b → (change : Name → Change)
-    (put : ByUser → WaiverChange) (first second : Result ByUser Ending) (told : Result Key Ending)
+    (put : ByUser → WaiverChange) (first second : Result ByUser SignOffEnding) (told : Result Key SignOffEnding)
     → IsToldOf a connection change put first told → IsToldOf b connection change put second told
     → SameOutcome connection (put_by a put first) (put_by b put second)
 both_alike connection a b same change put (Ok x) (Ok y) (Ok key) of_a of_b = record {
@@ -344,7 +303,7 @@ both_alike connection a b same change put (Ok x) (Ok y) (Ok key) of_a of_b = rec
   };
 }
 both_alike connection a b same change put (Err x) (Err y) (Err why) of_a of_b = record {
-  told = ap (λ e. response.Told (ended_by e)) (of_a ∙ sym of_b);
+  told = ap (λ e. response.Told (ended_by (signing.ending_of e))) (of_a ∙ sym of_b);
   changes = refl;
   view = same;
 }
@@ -354,30 +313,32 @@ both_alike connection a b same change put (Ok x) (Err y) (Ok key) of_a of_b = ab
 both_alike connection a b same change put (Err x) (Ok y) (Err why) of_a of_b = absurd of_b
 
 pub waive_alike : PlacesAreOfKeys → (connection : ℕ) (a b : State) → IsOrderly a → IsOrderly b
-    → SameView connection a b → (name : MarkerName)
+    → SameView connection a b → is_some (session_of a.policy connection) ≡ true
+    → (name : MarkerName)
     → SameOutcome connection
     (put_by a Asked (signing.waive_row a.policy a.run a.waivers connection name))
     (put_by b Asked (signing.waive_row b.policy b.run b.waivers connection name))
-waive_alike keys connection a b orderly ordered same name =
+waive_alike keys connection a b orderly ordered same is name =
     let theirs = signing.waive_row b.policy b.run b.waivers connection name in
     both_alike connection a b same asked_by Asked
     (signing.waive_row a.policy a.run a.waivers connection name) theirs
-    (told_of operation.Waive ask_seen name a connection) (waive_told keys a connection name orderly)
+    (told_of ask_seen name a connection) (waive_told keys a connection name orderly)
     (subst (λ told. IsToldOf b connection asked_by Asked theirs told)
-    (sym (told_alike connection a b same operation.Waive (λ who. ask_seen) name))
+    (sym (told_alike connection a b same is (λ who. ask_seen) name))
     (waive_told keys b connection name ordered))
 
 pub sign_alike_in : PlacesAreOfKeys → (connection : ℕ) (a b : State) → IsOrderly a → IsOrderly b
-    → SameView connection a b → (name : MarkerName)
+    → SameView connection a b → is_some (session_of a.policy connection) ≡ true
+    → (name : MarkerName)
     → SameOutcome connection
     (put_by a Signed (signing.sign_row a.policy a.run a.waivers connection name))
     (put_by b Signed (signing.sign_row b.policy b.run b.waivers connection name))
-sign_alike_in keys connection a b orderly ordered same name =
+sign_alike_in keys connection a b orderly ordered same is name =
     let theirs = signing.sign_row b.policy b.run b.waivers connection name in
     both_alike connection a b same signed_by Signed
     (signing.sign_row a.policy a.run a.waivers connection name) theirs
-    (told_of operation.Sign (sign_seen (user_of a.policy connection)) name a connection)
+    (told_of (sign_seen (user_of a.policy connection)) name a connection)
     (sign_told keys a connection name orderly)
     (subst (λ told. IsToldOf b connection signed_by Signed theirs told)
-    (sym (told_alike connection a b same operation.Sign sign_seen name))
+    (sym (told_alike connection a b same is sign_seen name))
     (sign_told keys b connection name ordered))

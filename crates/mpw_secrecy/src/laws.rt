@@ -4,6 +4,7 @@ ghost use Rattle.mpw_secrecy.specs.Apart.{EveryStateIsSignedApart};
 ghost use Rattle.mpw_secrecy.specs.Clean.{CleanWafersMayStart};
 ghost use Rattle.mpw_secrecy.specs.Secrecy.{EqualViewsAreAnsweredAlike, EqualViewsGiveEqualAnswers, EqualViewsGiveEqualAnswersToLists, EqualViewsGiveEqualListings, EqualViewsGiveEqualLists, EqualViewsStayEqual, ListingsLeaveTheViews};
 
+use mpw_access::entering_is_by_the_need;
 use mpw_core::Core;
 use mpw_hier::shelves_have_their_numbers;
 use mpw_laws::{
@@ -20,6 +21,7 @@ pub fn equal_views_give_equal_listings()
     ensures lists { EqualViewsGiveEqualLists }
 {
     shelves_have_their_numbers();
+    entering_is_by_the_need();
 }
 
 /// The same holds of `waive` and `sign`: if a connection's sessions on two desks have the same view, both desks answer them identically.
@@ -31,6 +33,7 @@ pub fn equal_views_give_equal_answers()
     ensures lists { EqualViewsGiveEqualAnswersToLists }
 {
     shelves_have_their_numbers();
+    entering_is_by_the_need();
     places_are_of_their_keys();
     places_are_left();
 }

@@ -1,19 +1,17 @@
--- The sign-off requests for a finished run: each with its tests in order, and its result if all pass.
+-- The sign-off requests for a finished run: each with its tests in order, and its result if all pass. The
+-- guard was passed before.
 use Rattle.std.specs.Prelude.{ℕ, ◌==◌, Bool, false, List, [], ◌∷◌, map, Option, None, Some, Result, Ok, Err, if◌then◌else◌}
 use Rattle.mpw_deck.specs.Decks.{Deck}
 use Rattle.mpw_placings.specs.declared.placement.Placement.{Placement}
 use Rattle.mpw_placings.specs.Placements.{roots_of}
 use Rattle.mpw_tiles.specs.Snapshots.{Snapshot}
-use Rattle.mpw_permissions.specs.declared.permission.Operation.TheVariants as operation
-use Rattle.mpw_permissions.specs.declared.permission.Object.TheVariants as object
 use Rattle.mpw_rbac.specs.Policy.{Policy}
 use Rattle.mpw_rbac.specs.Rows.{user_of}
 use Rattle.mpw_requests.specs.declared.sign_off.MarkerName.{MarkerName}
 use Rattle.mpw_requests.specs.declared.sign_off.SignOffRequest.{SignOffRequest}
 use Rattle.mpw_requests.specs.declared.sign_off.SignOffRequest.TheVariants as ask
-use Rattle.mpw_replies.specs.Listing.{Listed, stored}
+use Rattle.mpw_replies.specs.Listing.{stored}
 use Rattle.mpw_replies.specs.Rows.{◌>>=◌, changing, listing, needed}
-use Rattle.mpw_access.specs.Permitted.{session_test, permitted}
 use Rattle.mpw_replies.specs.Sight.{is_full}
 use Rattle.mpw_access.specs.Seen.{seen_by}
 use Rattle.mpw_replies.specs.declared.reply.Line.{Line}
@@ -23,6 +21,8 @@ use Rattle.mpw_replies.specs.declared.reply.Denial.TheVariants as denial
 use Rattle.mpw_replies.specs.declared.row.Done.{Done}
 use Rattle.mpw_replies.specs.declared.row.Ending.{Ending}
 use Rattle.mpw_replies.specs.declared.row.Ending.TheVariants as ending
+use Rattle.mpw_signoff.specs.declared.ending.SignOffEnding.{SignOffEnding}
+use Rattle.mpw_signoff.specs.declared.ending.SignOffEnding.TheVariants.{Refused, Submitter, Asker}
 use Rattle.mpw_run.specs.declared.phase.Checked.{Checked}
 use Rattle.mpw_run.specs.Same.{same_snapshot}
 use Rattle.mpw_run.specs.Step.{Run, findings}
@@ -40,30 +40,36 @@ use Rattle.mpw_signoff.specs.WaiverLines.{lines_from}
 
 -- ---- tests
 
--- The named marker is in the book, and is full.
-abbrev pub if_full : List Bool → Named → Result Named Ending
-if_full seen n = if is_full seen n.marker then Ok n else Err (ending.Refused code.NoMarker)
+-- The denial or refusal of a test.
+abbrev pub ending_of : SignOffEnding → Ending
+ending_of (Refused why) = ending.Refused why
+ending_of (Submitter cell) = ending.Denied (denial.Submitter cell)
+ending_of Asker = ending.Denied denial.Asker
 
-abbrev pub if_shown : List Bool → Option Named → Result Named Ending
-if_shown seen None = Err (ending.Refused code.NoMarker)
+-- The named marker is in the book, and is full.
+abbrev pub if_full : List Bool → Named → Result Named SignOffEnding
+if_full seen n = if is_full seen n.marker then Ok n else Err (Refused code.NoMarker)
+
+abbrev pub if_shown : List Bool → Option Named → Result Named SignOffEnding
+if_shown seen None = Err (Refused code.NoMarker)
 if_shown seen (Some n) = if_full seen n
 
-unfoldable pub full_marker : Policy → ℕ → Checked → MarkerName → Result Named Ending
+unfoldable pub full_marker : Policy → ℕ → Checked → MarkerName → Result Named SignOffEnding
 full_marker policy connection f name =
     if_shown (seen_by policy connection f.planned.snapshot.shelf)
     (named_in f.planned.snapshot.deck.rules f.book name)
 
--- The denial or refusal if the test of a waiver fails.
-abbrev pub ending_of : WaiverFault → Ending
-ending_of fault.Known = ending.Refused code.Known
-ending_of fault.NoWaiver = ending.Refused code.NoWaiver
-ending_of (fault.Submitter cell) = ending.Denied (denial.Submitter cell)
-ending_of fault.Asker = ending.Denied denial.Asker
-
 -- The test of a waiver passes.
-abbrev pub passes : Result (Unit {0}) WaiverFault → Result (Unit {0}) Ending
+abbrev pub passes : Result (Unit {0}) WaiverFault → Result (Unit {0}) SignOffEnding
 passes (Ok x) = Ok x
-passes (Err fault) = Err (ending_of fault)
+passes (Err fault.Known) = Err (Refused code.Known)
+passes (Err fault.NoWaiver) = Err (Refused code.NoWaiver)
+passes (Err (fault.Submitter cell)) = Err (Submitter cell)
+passes (Err fault.Asker) = Err Asker
+
+-- The findings of a finished run.
+abbrev pub finished : Run → Result Checked SignOffEnding
+finished run = needed (Refused code.NotFinished) (findings run.phase)
 
 -- ---- decision tables
 
@@ -73,25 +79,25 @@ by_user policy connection n = record { place = n.place; user = user_of policy co
 
 -- The decision table of `waive`: a waiver of the marker may be asked for.
 unfoldable pub waive_row : Policy → Run → List (Option Waiver) → ℕ → MarkerName
-    → Result ByUser Ending
+    → Result ByUser SignOffEnding
 waive_row policy run waivers connection name = do
-  allowed ← permitted policy connection operation.Waive object.Desk
-  f ← needed code.NotFinished (findings run.phase)
+  f ← finished run
   n ← full_marker policy connection f name
   free ← passes (ask_test (waiver_at waivers n.place))
   Ok (by_user policy connection n)
 
--- The user passes the test of separation for the waiver of the marker.
-abbrev pub apart : Checked → List (Option Waiver) → Named → List ℕ → Result (Unit {0}) Ending
+-- The user may sign the waiver of the marker. The tests, in order: it was asked for, it isn't signed, the user
+-- submitted nothing that the marker touches, the user isn't who asked.
+abbrev pub apart : Checked → List (Option Waiver) → Named → List ℕ
+    → Result (Unit {0}) SignOffEnding
 apart f waivers n user =
     passes (sign_test f.planned.snapshot.shelf n.marker.met user (waiver_at waivers n.place))
 
--- The decision table of `sign`: the marker's waiver may be signed. `sign_test` says who may sign it.
+-- The decision table of `sign`: the marker's waiver may be signed by the user.
 unfoldable pub sign_row : Policy → Run → List (Option Waiver) → ℕ → MarkerName
-    → Result ByUser Ending
+    → Result ByUser SignOffEnding
 sign_row policy run waivers connection name = do
-  allowed ← permitted policy connection operation.Sign object.Desk
-  f ← needed code.NotFinished (findings run.phase)
+  f ← finished run
   n ← full_marker policy connection f name
   free ← apart f waivers n (user_of policy connection)
   Ok (by_user policy connection n)
@@ -102,13 +108,6 @@ waiver_lines policy connection f waivers =
     lines_from f.planned.snapshot.deck.rules (seen_by policy connection f.planned.snapshot.shelf)
     waivers
     0 f.book
-
--- The decision table of `waivers`.
-unfoldable pub waivers_row : Policy → Run → List (Option Waiver) → ℕ → Result (List Listed) Ending
-waivers_row policy run waivers connection = do
-  inside ← session_test policy connection
-  f ← needed code.NotFinished (findings run.phase)
-  Ok (map stored (waiver_lines policy connection f waivers))
 
 -- The deck and the placed submissions are, by value, those that the run checked. Labels of placements don't
 -- count, nor what was added to the shelf since.
@@ -128,13 +127,9 @@ open_line number = if number == 0 then line.Clean else line.Open number
 abbrev pub verdict_line : Bool → ℕ → Line
 verdict_line present number = if present then open_line number else line.Stale
 
--- The decision table of `verdict`.
-unfoldable pub verdict_row : Policy → Wafer → Run → List (Option Waiver) → ℕ
-    → Result (List Listed) Ending
-verdict_row policy wafer run waivers connection = do
-  allowed ← permitted policy connection operation.Verdict object.Desk
-  f ← needed code.NotFinished (findings run.phase)
-  Ok (stored (verdict_line (is_present wafer f.planned.snapshot) (unsigned waivers)) ∷ [])
+-- The verdict of a finished run.
+abbrev pub verdict_of : Wafer → List (Option Waiver) → Checked → Line
+verdict_of wafer waivers f = verdict_line (is_present wafer f.planned.snapshot) (unsigned waivers)
 
 -- ---- each request
 
@@ -145,12 +140,12 @@ waivers_after waivers (Signed by) = with_signer waivers by.place by.user
 
 -- The decision table of each request.
 abbrev pub row_of : Policy → Wafer → Run → List (Option Waiver) → ℕ → SignOffRequest
-    → Result (Done WaiverChange) Ending
+    → Result (Done WaiverChange) SignOffEnding
 row_of policy wafer run waivers connection (ask.Waive marker) =
     changing Asked (λ by. []) (waive_row policy run waivers connection marker)
 row_of policy wafer run waivers connection (ask.Sign marker) =
     changing Signed (λ by. []) (sign_row policy run waivers connection marker)
 row_of policy wafer run waivers connection ask.Waivers =
-    listing (λ lines. lines) (waivers_row policy run waivers connection)
+    listing (λ f. map stored (waiver_lines policy connection f waivers)) (finished run)
 row_of policy wafer run waivers connection ask.Verdict =
-    listing (λ lines. lines) (verdict_row policy wafer run waivers connection)
+    listing (λ f. stored (verdict_of wafer waivers f) ∷ []) (finished run)

@@ -1,9 +1,11 @@
 //! The answers to the sign-off requests.
-ghost use Rattle.std.specs.Prelude.{◌≡◌, []};
+ghost use Rattle.std.specs.Prelude.{◌≡◌, [], is_some, true};
+ghost use Rattle.mpw_rbac.specs.Policy.{session_of};
 ghost use Rattle.mpw_replies.specs.Rows.{Answers};
 ghost use Rattle.mpw_signoff.specs.SigningOff.{row_of};
 
-use crate::rows::{WaiverChange, sign, verdict, waive, waivers as waivers_row};
+use crate::ending::SignOffEnding;
+use crate::rows::{WaiverChange, finished, session_lines, sign, verdict_of, waive};
 use mpw_placings::Wafer;
 use mpw_rbac::Policy;
 use mpw_replies::{Done, Fault, Lines};
@@ -25,7 +27,7 @@ fn change(part: WaiverChange) -> Done<WaiverChange>
 /// What a sign-off request about a finished run's markers lists, or its change of the waivers. Cost of `waive` and `sign`: a comparison for
 /// each of the deck's rules, a binary search of the book, and a look-up for each submission that the marker touches. `waivers` costs a
 /// look-up for each submission on the run's shelf, and a pass over the book. `verdict` is linear in the placements, the rules and the
-/// markers.
+/// markers. The guard was passed: the connection has a session.
 ///
 /// # Errors
 /// The denial or refusal of the first test that fails, or out of memory.
@@ -37,7 +39,8 @@ pub fn answer_request(
     waivers: &Waivers,
     connection: u32,
     request: &SignOffRequest,
-) -> Result<Done<WaiverChange>, Fault>
+) -> Result<Done<WaiverChange>, Fault<SignOffEnding>>
+    requires session { is_some (session_of policy.now connection) ≡ true }
     ensures { Answers (λ done. done) result (row_of policy.now wafer.now run.now waivers.now connection request.now) }
 {
     match request {
@@ -50,12 +53,13 @@ pub fn answer_request(
             Ok(change(WaiverChange::Signed(by)))
         }
         SignOffRequest::Waivers => {
-            let lines = waivers_row(alloc, policy, run, waivers, connection)?;
+            let checked = finished(run)?;
+            let lines = session_lines(alloc, policy, connection, checked, waivers)?;
             Ok(Done::Lists(lines))
         }
         SignOffRequest::Verdict => {
-            let lines = verdict(alloc, policy, wafer, run, waivers, connection)?;
-            Ok(Done::Lists(lines))
+            let line = verdict_of(alloc, wafer, waivers, finished(run)?)?;
+            Ok(Done::Lists(Lines::of_line(alloc, line)?))
         }
     }
 }

@@ -5,6 +5,7 @@
 #![tactic(auto)]
 
 mod answer;
+mod ending;
 mod lines;
 mod named;
 mod present;
@@ -12,4 +13,5 @@ mod rows;
 mod sight;
 
 pub use answer::answer_request;
+pub use ending::SignOffEnding;
 pub use rows::{ByUser, WaiverChange};

@@ -1,23 +1,24 @@
-//! The decision tables of `waive`, `sign`, `waivers` and `verdict`.
+//! The decision tables of `waive` and `sign`, and the lines of `waivers` and `verdict`.
 //!
 //! Each is a function. It returns its value, or the test that failed, or out of memory. Its parts have the same form.
-ghost use Rattle.std.specs.Prelude.{◌≡◌, IfOk, map};
+ghost use Rattle.std.specs.Prelude.{◌≡◌, IfOk, is_some, map, true};
+ghost use Rattle.mpw_rbac.specs.Policy.{session_of};
 ghost use Rattle.mpw_replies.specs.Listing.{stored};
 ghost use Rattle.mpw_replies.specs.Rows.{Answers};
 ghost use Rattle.mpw_signoff.specs.Internal.Named.{seen_named};
 ghost use Rattle.mpw_signoff.specs.SigningOff as row;
 ghost use Rattle.mpw_waiver.specs.Waivers.{unsigned};
 
+use crate::ending::SignOffEnding;
 use crate::lines::waiver_lines;
 use crate::named::{Named, named_in};
 use crate::present::is_present;
 use crate::sight::is_shown;
-use mpw_access::{enter, need_session, seen_by};
+use mpw_access::{seen_by, session_user};
 use mpw_geom::Name;
-use mpw_permissions::{Object, Operation};
 use mpw_placings::Wafer;
 use mpw_rbac::Policy;
-use mpw_replies::{Code, Denial, Ending, Fault, Line, Lines, need};
+use mpw_replies::{Code, Fault, Line, Lines, need};
 use mpw_requests::MarkerName;
 use mpw_run::{Checked, Run};
 use mpw_waiver::{WaiverFault, Waivers};
@@ -41,6 +42,23 @@ pub enum WaiverChange {
     Signed(ByUser),
 }
 
+/// The fault of a refusal.
+fn refused(code: Code) -> Fault<SignOffEnding>
+    ensures { result ≡ Fault.Told (SignOffEnding.Refused code) }
+{
+    Fault::Told(SignOffEnding::Refused(code))
+}
+
+/// The findings of a finished run.
+pub(crate) fn finished(run: &Run) -> Result<&Checked, Fault<SignOffEnding>>
+    ensures { Answers (λ checked. checked.now) result (row.finished run.now) }
+{
+    need(
+        run.phase().findings(),
+        SignOffEnding::Refused(Code::NotFinished),
+    )
+}
+
 /// The named marker, if it is full. Cost: a look-up for each submission that it touches.
 #[tactic(auto, unfolding(crate::specs::SigningOff::full_marker))]
 fn full_marker<'a>(
@@ -48,38 +66,29 @@ fn full_marker<'a>(
     connection: u32,
     checked: &'a Checked,
     name: &MarkerName,
-) -> Result<Named<'a>, Fault>
+) -> Result<Named<'a>, Fault<SignOffEnding>>
     ensures { Answers seen_named result (row.full_marker policy.now connection checked.now name.now) }
 {
     let snapshot = checked.planned.snapshot();
     let Some(named) = named_in(snapshot.deck(), &checked.book, name) else {
-        return Err(Fault::from_code(Code::NoMarker));
+        return Err(refused(Code::NoMarker));
     };
     if !is_shown(policy, connection, snapshot.shelf(), named.marker)? {
-        return Err(Fault::from_code(Code::NoMarker));
+        return Err(refused(Code::NoMarker));
     }
     Ok(named)
 }
 
-/// The denial or refusal for a waiver's fault.
-fn ending_of(fault: WaiverFault) -> Ending
-    ensures { result ≡ row.ending_of fault }
-{
-    match fault {
-        WaiverFault::Known => Ending::Refused(Code::Known),
-        WaiverFault::NoWaiver => Ending::Refused(Code::NoWaiver),
-        WaiverFault::Submitter(cell) => Ending::Denied(Denial::Submitter(cell)),
-        WaiverFault::Asker => Ending::Denied(Denial::Asker),
-    }
-}
-
 /// The test of a waiver passes.
-fn passes(told: Result<(), WaiverFault>) -> Result<(), Fault>
+fn passes(told: Result<(), WaiverFault>) -> Result<(), Fault<SignOffEnding>>
     ensures { Answers (λ x. x) result (row.passes told) }
 {
     match told {
         Ok(()) => Ok(()),
-        Err(fault) => Err(Fault::Told(ending_of(fault))),
+        Err(WaiverFault::Known) => Err(refused(Code::Known)),
+        Err(WaiverFault::NoWaiver) => Err(refused(Code::NoWaiver)),
+        Err(WaiverFault::Submitter(cell)) => Err(Fault::Told(SignOffEnding::Submitter(cell))),
+        Err(WaiverFault::Asker) => Err(Fault::Told(SignOffEnding::Asker)),
     }
 }
 
@@ -91,13 +100,14 @@ pub(crate) fn waive(
     waivers: &Waivers,
     connection: u32,
     marker: &MarkerName,
-) -> Result<ByUser, Fault>
+) -> Result<ByUser, Fault<SignOffEnding>>
+    requires session { is_some (session_of policy.now connection) ≡ true }
     ensures { Answers (λ by. by) result (row.waive_row policy.now run.now waivers.now connection marker.now) }
 {
-    let user = enter(policy, connection, Operation::Waive, Object::Desk)?;
-    let checked = need(run.phase().findings(), Code::NotFinished)?;
+    let checked = finished(run)?;
     let place = full_marker(policy, connection, checked, marker)?.place;
     passes(waivers.may_ask(place))?;
+    let user = session_user(policy, connection).copy()?;
     Ok(ByUser { place, user })
 }
 
@@ -107,7 +117,7 @@ fn is_apart(
     waivers: &Waivers,
     named: &Named<'_>,
     user: &Name,
-) -> Result<(), Fault>
+) -> Result<(), Fault<SignOffEnding>>
     ensures { Answers (λ x. x) result (row.apart checked.now waivers.now (seen_named named.now) user.now) }
 {
     let shelf = checked.planned.snapshot().shelf();
@@ -123,21 +133,23 @@ pub(crate) fn sign(
     waivers: &Waivers,
     connection: u32,
     marker: &MarkerName,
-) -> Result<ByUser, Fault>
+) -> Result<ByUser, Fault<SignOffEnding>>
+    requires session { is_some (session_of policy.now connection) ≡ true }
     ensures { Answers (λ by. by) result (row.sign_row policy.now run.now waivers.now connection marker.now) }
 {
-    let user = enter(policy, connection, Operation::Sign, Object::Desk)?;
-    let checked = need(run.phase().findings(), Code::NotFinished)?;
+    let checked = finished(run)?;
     let named = full_marker(policy, connection, checked, marker)?;
-    is_apart(checked, waivers, &named, &user)?;
+    let user = session_user(policy, connection);
+    is_apart(checked, waivers, &named, user)?;
     Ok(ByUser {
         place: named.place,
-        user,
+        user: user.copy()?,
     })
 }
 
-/// The lines of the waivers of a finished run's markers that are full for the session.
-fn session_lines(
+/// The lines of the waivers of a finished run's markers that are full for the session. Cost: a look-up for each submission on the run's shelf,
+/// and a pass over the book.
+pub(crate) fn session_lines(
     alloc: Global,
     policy: &Policy,
     connection: u32,
@@ -153,22 +165,6 @@ fn session_lines(
     Lines::from_vec(alloc, lines)
 }
 
-/// The lines of `waivers`. Cost: a look-up for each submission on the run's shelf, and a pass over the book.
-#[tactic(auto, unfolding(crate::specs::SigningOff::waivers_row))]
-pub(crate) fn waivers(
-    alloc: Global,
-    policy: &Policy,
-    run: &Run,
-    waivers: &Waivers,
-    connection: u32,
-) -> Result<Lines, Fault>
-    ensures { Answers (λ lines. lines) result (row.waivers_row policy.now run.now waivers.now connection) }
-{
-    need_session(policy, connection)?;
-    let checked = need(run.phase().findings(), Code::NotFinished)?;
-    Ok(session_lines(alloc, policy, connection, checked, waivers)?)
-}
-
 /// The line of a verdict.
 fn verdict_line(present: bool, waivers: &Waivers) -> Line
     ensures { result ≡ row.verdict_line present (unsigned waivers.now) }
@@ -182,20 +178,15 @@ fn verdict_line(present: bool, waivers: &Waivers) -> Line
     }
 }
 
-/// The line of `verdict`. Linear in the placings, the rules and the markers.
-#[tactic(auto, unfolding(crate::specs::SigningOff::verdict_row))]
-pub(crate) fn verdict(
+/// The verdict of a finished run. Linear in the placings, the rules and the markers.
+pub(crate) fn verdict_of(
     alloc: Global,
-    policy: &Policy,
     wafer: &Wafer,
-    run: &Run,
     waivers: &Waivers,
-    connection: u32,
-) -> Result<Lines, Fault>
-    ensures { Answers (λ lines. lines) result (row.verdict_row policy.now wafer.now run.now waivers.now connection) }
+    checked: &Checked,
+) -> Result<Line, AllocError>
+    ensures { IfOk result (λ line. line ≡ row.verdict_of wafer.now waivers.now checked.now) }
 {
-    enter(policy, connection, Operation::Verdict, Object::Desk)?;
-    let checked = need(run.phase().findings(), Code::NotFinished)?;
     let present = is_present(alloc, wafer, checked.planned.snapshot())?;
-    Ok(Lines::of_line(alloc, verdict_line(present, waivers))?)
+    Ok(verdict_line(present, waivers))
 }

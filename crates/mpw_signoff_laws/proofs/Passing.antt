@@ -1,33 +1,29 @@
 -- What a decision table that gives a user has passed, and the tests of a waiver.
 use Rattle.std.proofs.Common.{◌≡◌, ℕ, cond, List, Option, None, Some, is_some, Result, Ok, Err, refl, ap}
 use Rattle.mpw_replies.proofs.RowParts.{passed}
-use Rattle.mpw_permissions.specs.declared.permission.Object.TheVariants as objects
-use Rattle.mpw_permissions.specs.declared.permission.Operation.{Operation}
-use Rattle.mpw_permissions.specs.declared.permission.Operation.TheVariants as operations
 use Rattle.mpw_rbac.specs.Policy.{Policy}
 use Rattle.mpw_rbac.specs.Rows.{user_of}
 use Rattle.mpw_requests.specs.declared.sign_off.MarkerName.{MarkerName}
 use Rattle.mpw_replies.specs.Rows.{needed}
-use Rattle.mpw_access.specs.Permitted.{permitted}
 use Rattle.mpw_replies.specs.declared.reply.Code.TheVariants as code
-use Rattle.mpw_replies.specs.declared.row.Ending.{Ending}
 use Rattle.mpw_run.specs.declared.phase.Checked.{Checked}
 use Rattle.mpw_run.specs.declared.phase.Phase.{Phase}
 use Rattle.mpw_run.specs.declared.phase.Phase.TheVariants.{Idle, Cutting, Checking, Finished}
 use Rattle.mpw_run.specs.Step.{Run, findings}
 use Rattle.mpw_waiver.specs.declared.fault.WaiverFault.{WaiverFault}
-use Rattle.mpw_waiver.specs.declared.fault.WaiverFault.TheVariants.{Known}
+use Rattle.mpw_waiver.specs.declared.fault.WaiverFault.TheVariants.{Known, NoWaiver, Submitter, Asker}
 use Rattle.mpw_waiver.specs.declared.waiver.Waiver.{Waiver}
 use Rattle.mpw_waiver.specs.Signing.{ask_test, least_own_cell, separation_test, sign_test}
 use Rattle.mpw_waiver.specs.Waivers.{waiver_at}
 use Rattle.mpw_signoff.specs.declared.rows.ByUser.{ByUser}
 use Rattle.mpw_signoff.specs.Named.{Named}
-use Rattle.mpw_signoff.specs.SigningOff.{full_marker, passes, apart, by_user, waive_row, sign_row}
+use Rattle.mpw_signoff.specs.declared.ending.SignOffEnding.TheVariants.{Refused}
+use Rattle.mpw_signoff.specs.SigningOff.{finished, full_marker, passes, apart, by_user, waive_row, sign_row}
 
 -- ---- decision tables that were passed
 
-pub finished_is : (phase : Phase) (f : Checked) → needed code.NotFinished (findings phase) ≡ Ok f
-    → phase ≡ Finished f
+pub finished_is : (phase : Phase) (f : Checked)
+    → needed (Refused code.NotFinished) (findings phase) ≡ Ok f → phase ≡ Finished f
 finished_is Idle f e = absurd cc
 finished_is (Cutting planned) f e = absurd cc
 finished_is (Checking c) f e = absurd cc
@@ -36,18 +32,16 @@ finished_is (Finished g) f e = let same : g ≡ f = cc in ap Finished same
 pub passes_is : (told : Result (Unit {0}) WaiverFault) (x : Unit {0}) → passes told ≡ Ok x
     → told ≡ Ok tt
 passes_is (Ok tt) x e = refl
-passes_is (Err fault) x e = absurd cc
-
-pub unit_ok : (r : Result (Unit {0}) Ending) (x : Unit {0}) → r ≡ Ok x → r ≡ Ok tt
-unit_ok (Ok tt) x e = refl
-unit_ok (Err why) x e = absurd cc
+passes_is (Err Known) x e = absurd cc
+passes_is (Err NoWaiver) x e = absurd cc
+passes_is (Err (Submitter cell)) x e = absurd cc
+passes_is (Err Asker) x e = absurd cc
 
 -- what a decision table that gives a user has passed
-pub record Passed (policy : Policy) (run : Run) (connection : ℕ) (asked : Operation)
-    (name : MarkerName) (by : ByUser) (Free : Checked → Named → Type 0) : Type 0 where
+pub record Passed (policy : Policy) (run : Run) (connection : ℕ) (name : MarkerName) (by : ByUser)
+    (Free : Checked → Named → Type 0) : Type 0 where
   pub f : Checked
   pub n : Named
-  pub allowed : permitted policy connection asked objects.Desk ≡ Ok tt
   pub phase : run.phase ≡ Finished f
   pub shown : full_marker policy connection f name ≡ Ok n
   pub free : Free f n
@@ -63,18 +57,15 @@ IsApart policy waivers connection f n =
 
 pub waive_passed : (policy : Policy) (run : Run) (waivers : List (Option Waiver)) (connection : ℕ)
     (name : MarkerName) (by : ByUser) → waive_row policy run waivers connection name ≡ Ok by
-    → Passed policy run connection operations.Waive name by (IsFree waivers)
+    → Passed policy run connection name by (IsFree waivers)
 unfolding waive_row
 waive_passed policy run waivers connection name by e =
-    let allowed =
-    passed (permitted policy connection operations.Waive objects.Desk) _ by e in
-    let f = passed (needed code.NotFinished (findings run.phase)) _ by allowed.2 in
+    let f = passed (finished run) _ by e in
     let n = passed (full_marker policy connection f.0 name) _ by f.2 in
     let free = passed (passes (ask_test (waiver_at waivers n.0.place))) _ by n.2 in
     record {
       f = f.0;
       n = n.0;
-      allowed = unit_ok (permitted policy connection operations.Waive objects.Desk) allowed.0 allowed.1;
       phase = finished_is run.phase f.0 f.1;
       shown = n.1;
       free = passes_is (ask_test (waiver_at waivers n.0.place)) free.0 free.1;
@@ -83,18 +74,15 @@ waive_passed policy run waivers connection name by e =
 
 pub sign_passed : (policy : Policy) (run : Run) (waivers : List (Option Waiver)) (connection : ℕ)
     (name : MarkerName) (by : ByUser) → sign_row policy run waivers connection name ≡ Ok by
-    → Passed policy run connection operations.Sign name by (IsApart policy waivers connection)
+    → Passed policy run connection name by (IsApart policy waivers connection)
 unfolding sign_row
 sign_passed policy run waivers connection name by e =
-    let allowed =
-    passed (permitted policy connection operations.Sign objects.Desk) _ by e in
-    let f = passed (needed code.NotFinished (findings run.phase)) _ by allowed.2 in
+    let f = passed (finished run) _ by e in
     let n = passed (full_marker policy connection f.0 name) _ by f.2 in
     let free = passed (apart f.0 waivers n.0 (user_of policy connection)) _ by n.2 in
     record {
       f = f.0;
       n = n.0;
-      allowed = unit_ok (permitted policy connection operations.Sign objects.Desk) allowed.0 allowed.1;
       phase = finished_is run.phase f.0 f.1;
       shown = n.1;
       free = passes_is

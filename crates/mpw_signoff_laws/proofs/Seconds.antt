@@ -1,19 +1,21 @@
 -- A second request is refused; who signs, and who asks.
-use Rattle.std.proofs.Common.{◌≡◌, ◌↔◌, ℕ, ◌<◌, Bool, true, false, cond, List, [], length, Option, None, Some, Result, Ok, Err, refl, sym, ap, subst, ◌∙◌, arith}
+use Rattle.std.proofs.Common.{◌≡◌, ℕ, ◌<◌, Bool, true, false, cond, List, [], length, Option, None, Some, Result, Ok, Err, refl, sym, ap, subst, ◌∙◌, arith}
 use Rattle.std.specs.Prelude.{slice_get}
 use Rattle.std.proofs.lemmas.Option.{slice_get_within}
+use Rattle.mpw_permissions.specs.declared.permission.Object.TheVariants as objects
 use Rattle.mpw_permissions.specs.declared.permission.Operation.TheVariants as operations
 use Rattle.mpw_rbac.specs.Policy.{Policy}
 use Rattle.mpw_rbac.specs.Rows.{user_of}
+use Rattle.mpw_requests.specs.declared.need.Need.TheVariants.{Permission}
 use Rattle.mpw_requests.specs.declared.sign_off.MarkerName.{MarkerName}
 use Rattle.mpw_requests.specs.declared.sign_off.SignOffRequest.TheVariants as ask
 use Rattle.mpw_replies.specs.Sight.{is_full}
+use Rattle.mpw_access.specs.Guard.{entered}
 use Rattle.mpw_access.specs.Seen.{seen_by}
 use Rattle.mpw_replies.specs.declared.reply.Code.TheVariants as code
 use Rattle.mpw_replies.specs.Rows.{changing}
-use Rattle.mpw_replies.specs.declared.row.Ending.{Ending}
-use Rattle.mpw_replies.specs.declared.row.Ending.TheVariants as ending
 use Rattle.mpw_replies.proofs.RowParts.{changed}
+use Rattle.mpw_replies.specs.declared.row.Done.TheVariants.{Changes}
 use Rattle.mpw_run.specs.declared.phase.Checked.{Checked}
 use Rattle.mpw_run.specs.declared.phase.Phase.{Phase}
 use Rattle.mpw_run.specs.declared.phase.Phase.TheVariants.{Finished}
@@ -29,8 +31,10 @@ use Rattle.mpw_signoff.specs.declared.rows.ByUser.{ByUser}
 use Rattle.mpw_signoff.specs.Named.{Named, named_in, found_at, found_by, with_place, key_by, rule_place}
 use Rattle.mpw_signoff.specs.declared.rows.WaiverChange.{WaiverChange}
 use Rattle.mpw_signoff.specs.declared.rows.WaiverChange.TheVariants.{Asked, Signed}
+use Rattle.mpw_signoff.specs.declared.ending.SignOffEnding.{SignOffEnding}
+use Rattle.mpw_signoff.specs.declared.ending.SignOffEnding.TheVariants.{Refused}
 use Rattle.mpw_signoff.specs.SigningOff.{by_user, if_full, if_shown, full_marker, passes, waive_row, sign_row, row_of, waivers_after}
-use Rattle.mpw_signoff_laws.specs.SignedOnce.{Reaches, IsAccepted, IsKnown, IsSignable, SignedExactly, IsAskable, AskedExactly, SecondSignaturesAreRefused, SecondAskersAreRefused}
+use Rattle.mpw_signoff_laws.specs.SignedOnce.{Reaches, IsSignable, SignedExactly, IsAskable, AskedExactly, SecondSignaturesAreRefused, SecondAskersAreRefused}
 use Rattle.mpw_signoff_laws.proofs.Places.{at_within, put_same}
 use Rattle.mpw_signoff_laws.proofs.Passing.{waive_passed, sign_passed, asks_none, signs_unsigned}
 
@@ -39,7 +43,7 @@ use Rattle.mpw_signoff_laws.proofs.Passing.{waive_passed, sign_passed, asks_none
 full_is : (seen : List Bool) (o n : Named) → if_full seen o ≡ Ok n → o ≡ n
 full_is seen o n e = go (is_full seen o.marker) e
   where
-    go : (b : Bool) → cond b (Ok o) (Err (ending.Refused code.NoMarker)) ≡ Ok n → o ≡ n
+    go : (b : Bool) → cond b (Ok o) (Err (Refused code.NoMarker)) ≡ Ok n → o ≡ n
     go true e = cc
     go false e = absurd cc
 
@@ -94,22 +98,21 @@ same_named policy other connection another f g name n m e a b =
 -- a signed waiver is `known` to a signer, and any waiver to an asker
 signed_known : (shelf : _) (met user : List ℕ) (o : Option Waiver) (asker signer : List ℕ)
     → o ≡ Some (record { asker = asker; signer = Some signer })
-    → passes (sign_test shelf met user o) ≡ Err (ending.Refused code.Known)
+    → passes (sign_test shelf met user o) ≡ Err (Refused code.Known)
 signed_known shelf met user o asker signer e = rw e refl
 
 asked_known : (o : Option Waiver) (waiver : Waiver) → o ≡ Some waiver
-    → passes (ask_test o) ≡ Err (ending.Refused code.Known)
+    → passes (ask_test o) ≡ Err (Refused code.Known)
 asked_known o waiver e = rw e refl
 
 module _ (policy : Policy) (run : Run) (waivers : List (Option Waiver)) (connection : ℕ)
     (name : MarkerName) where
   second_signs : (r : Reaches policy run connection operations.Sign name) (asker signer : List ℕ)
       → waiver_at waivers r.named.place ≡ Some (record { asker = asker; signer = Some signer })
-      → sign_row policy run waivers connection name ≡ Err (ending.Refused code.Known)
+      → sign_row policy run waivers connection name ≡ Err (Refused code.Known)
   unfolding sign_row
   second_signs r asker signer e =
       rw (
-        r.allowed,
         r.finished,
         r.shown,
         signed_known r.checked.planned.snapshot.shelf r.named.marker.met
@@ -118,11 +121,10 @@ module _ (policy : Policy) (run : Run) (waivers : List (Option Waiver)) (connect
 
   second_asks : (r : Reaches policy run connection operations.Waive name) (waiver : Waiver)
       → waiver_at waivers r.named.place ≡ Some waiver
-      → waive_row policy run waivers connection name ≡ Err (ending.Refused code.Known)
+      → waive_row policy run waivers connection name ≡ Err (Refused code.Known)
   unfolding waive_row
   second_asks r waiver e =
       rw (
-        r.allowed,
         r.finished,
         r.shown,
         asked_known (waiver_at waivers r.named.place) waiver e,
@@ -131,14 +133,18 @@ module _ (policy : Policy) (run : Run) (waivers : List (Option Waiver)) (connect
 pub second_signatures_are_refused : SecondSignaturesAreRefused
 second_signatures_are_refused policy other wafer later run waivers connection another name first r =
     let c =
-    changed Signed (λ by. []) (sign_row policy run waivers connection name) first.0 [] first.1
-    in
-    subst (λ w. IsKnown (row_of other later run (waivers_after waivers w) another (ask.Sign name)))
-    c.2 (ap (λ row. changing Signed (λ by. []) row) (known c.0 c.1))
+    changed Signed (λ by. []) (sign_row policy run waivers connection name) first.change []
+    first.is in
+    record {
+      allowed = r.allowed;
+      is = subst (λ w. row_of other later run (waivers_after waivers w) another (ask.Sign name)
+          ≡ Err (Refused code.Known)) c.2 (ap (λ row. changing Signed (λ by. []) row)
+          (known c.0 c.1));
+    }
   where
     known : (by : ByUser) → sign_row policy run waivers connection name ≡ Ok by
         → sign_row other run (with_signer waivers by.place by.user) another name
-        ≡ Err (ending.Refused code.Known)
+        ≡ Err (Refused code.Known)
     known by is =
         let p = sign_passed policy run waivers connection name by is in
         let u =
@@ -162,14 +168,18 @@ pub second_askers_are_refused : SecondAskersAreRefused
 second_askers_are_refused policy other wafer later run waivers connection another name long first
     r =
     let c =
-    changed Asked (λ by. []) (waive_row policy run waivers connection name) first.0 [] first.1
-    in
-    subst (λ w. IsKnown (row_of other later run (waivers_after waivers w) another (ask.Waive name)))
-    c.2 (ap (λ row. changing Asked (λ by. []) row) (known c.0 c.1))
+    changed Asked (λ by. []) (waive_row policy run waivers connection name) first.change []
+    first.is in
+    record {
+      allowed = r.allowed;
+      is = subst (λ w. row_of other later run (waivers_after waivers w) another (ask.Waive name)
+          ≡ Err (Refused code.Known)) c.2 (ap (λ row. changing Asked (λ by. []) row)
+          (known c.0 c.1));
+    }
   where
     known : (by : ByUser) → waive_row policy run waivers connection name ≡ Ok by
         → waive_row other run (with_asker waivers by.place by.user) another name
-        ≡ Err (ending.Refused code.Known)
+        ≡ Err (Refused code.Known)
     known by is =
         let p = waive_passed policy run waivers connection name by is in
         let at : by.place ≡ p.n.place = ap (λ (b : ByUser). b.place) p.is in
@@ -203,7 +213,6 @@ module _ (policy : Policy) (run : Run) (waivers : List (Option Waiver)) (connect
   signs s =
       let r = s.reaches in
       rw (
-        r.allowed,
         r.finished,
         r.shown,
         passes_of
@@ -211,15 +220,16 @@ module _ (policy : Policy) (run : Run) (waivers : List (Option Waiver)) (connect
             (user_of policy connection) (waiver_at waivers r.named.place)) s.passes,
       ) refl
 
-  signable : (by : ByUser) → sign_row policy run waivers connection name ≡ Ok by
+  signable : entered policy connection (Permission operations.Sign objects.Desk) ≡ Ok tt
+      → (by : ByUser) → sign_row policy run waivers connection name ≡ Ok by
       → IsSignable policy run waivers connection name
-  signable by is =
+  signable allowed by is =
       let p = sign_passed policy run waivers connection name by is in
       record {
         reaches = record {
           checked = p.f;
           named = p.n;
-          allowed = p.allowed;
+          allowed = allowed;
           finished = p.phase;
           shown = p.shown;
         };
@@ -233,46 +243,55 @@ module _ (policy : Policy) (run : Run) (waivers : List (Option Waiver)) (connect
   asks s =
       let r = s.reaches in
       rw (
-        r.allowed,
         r.finished,
         r.shown,
         passes_of (ask_test (waiver_at waivers r.named.place))
             (asks_of (waiver_at waivers r.named.place) s.none),
       ) refl
 
-  askable : (by : ByUser) → waive_row policy run waivers connection name ≡ Ok by
+  askable : entered policy connection (Permission operations.Waive objects.Desk) ≡ Ok tt
+      → (by : ByUser) → waive_row policy run waivers connection name ≡ Ok by
       → IsAskable policy run waivers connection name
-  askable by is =
+  askable allowed by is =
       let p = waive_passed policy run waivers connection name by is in
       record {
         reaches = record {
           checked = p.f;
           named = p.n;
-          allowed = p.allowed;
+          allowed = allowed;
           finished = p.phase;
           shown = p.shown;
         };
         none = asks_none (waiver_at waivers p.n.place) p.free;
       }
 
--- a table that changes the waivers is accepted exactly if it gives a user
-accepted : (put : ByUser → WaiverChange) (row : Result ByUser Ending)
-    → IsAccepted (changing put (λ by. []) row) ↔ ((by : ByUser) × (row ≡ Ok by))
-accepted put row = (
-  λ a. let c = changed put (λ by. []) row a.0 [] a.1 in (c.0, c.1),
-  λ b. (put b.0, ap (λ r. changing put (λ by. []) r) b.1),
-)
+-- a table that changes the waivers gives a user
+user_of_change : (put : ByUser → WaiverChange) (row : Result ByUser SignOffEnding)
+    (change : WaiverChange) → changing put (λ by. []) row ≡ Ok (Changes change [])
+    → (by : ByUser) × (row ≡ Ok by)
+user_of_change put row change is =
+    let c = changed put (λ by. []) row change [] is in (c.0, c.1)
 
 pub signed_exactly : SignedExactly
-signed_exactly policy wafer run waivers connection name =
-    let row = accepted Signed (sign_row policy run waivers connection name) in (
-      λ a. let b = row.0 a in signable policy run waivers connection name b.0 b.1,
-      λ s. row.1 (_, signs policy run waivers connection name s),
-    )
+signed_exactly policy wafer run waivers connection name = (
+  λ a.
+      let b = user_of_change Signed (sign_row policy run waivers connection name) a.change a.is in
+      signable policy run waivers connection name a.allowed b.0 b.1,
+  λ s. record {
+    allowed = s.reaches.allowed;
+    change = Signed (by_user policy connection s.reaches.named);
+    is = ap (λ r. changing Signed (λ by. []) r) (signs policy run waivers connection name s);
+  },
+)
 
 pub asked_exactly : AskedExactly
-asked_exactly policy wafer run waivers connection name =
-    let row = accepted Asked (waive_row policy run waivers connection name) in (
-      λ a. let b = row.0 a in askable policy run waivers connection name b.0 b.1,
-      λ s. row.1 (_, asks policy run waivers connection name s),
-    )
+asked_exactly policy wafer run waivers connection name = (
+  λ a.
+      let b = user_of_change Asked (waive_row policy run waivers connection name) a.change a.is in
+      askable policy run waivers connection name a.allowed b.0 b.1,
+  λ s. record {
+    allowed = s.reaches.allowed;
+    change = Asked (by_user policy connection s.reaches.named);
+    is = ap (λ r. changing Asked (λ by. []) r) (asks policy run waivers connection name s);
+  },
+)

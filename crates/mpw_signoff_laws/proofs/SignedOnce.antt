@@ -15,7 +15,7 @@ use Rattle.mpw_waiver.specs.Waivers.{waiver_at, with_asker, signed_by, with_sign
 use Rattle.mpw_signoff.specs.declared.rows.ByUser.{ByUser}
 use Rattle.mpw_signoff.specs.declared.rows.WaiverChange.{WaiverChange}
 use Rattle.mpw_signoff.specs.declared.rows.WaiverChange.TheVariants.{Asked, Signed}
-use Rattle.mpw_signoff.specs.SigningOff.{waive_row, sign_row, waivers_row, verdict_row, row_of, waivers_after}
+use Rattle.mpw_signoff.specs.SigningOff.{finished, waive_row, sign_row, row_of, waivers_after}
 use Rattle.mpw_signoff_laws.specs.SignedOnce.{SignaturesStay, IsAskedBy, AskersStay}
 use Rattle.mpw_signoff_laws.proofs.Places.{at_within, put_same, put_other, Same, same_place}
 use Rattle.mpw_signoff_laws.proofs.Passing.{Unsigned, waive_passed, sign_passed, asks_none, signs_unsigned}
@@ -118,10 +118,9 @@ module _ (policy : Policy) (wafer : Wafer) (run : Run) (waivers : List (Option W
       by_signing by (Leaves.elsewhere k) = k
       by_signing by (Leaves.here none k) = absurd (let both = sym none ∙ s in cc)
   signature_stays ask.Waivers is waiver signer e s =
-      absurd (listing_changes_nothing _ (waivers_row policy run waivers connection) change lines is)
+      absurd (listing_changes_nothing _ (finished run) change lines is)
   signature_stays ask.Verdict is waiver signer e s =
-      absurd (listing_changes_nothing _ (verdict_row policy wafer run waivers connection) change
-      lines is)
+      absurd (listing_changes_nothing _ (finished run) change lines is)
 
   asker_stays : (request : SignOffRequest)
       → MakesChange policy wafer run waivers connection request change lines
@@ -151,10 +150,9 @@ module _ (policy : Policy) (wafer : Wafer) (run : Run) (waivers : List (Option W
         by = a.by;
       }
   asker_stays ask.Waivers is asker a =
-      absurd (listing_changes_nothing _ (waivers_row policy run waivers connection) change lines is)
+      absurd (listing_changes_nothing _ (finished run) change lines is)
   asker_stays ask.Verdict is asker a =
-      absurd (listing_changes_nothing _ (verdict_row policy wafer run waivers connection) change
-      lines is)
+      absurd (listing_changes_nothing _ (finished run) change lines is)
 
 pub signatures_stay : SignaturesStay
 signatures_stay policy wafer run waivers connection request change lines is place =

@@ -1,20 +1,19 @@
 -- A waiver that was asked for and signed stays so: what sign-off requests leave of it.
-use Rattle.std.specs.Prelude.{◌≡◌, ◌↔◌, ℕ, List, [], length, Option, None, Some, Result, Ok, Err}
+use Rattle.std.specs.Prelude.{◌≡◌, ◌↔◌, ℕ, List, [], length, Option, None, Some, Ok, Err}
 use Rattle.mpw_permissions.specs.declared.permission.Operation.{Operation}
 use Rattle.mpw_permissions.specs.declared.permission.Operation.TheVariants as operation
 use Rattle.mpw_permissions.specs.declared.permission.Object.TheVariants as object
 use Rattle.mpw_rbac.specs.Policy.{Policy}
 use Rattle.mpw_rbac.specs.Rows.{user_of}
+use Rattle.mpw_requests.specs.declared.need.Need.TheVariants.{Permission}
 use Rattle.mpw_requests.specs.declared.sign_off.MarkerName.{MarkerName}
 use Rattle.mpw_requests.specs.declared.sign_off.SignOffRequest.{SignOffRequest}
 use Rattle.mpw_requests.specs.declared.sign_off.SignOffRequest.TheVariants as ask
+use Rattle.mpw_requests.specs.Needs.{sign_off_need}
 use Rattle.mpw_replies.specs.Listing.{Listed}
 use Rattle.mpw_replies.specs.declared.reply.Code.TheVariants as code
-use Rattle.mpw_replies.specs.declared.row.Done.{Done}
 use Rattle.mpw_replies.specs.declared.row.Done.TheVariants.{Changes}
-use Rattle.mpw_replies.specs.declared.row.Ending.{Ending}
-use Rattle.mpw_replies.specs.declared.row.Ending.TheVariants as ending
-use Rattle.mpw_access.specs.Permitted.{permitted}
+use Rattle.mpw_access.specs.Guard.{entered}
 use Rattle.mpw_placings.specs.declared.wafer.Wafer.{Wafer}
 use Rattle.mpw_run.specs.declared.phase.Checked.{Checked}
 use Rattle.mpw_run.specs.declared.phase.Phase.TheVariants.{Finished}
@@ -24,6 +23,7 @@ use Rattle.mpw_waiver.specs.Signing.{sign_test}
 use Rattle.mpw_waiver.specs.Waivers.{waiver_at}
 use Rattle.mpw_signoff.specs.declared.rows.WaiverChange.{WaiverChange}
 use Rattle.mpw_signoff.specs.Named.{Named}
+use Rattle.mpw_signoff.specs.declared.ending.SignOffEnding.TheVariants.{Refused}
 use Rattle.mpw_signoff.specs.SigningOff.{full_marker, row_of, waivers_after}
 
 -- ---- what the change of any request leaves
@@ -61,7 +61,7 @@ pub record Reaches (policy : Policy) (run : Run) (connection : ℕ) (asked : Ope
     (name : MarkerName) : Type 0 where
   pub checked : Checked
   pub named : Named
-  pub allowed : permitted policy connection asked object.Desk ≡ Ok tt
+  pub allowed : entered policy connection (Permission asked object.Desk) ≡ Ok tt
   pub finished : run.phase ≡ Finished checked
   pub shown : full_marker policy connection checked name ≡ Ok named
 
@@ -76,16 +76,20 @@ pub record IsSignable (policy : Policy) (run : Run) (waivers : List (Option Waiv
       (user_of policy connection) (waiver_at waivers reaches.named.place)
       ≡ Ok tt
 
--- A request is accepted: the waivers change, and the reply has no lines.
-abbrev pub IsAccepted : Result (Done WaiverChange) Ending → Type 0
-IsAccepted row = (change : WaiverChange) × (row ≡ Ok (Changes change []))
+-- A request is accepted: the connection has what the request needs, the waivers change, and the reply has no
+-- lines.
+pub record IsAccepted (policy : Policy) (wafer : Wafer) (run : Run) (waivers : List (Option Waiver))
+    (connection : ℕ) (request : SignOffRequest) : Type 0 where
+  pub allowed : entered policy connection (sign_off_need request) ≡ Ok tt
+  pub change : WaiverChange
+  pub is : row_of policy wafer run waivers connection request ≡ Ok (Changes change [])
 
 -- A `sign` is accepted from such a session, and from no other.
 abbrev pub SignedExactly : Type 0
 SignedExactly =
     (policy : Policy) (wafer : Wafer) (run : Run) (waivers : List (Option Waiver)) (connection : ℕ)
     (name : MarkerName)
-    → IsAccepted (row_of policy wafer run waivers connection (ask.Sign name))
+    → IsAccepted policy wafer run waivers connection (ask.Sign name)
     ↔ IsSignable policy run waivers connection name
 
 -- The same for asking: the marker has no waiver.
@@ -98,14 +102,16 @@ abbrev pub AskedExactly : Type 0
 AskedExactly =
     (policy : Policy) (wafer : Wafer) (run : Run) (waivers : List (Option Waiver)) (connection : ℕ)
     (name : MarkerName)
-    → IsAccepted (row_of policy wafer run waivers connection (ask.Waive name))
+    → IsAccepted policy wafer run waivers connection (ask.Waive name)
     ↔ IsAskable policy run waivers connection name
 
 -- ---- who comes second
 
--- A request is refused as known.
-abbrev pub IsKnown : Result (Done WaiverChange) Ending → Type 0
-IsKnown row = row ≡ Err (ending.Refused code.Known)
+-- A request is refused as known: the connection has what the request needs, and the decision table refuses it.
+pub record IsKnown (policy : Policy) (wafer : Wafer) (run : Run) (waivers : List (Option Waiver))
+    (connection : ℕ) (request : SignOffRequest) : Type 0 where
+  pub allowed : entered policy connection (sign_off_need request) ≡ Ok tt
+  pub is : row_of policy wafer run waivers connection request ≡ Err (Refused code.Known)
 
 -- After a marker's waiver was signed, nobody else can sign it, whatever the policy is then: a session that
 -- reaches it is refused.
@@ -113,9 +119,9 @@ abbrev pub SecondSignaturesAreRefused : Type 0
 SecondSignaturesAreRefused =
     (policy other : Policy) (wafer later : Wafer) (run : Run) (waivers : List (Option Waiver))
     (connection another : ℕ) (name : MarkerName)
-    → (signed : IsAccepted (row_of policy wafer run waivers connection (ask.Sign name)))
+    → (signed : IsAccepted policy wafer run waivers connection (ask.Sign name))
     → Reaches other run another operation.Sign name
-    → IsKnown (row_of other later run (waivers_after waivers signed.0) another (ask.Sign name))
+    → IsKnown other later run (waivers_after waivers signed.change) another (ask.Sign name)
 
 -- After a waiver of a marker was asked for, nobody else can ask for one, if each marker of the book has an
 -- entry for its waiver.
@@ -123,6 +129,6 @@ abbrev pub SecondAskersAreRefused : Type 0
 SecondAskersAreRefused =
     (policy other : Policy) (wafer later : Wafer) (run : Run) (waivers : List (Option Waiver))
     (connection another : ℕ) (name : MarkerName) → length waivers ≡ book_size run.phase
-    → (asked : IsAccepted (row_of policy wafer run waivers connection (ask.Waive name)))
+    → (asked : IsAccepted policy wafer run waivers connection (ask.Waive name))
     → Reaches other run another operation.Waive name
-    → IsKnown (row_of other later run (waivers_after waivers asked.0) another (ask.Waive name))
+    → IsKnown other later run (waivers_after waivers asked.change) another (ask.Waive name)

@@ -1,5 +1,5 @@
 -- The listing of a check is the reply of a desk.
-use Rattle.std.proofs.Common.{◌≡◌, ◌∙◌, ℕ, Bool, true, false, [], ◌∷◌, Option, None, Some, Ok, refl, sym, ap}
+use Rattle.std.proofs.Common.{◌≡◌, ◌∙◌, ℕ, Bool, true, false, [], ◌∷◌, Option, None, Some, refl, sym, ap}
 use Rattle.std.specs.Prelude.{is_some}
 use Rattle.std.specs.Option.{option_map_or}
 use Rattle.std.proofs.lemmas.Bool.{true≢false}
@@ -9,16 +9,18 @@ use Rattle.mpw_hier.specs.Shelved.{ShapesAreOfEarlier}
 use Rattle.mpw_job.specs.Laws.{EachMarkerMeetsSome}
 use Rattle.mpw_check.specs.Drawn.{offered}
 use Rattle.mpw_listing.specs.Keys.{WholeKeysAreNumbers}
-use Rattle.mpw_events.specs.Step.{State, outcome_by, over_run}
-use Rattle.mpw_rbac.specs.Policy.{Policy, session_of}
-use Rattle.mpw_replies.specs.Rows.{listing}
+use Rattle.mpw_events.specs.Step.{State, outcome_of}
+use Rattle.mpw_events.specs.declared.event.Response.TheVariants as response
+use Rattle.mpw_rbac.specs.Policy.{session_of}
 use Rattle.mpw_replies.specs.Sight.{book_lines}
 use Rattle.mpw_replies.specs.declared.reply.Reply.TheVariants as reply
 use Rattle.mpw_reply_text.specs.Reply.{reply_text}
 use Rattle.mpw_run.specs.declared.phase.Checked.{Checked}
-use Rattle.mpw_run.specs.Step.{Run, findings}
+use Rattle.mpw_requests.specs.declared.request.Request.TheVariants as group
+use Rattle.mpw_requests.specs.declared.run.RunRequest.TheVariants.{Markers}
+use Rattle.mpw_run.specs.Step.{findings}
 use Rattle.mpw_tiles.specs.Snapshots.{Snapshot}
-use Rattle.mpw_wafer.specs.Run.Checking.{checked_lines, markers}
+use Rattle.mpw_wafer.specs.Run.Checking.{checked_lines}
 use Rattle.mpw_text_laws.specs.Replies.{DesksListAsChecks, ListingsAreReplies}
 use Rattle.mpw_text_laws.proofs.Lines.{reply_is}
 use Rattle.mpw_text_laws.proofs.Touched.{touch_first}
@@ -41,11 +43,11 @@ some_from : {S : Type 0} (g : S → Bool) (o : Option S) → option_map_or g o f
 some_from g None e = absurd (true≢false (sym e))
 some_from g (Some session) e = refl
 
-markers_are : (policy : Policy) (run : Run) (connection : ℕ) (f : Checked)
-    → is_some (session_of policy connection) ≡ true → findings run.phase ≡ Some f
-    → markers policy run connection ≡ Ok (checked_lines policy connection f)
-unfolding markers
-markers_are policy run connection f session found = rw (session, found) refl
+desk_lists : (state : State) (connection : ℕ) (f : Checked)
+    → is_some (session_of state.policy connection) ≡ true → findings state.run.phase ≡ Some f
+    → (outcome_of state connection (group.Run Markers)).response
+    ≡ response.Told (reply.Ok (checked_lines state.policy connection f))
+desk_lists state connection f session found = rw (session, found) refl
 
 pub desks_list : WholeKeysAreNumbers → ShapesAreOfEarlier → EachMarkerMeetsSome
     → DesksListAsChecks
@@ -54,9 +56,7 @@ desks_list whole origins meets state connection f s found of =
     let policy = state.policy in
     let rules = f.planned.snapshot.deck.rules in (
       reply.Ok (checked_lines policy connection f),
-      ap (λ row. (outcome_by (λ e. e) (over_run state) state (listing (λ lines. lines) row)).response)
-          (markers_are policy state.run connection f
-          (some_from _ (session_of policy connection) of.readable) found),
+      desk_lists state connection f (some_from _ (session_of policy connection) of.readable) found,
       ap (λ shelf. reply_text
           (reply.Ok (book_lines rules shelf (seen_by policy connection shelf) f.book)))
           of.alone

@@ -1,6 +1,5 @@
 -- A law of the requests of the wafer.
-use Rattle.std.specs.Prelude.{◌≡◌, ℕ, List, Ok}
-use Rattle.mpw_rbac.specs.Policy.{Policy}
+use Rattle.std.specs.Prelude.{◌≡◌, List, Ok}
 use Rattle.mpw_hier.specs.declared.submission.Submission.{Submission}
 use Rattle.mpw_placings.specs.Placements.{ArePlacings}
 use Rattle.mpw_requests.specs.declared.wafer.WaferRequest.{WaferRequest}
@@ -12,8 +11,8 @@ use Rattle.mpw_wafer.specs.Wafers.{row_of}
 -- If the placements fit the shelf, then so do those of each wafer that a request changes it to.
 abbrev pub ChangesKeepPlacings : Type 0
 ChangesKeepPlacings =
-    (policy : Policy) (shelf : List Submission) (wafer : Wafer) (connection : ℕ)
-    (request : WaferRequest) (next : Wafer) (lines : List Listed)
+    (shelf : List Submission) (wafer : Wafer) (request : WaferRequest) (next : Wafer)
+    (lines : List Listed)
     → ArePlacings shelf wafer.placings
-    → row_of policy shelf wafer connection request ≡ Ok (Changes next lines)
+    → row_of shelf wafer request ≡ Ok (Changes next lines)
     → ArePlacings shelf next.placings

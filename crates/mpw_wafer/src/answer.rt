@@ -10,8 +10,7 @@ use mpw_deck::Deck;
 use mpw_geom::Name;
 use mpw_hier::Shelf;
 use mpw_placings::{Placings, Wafer};
-use mpw_rbac::Policy;
-use mpw_replies::{Done, Fault, Line, Lines};
+use mpw_replies::{Code, Done, Fault, Line, Lines};
 use mpw_requests::WaferRequest;
 use std::alloc::{AllocError, Global};
 
@@ -56,16 +55,14 @@ fn with_deck(wafer: &Wafer, deck: Deck) -> Result<Done<Wafer>, AllocError>
 /// What a request of the wafer changes: the new wafer. Linear in the placements, or constant time for a deck that was read.
 ///
 /// # Errors
-/// The denial or refusal of the first test that fails, or out of memory.
+/// The refusal of the first test that fails, or out of memory.
 pub fn answer_request(
     alloc: Global,
-    policy: &Policy,
     shelf: &Shelf,
     wafer: &Wafer,
-    connection: u32,
     request: &WaferRequest,
-) -> Result<Done<Wafer>, Fault>
-    ensures { Answers (λ done. done) result (row_of policy.now shelf.now wafer.now connection request.now) }
+) -> Result<Done<Wafer>, Fault<Code>>
+    ensures { Answers (λ done. done) result (row_of shelf.now wafer.now request.now) }
 {
     let old = &wafer.placings;
     match request {
@@ -74,16 +71,16 @@ pub fn answer_request(
             label,
             placing,
         } => {
-            let placings = place(alloc, policy, shelf, old, connection, cell, label, *placing)?;
+            let placings = place(alloc, shelf, old, cell, label, *placing)?;
             let lines = version_lines(alloc, &placings, shelf, cell, label)?;
             Ok(with_placings(wafer, placings, lines)?)
         }
         WaferRequest::Unplace { cell, label } => {
-            let placings = unplace(alloc, policy, old, connection, cell, label)?;
+            let placings = unplace(alloc, old, cell, label)?;
             Ok(with_placings(wafer, placings, Lines::none())?)
         }
         WaferRequest::Deck { text } => {
-            let deck = deck(alloc, policy, connection, text)?;
+            let deck = deck(alloc, text)?;
             Ok(with_deck(wafer, deck)?)
         }
     }

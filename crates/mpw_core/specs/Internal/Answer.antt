@@ -35,21 +35,21 @@ abbrev pub ended : {A : Type 0} → Result A Refusal → Result A Ending
 ended (Ok x) = Ok x
 ended (Err refusal) = Err (ending_of refusal)
 
-abbrev pub fault_of : PolicyFault → Fault
+abbrev pub fault_of : PolicyFault → Fault Ending
 fault_of (policy_fault.Refused refusal) = fault.Told (ending_of refusal)
 fault_of policy_fault.Memory = fault.Memory
 
--- what a group of requests made of its decision table gives the outcome, if its changed part goes where
--- `over` says, and the part fits
-abbrev pub ComesTo : {P : Type 0} → (P → State) → (P → Type 0) → State → Result (Done P) Fault
-    → Outcome → Type 0
-ComesTo over fits state (Ok (Lists lines)) outcome =
+-- what a group of requests made of its decision table gives the outcome, if what ended it is told as `ending`
+-- says, its changed part goes where `over` says, and the part fits
+abbrev pub ComesTo : {E P : Type 0} → (E → Ending) → (P → State) → (P → Type 0) → State
+    → Result (Done P) (Fault E) → Outcome → Type 0
+ComesTo ending over fits state (Ok (Lists lines)) outcome =
     outcome ≡ no_change (response.Told (reply.Ok lines)) state
-ComesTo over fits state (Ok (Changes part lines)) outcome =
+ComesTo ending over fits state (Ok (Changes part lines)) outcome =
     (outcome ≡ acceptance lines (over part)) × fits part
-ComesTo over fits state (Err (fault.Told ending)) outcome =
-    outcome ≡ no_change (response.Told (ended_by ending)) state
-ComesTo over fits state (Err fault.Memory) outcome = ⊤
+ComesTo ending over fits state (Err (fault.Told e)) outcome =
+    outcome ≡ no_change (response.Told (ended_by (ending e))) state
+ComesTo ending over fits state (Err fault.Memory) outcome = ⊤
 
 -- the state with a prepared change of the run, which removes the waivers
 abbrev pub with_run : State → RunPart → State

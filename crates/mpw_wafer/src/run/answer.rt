@@ -6,11 +6,11 @@ ghost use Rattle.mpw_wafer.specs.Run.Answers.{Stands};
 ghost use Rattle.mpw_wafer.specs.Run.Checking.{row_of};
 
 use crate::run::begin::begin;
-use crate::run::rows::{leave, markers, status};
+use crate::run::rows::{checked_lines, goes_on, phase_line};
 use mpw_hier::Shelf;
 use mpw_placings::Wafer;
 use mpw_rbac::Policy;
-use mpw_replies::{Done, Fault, Line, Lines};
+use mpw_replies::{Code, Done, Fault, Line, Lines, need};
 use mpw_requests::RunRequest;
 use mpw_run::{Prepared, Run};
 use std::alloc::Global;
@@ -28,7 +28,7 @@ pub enum NextRun {
 /// tiles. `markers` costs a look-up for each submission on the run's shelf, and a listing of the run's book.
 ///
 /// # Errors
-/// The denial or refusal of the first test that fails, or out of memory.
+/// The refusal of the first test that fails, or out of memory.
 pub fn answer_request(
     alloc: Global,
     policy: &Policy,
@@ -37,27 +37,30 @@ pub fn answer_request(
     run: &Run,
     connection: u32,
     request: &RunRequest,
-) -> Result<Done<NextRun>, Fault>
+) -> Result<Done<NextRun>, Fault<Code>>
     requires placings { ArePlacings shelf.now wafer.now.placings }
     requires counted { run.now.number + 1 < 2 ^ 32 }
     ensures { AnswersBy (Stands run.now) result (row_of policy.now shelf.now wafer.now run.now connection request.now) }
 {
     match request {
         RunRequest::Run => {
-            let planned = begin(alloc, policy, shelf, wafer, run, connection)?;
+            let planned = begin(alloc, shelf, wafer, run)?;
             Ok(Done::Changes {
                 lines: Lines::of_line(alloc, Line::Run(run.number() + 1))?,
                 part: NextRun::Start(run.prepare_start(planned)),
             })
         }
         RunRequest::Cancel => {
-            leave(policy, run, connection)?;
+            goes_on(run.phase())?;
             Ok(Done::Changes {
                 part: NextRun::Cancel,
                 lines: Lines::none(),
             })
         }
-        RunRequest::Status => Ok(Done::Lists(status(alloc, policy, run, connection)?)),
-        RunRequest::Markers => Ok(Done::Lists(markers(alloc, policy, run, connection)?)),
+        RunRequest::Status => Ok(Done::Lists(Lines::of_line(alloc, phase_line(run))?)),
+        RunRequest::Markers => {
+            let checked = need(run.phase().findings(), Code::NotFinished)?;
+            Ok(Done::Lists(checked_lines(alloc, policy, connection, checked)?))
+        }
     }
 }

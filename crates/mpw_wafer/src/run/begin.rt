@@ -7,12 +7,9 @@ ghost use Rattle.mpw_placings.specs.Placements.{ArePlacings, roots_of};
 ghost use Rattle.mpw_replies.specs.Rows.{Answers, needed};
 ghost use Rattle.mpw_tiles.specs.Snapshots.{AreRoots, shown};
 
-use mpw_access::enter;
 use mpw_deck::Deck;
 use mpw_hier::Shelf;
-use mpw_permissions::{Object, Operation};
 use mpw_placings::{Placings, Wafer};
-use mpw_rbac::Policy;
 use mpw_replies::{Code, Fault};
 use mpw_run::{Phase, Planned, Run};
 use mpw_tiles::Snapshot;
@@ -20,24 +17,24 @@ use mpw_walk::roots_show_what_their_submissions_do;
 use std::alloc::{AllocError, Global};
 
 /// No run is going on.
-fn rest(phase: &Phase) -> Result<(), Fault>
+fn rest(phase: &Phase) -> Result<(), Fault<Code>>
     ensures { Answers (λ x. x) result (row.at_rest phase.now) }
 {
     match phase {
         Phase::Idle => Ok(()),
-        Phase::Cutting(_) => Err(Fault::from_code(Code::Running)),
-        Phase::Checking(_) => Err(Fault::from_code(Code::Running)),
+        Phase::Cutting(_) => Err(Fault::Told(Code::Running)),
+        Phase::Checking(_) => Err(Fault::Told(Code::Running)),
         Phase::Finished(_) => Ok(()),
     }
 }
 
 /// The deck, if there is one.
-fn deck(deck: &Option<Deck>) -> Result<Deck, Fault>
+fn deck(deck: &Option<Deck>) -> Result<Deck, Fault<Code>>
     ensures { Answers (λ deck. deck) result (needed Code.NoDeck deck.now) }
 {
     match deck {
         Some(deck) => Ok(deck.copy()?),
-        None => Err(Fault::from_code(Code::NoDeck)),
+        None => Err(Fault::Told(Code::NoDeck)),
     }
 }
 
@@ -70,18 +67,18 @@ fn shape_count(snapshot: &Snapshot) -> u64
 }
 
 /// The snapshot with the plan of its tiles. Linear in its roots and rules.
-fn plan(snapshot: Snapshot) -> Result<Planned, Fault>
+fn plan(snapshot: Snapshot) -> Result<Planned, Fault<Code>>
     ensures { Answers (λ planned. planned) result (row.planning snapshot) }
 {
     if shape_count(&snapshot) == 0 {
-        return Err(Fault::from_code(Code::Empty));
+        return Err(Fault::Told(Code::Empty));
     }
     match Planned::of(snapshot) {
         Some(planned) => {
             planned.is_planned();
             Ok(planned)
         }
-        None => Err(Fault::from_code(Code::Tiles)),
+        None => Err(Fault::Told(Code::Tiles)),
     }
 }
 
@@ -89,16 +86,13 @@ fn plan(snapshot: Snapshot) -> Result<Planned, Fault>
 #[tactic(auto, unfolding(crate::specs::Run::Checking::run_row))]
 pub(crate) fn begin(
     alloc: Global,
-    policy: &Policy,
     shelf: &Shelf,
     wafer: &Wafer,
     run: &Run,
-    connection: u32,
-) -> Result<Planned, Fault>
+) -> Result<Planned, Fault<Code>>
     requires { ArePlacings shelf.now wafer.now.placings }
-    ensures { Answers (λ planned. planned) result (row.run_row policy.now shelf.now wafer.now run.now connection) }
+    ensures { Answers (λ planned. planned) result (row.run_row shelf.now wafer.now run.now) }
 {
-    enter(policy, connection, Operation::Run, Object::Desk)?;
     rest(run.phase())?;
     let deck = deck(&wafer.deck)?;
     let snapshot = snapshot(alloc, deck, &wafer.placings, shelf)?;

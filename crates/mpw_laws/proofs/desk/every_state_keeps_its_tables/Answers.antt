@@ -7,45 +7,28 @@ use Rattle.mpw_laws.proofs.KeptLemmas.{kept-history}
 use Rattle.mpw_laws.proofs.desk.every_state_keeps_its_tables.Goals as goal
 
 pub returns : goal.returns
-returns c = λ officer digest calls. kept-history AreTablesSound keeps
-    c.each_request_keeps_the_tables.ensures.end_session
-    c.each_request_keeps_the_tables.ensures.end_sessions officer digest calls
-    (c.each_request_keeps_the_tables.ensures.new_desk officer digest)
-  where
-    keeps : (connection : ℕ) (request : PolicyRequest)
-        → KeepsTables (λ p. row_of p connection request)
-    keeps connection (Open user digest) = c.each_request_keeps_the_tables.ensures.open_session
-        connection user
-        digest
-    keeps connection Close = c.each_request_keeps_the_tables.ensures.close_session connection
-    keeps connection (Activate role) = c.each_request_keeps_the_tables.ensures.activate connection
-        role
-    keeps connection (DropRole role) = c.each_request_keeps_the_tables.ensures.drop_role connection
-        role
-    keeps connection (AddUser user digest) = c.each_request_keeps_the_tables.ensures.adduser
-        connection user
-        digest
-    keeps connection (DelUser user) = c.each_request_keeps_the_tables.ensures.deluser connection
-        user
-    keeps connection (AddRole role) = c.each_request_keeps_the_tables.ensures.addrole connection
-        role
-    keeps connection (DelRole role) = c.each_request_keeps_the_tables.ensures.delrole connection
-        role
-    keeps connection (Assign user role) = c.each_request_keeps_the_tables.ensures.assign connection
-        user role
-    keeps connection (Deassign user role) = c.each_request_keeps_the_tables.ensures.deassign
-        connection user
-        role
-    keeps connection (Grant grant) = c.each_request_keeps_the_tables.ensures.grant connection grant
-    keeps connection (Revoke grant) = c.each_request_keeps_the_tables.ensures.revoke connection
-        grant
-    keeps connection (Inherit senior junior) = c.each_request_keeps_the_tables.ensures.inherit
-        connection senior
-        junior
-    keeps connection (Uninherit senior junior) = c.each_request_keeps_the_tables.ensures.uninherit
-        connection
-        senior junior
-    keeps connection (Ssd set) = c.each_request_keeps_the_tables.ensures.ssd connection set
-    keeps connection (Dsd set) = c.each_request_keeps_the_tables.ensures.dsd connection set
-    keeps connection (UnSsd name) = c.each_request_keeps_the_tables.ensures.unssd connection name
-    keeps connection (UnDsd name) = c.each_request_keeps_the_tables.ensures.undsd connection name
+returns c = λ officer digest calls.
+    let law = c.each_request_keeps_the_tables.ensures in
+    let keeps : (connection : ℕ) (request : PolicyRequest)
+    → KeepsTables (λ p. row_of p connection request) = λ connection. elim [
+      | Open user digest ↦ law.open_session connection user digest
+      | Close ↦ law.close_session connection
+      | Activate role ↦ law.activate connection role
+      | DropRole role ↦ law.drop_role connection role
+      | AddUser user digest ↦ law.adduser connection user digest
+      | DelUser user ↦ law.deluser connection user
+      | AddRole role ↦ law.addrole connection role
+      | DelRole role ↦ law.delrole connection role
+      | Assign user role ↦ law.assign connection user role
+      | Deassign user role ↦ law.deassign connection user role
+      | Grant grant ↦ law.grant connection grant
+      | Revoke grant ↦ law.revoke connection grant
+      | Inherit senior junior ↦ law.inherit connection senior junior
+      | Uninherit senior junior ↦ law.uninherit connection senior junior
+      | Ssd set ↦ law.ssd connection set
+      | Dsd set ↦ law.dsd connection set
+      | UnSsd name ↦ law.unssd connection name
+      | UnDsd name ↦ law.undsd connection name
+    ] in
+    kept-history AreTablesSound keeps law.end_session law.end_sessions officer digest calls
+    (law.new_desk officer digest)

@@ -1,0 +1,78 @@
+-- The guard stands before each decision table: what the response to a request says of both.
+use Rattle.std.proofs.Common.{◌≡◌, ◌⊎◌, ℕ, Bool, List, Result, Ok, Err, inl, inr, refl, sym, ap, ◌∙◌}
+use Rattle.mpw_access.specs.Guard.{DeniedIsLacked, Lacks, entered}
+use Rattle.mpw_requests.specs.Needs.{need_of}
+use Rattle.mpw_requests.specs.declared.request.Request.{Request}
+use Rattle.mpw_replies.specs.Listing.{Listed}
+use Rattle.mpw_replies.specs.declared.reply.Denial.{Denial}
+use Rattle.mpw_replies.specs.declared.reply.Reply.TheVariants as reply
+use Rattle.mpw_replies.specs.declared.row.Ending.{Ending}
+use Rattle.mpw_replies.specs.declared.row.Ending.TheVariants as ending
+use Rattle.mpw_events.specs.declared.event.Event.TheVariants as event
+use Rattle.mpw_events.specs.declared.event.Response.TheVariants as response
+use Rattle.mpw_events.specs.Step.{State, Outcome, event_outcome, guarded, outcome_of, response_of, row_outcome, step}
+use Rattle.mpw_laws.proofs.AcceptedLemmas.{no_lines}
+use Rattle.mpw_laws.proofs.RefusalLemmas.{settlement-denied, settlement-ok}
+
+-- an accepted request has passed the guard, and its step is its decision table's outcome
+pub record IsAccepted (s : State) (connection : ℕ) (request : Request) (kept : Bool)
+    (lines : List Listed) : Type 0 where
+  pub has_entered : entered s.policy connection (need_of request) ≡ Ok tt
+  pub step_is : step s (event.Ask connection request) kept ≡ row_outcome s connection request
+  pub row : (row_outcome s connection request).response ≡ response.Told (reply.Ok lines)
+
+pub guarded_ok : (s : State) (connection : ℕ) (request : Request) (kept : Bool)
+    (lines : List Listed)
+    → response_of s (event.Ask connection request) kept ≡ response.Told (reply.Ok lines)
+    → IsAccepted s connection request kept lines
+unfolding step event_outcome
+guarded_ok s connection request kept lines e =
+    let same =
+    settlement-ok s (event.Ask connection request) kept (outcome_of s connection request) lines
+    e in
+    go (entered s.policy connection (need_of request)) refl same
+    (ap (λ (o : Outcome). o.response) (sym same) ∙ e)
+  where
+    go : (met : Result (Unit {0}) Ending) → entered s.policy connection (need_of request) ≡ met
+        → step s (event.Ask connection request) kept
+        ≡ guarded s met (row_outcome s connection request)
+        → (guarded s met (row_outcome s connection request)).response
+        ≡ response.Told (reply.Ok lines)
+        → IsAccepted s connection request kept lines
+    go (Ok tt) is same told = record { has_entered = is; step_is = same; row = told }
+    go (Err why) is same told = absurd (no_lines why lines told)
+
+-- a denial is the guard's, or that of the decision table
+pub guarded_denied : (s : State) (connection : ℕ) (request : Request) (kept : Bool) (why : Denial)
+    → response_of s (event.Ask connection request) kept ≡ response.Told (reply.Denied why)
+    → (entered s.policy connection (need_of request) ≡ Err (ending.Denied why))
+    ⊎ ((row_outcome s connection request).response ≡ response.Told (reply.Denied why))
+unfolding step event_outcome
+guarded_denied s connection request kept why e =
+    let same =
+    settlement-denied s (event.Ask connection request) kept (outcome_of s connection request) why
+    e in
+    go (entered s.policy connection (need_of request)) refl
+    (ap (λ (o : Outcome). o.response) (sym same) ∙ e)
+  where
+    go : (met : Result (Unit {0}) Ending) → entered s.policy connection (need_of request) ≡ met
+        → (guarded s met (row_outcome s connection request)).response
+        ≡ response.Told (reply.Denied why)
+        → (entered s.policy connection (need_of request) ≡ Err (ending.Denied why))
+        ⊎ ((row_outcome s connection request).response ≡ response.Told (reply.Denied why))
+    go (Ok tt) is told = inr told
+    go (Err (ending.Denied other)) is told =
+        let same : other ≡ why = cc in inl (is ∙ ap (λ w. Err (ending.Denied w)) same)
+    go (Err (ending.Refused code)) is told = absurd cc
+
+-- a denial that isn't for what the guard tests is that of the decision table
+pub table_denied : DeniedIsLacked → (s : State) (connection : ℕ) (request : Request) (kept : Bool)
+    (why : Denial)
+    → (Lacks s.policy connection (need_of request) (ending.Denied why) → ⊥)
+    → response_of s (event.Ask connection request) kept ≡ response.Told (reply.Denied why)
+    → (row_outcome s connection request).response ≡ response.Told (reply.Denied why)
+table_denied lacked s connection request kept why never e =
+    elim (guarded_denied s connection request kept why e) [
+      | inl g ↦ absurd (never (lacked s.policy connection (need_of request) (ending.Denied why) g))
+      | inr r ↦ r
+    ]
