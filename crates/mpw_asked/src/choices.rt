@@ -19,7 +19,7 @@ use std::alloc::{AllocError, Global};
 /// What is chosen of a check of the whole.
 #[derive(Drop)]
 pub struct Choices {
-    /// The side of the tiles, in the place of the deck's.
+    /// The side of the tiles, instead of the deck's.
     pub tile: Option<TileSide>,
     /// The layers whose elements are left out before the library is read.
     pub skip: Vec<Layer>,
