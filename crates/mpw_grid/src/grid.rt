@@ -1,4 +1,4 @@
-//! A library's text with a unit of 1 nm in the place of its own.
+//! A library's text with a unit of 1 nm instead of its own.
 ghost use Rattle.std.specs.Prelude.{◌≡◌, ◌≤◌, drop, length, option_copied, option_map, take, IfOk, IfSome};
 ghost use Rattle.mpw_grid.specs.Texts.{first_units, grid_parts, metres_place, on_grid, parts_in};
 ghost use Rattle.mpw_records.specs.Records.{outcomes_of, raw};
