@@ -1,4 +1,4 @@
-//! A new desk.
+//! Makes a new desk for the benches.
 
 use mpw_core::Core;
 use mpw_geom::Name;

@@ -2,13 +2,13 @@
 //!
 //! Each line is repeated, with the answer below. A line that begins with `#`, and an empty one, says nothing. Rules are a deck's lines
 //! parted by `;`, and a library is as `gate_samples` reads it, with its structure `TOP` placed where it was drawn.
-//! - `find MOST | RULES | LIBRARY` tells the markers, found by columns of which each shows at most MOST shapes, where halving can have that;
-//! - `alike MOST | RULES | LIBRARY` tells how many books of columns differ from that of tiles, they or their first markers, by that number and four others;
-//! - `first LIMIT | RULES | LIBRARY` tells how many markers each rule has, and the first LIMIT of each, as columns find them, and how many a check of the layout does;
-//! - `room MARKERS | RULES | LIBRARY` tells whether a check by columns ends well that has room for so many markers;
-//! - `told MOST | RULES | LIBRARY` tells what a check by columns tells of how far it came, first and last;
-//! - `whole SIDE | RULES | LIBRARY` tells by what `check_layout` goes, with tiles of 256 nm and of SIDE, and whether both find the same;
-//! - `random N` checks N random libraries so by five numbers, and tells how many books differ;
+//! - `find MOST | RULES | LIBRARY` prints the markers, found by columns of at most MOST shapes each, if halving can reach that;
+//! - `alike MOST | RULES | LIBRARY` prints how many books of columns differ from that of tiles, they or their first markers, by MOST and four others;
+//! - `first LIMIT | RULES | LIBRARY` prints how many markers each rule has, the first LIMIT of each as columns find them, and how many a check finds;
+//! - `room MARKERS | RULES | LIBRARY` says whether a check by columns ends well that has room for so many markers;
+//! - `told MOST | RULES | LIBRARY` prints what a check by columns reports of how far it came, first and last;
+//! - `whole SIDE | RULES | LIBRARY` says by what `check_layout` goes, with tiles of 256 nm and of SIDE, and whether both find the same;
+//! - `random N` checks N random libraries so by five numbers, and prints how many books differ;
 //! - `rows N` does so with random libraries of rows of cells.
 mod book;
 mod first;

@@ -2,7 +2,7 @@
 //!
 //! Each line is repeated, with the answer below. A line that begins with `#` outside a part, and an empty one, says nothing.
 //! - `part` begins the text of a part, whose lines follow up to a line `.`; `part N` is the same without the last N bytes. It is
-//!   read, and where it is a part the text that is written of it is compared with what was read; else it is told whether it is an older one;
+//!   read. If it is a part, the text that is written of it is compared with what was read; else it says whether it is an older one;
 //! - `stitch N` stitches the parts under a deck of N rules, prints the book, a marker a line, or why there is none, and begins anew.
 use anyhow::{Result, bail};
 use gate_words::{Words, tell_marker};

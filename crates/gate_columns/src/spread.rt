@@ -3,8 +3,8 @@
 //! Each line is repeated, with the answer below. A line that begins with `#`, and an empty one, says nothing.
 //! - `layout DECK TOP LIBRARY MOST` reads the files of what is checked from now on, cuts it into columns that show at most so many shapes,
 //!   and prints these; with `shares` instead of a number as it is cut for shares;
-//! - `columns COLUMNS` checks these columns, prints their part, reads its text and keeps what that gives;
-//! - `stitch RULES` stitches the parts, under so many rules that are kept, prints the book, a marker a line, or why there is none, and begins anew.
+//! - `columns COLUMNS` checks these columns, prints their part, reads its text and holds what that gives;
+//! - `stitch RULES` stitches the parts, under so many rules that are held, prints the book, a marker a line, or why there is none, and begins anew.
 ghost use Rattle.std.specs.Prelude.{◌≡◌, ◌≤◌, ◌^◌, length, IfOk};
 ghost use Rattle.mpw_columns.specs.Plan.{AreColumnsOfLayout};
 
@@ -130,7 +130,7 @@ impl Spread {
         Ok(())
     }
 
-    /// Checks the columns that a text names, and keeps their part.
+    /// Checks the columns that a text names, and holds their part.
     fn check<T: Threads + Sync>(
         &mut self,
         rt: &HostRuntime,

@@ -255,7 +255,7 @@ fn is_along(from: i64, to: i64, before: i64, behind: i64, z: i64) -> bool {
     }
 }
 
-/// A segment of a path, how far it goes on before its first point and behind its last one, and half its width.
+/// A segment of a path, how far it goes on before its first point and after its last one, and half its width.
 #[derive(Clone, Copy)]
 struct Segment {
     from: Point,

@@ -1,1 +1,2 @@
+-- The files of this crate's definitions.
 pub mod Text

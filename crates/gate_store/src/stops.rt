@@ -1,10 +1,10 @@
-//! Stops a store's disk at each of its calls, and tells what the store has then.
+//! Stops a store's disk at each of its calls, and prints what the store has then.
 //!
 //! Each of its two files in turn fails from its call N on, for N from 0 until nothing is stopped. Then the process may have died, and the system
 //! has written all that it was given; or the power failed, and all that wasn't synced is lost. Each time the store is opened again, and its rows are
 //! those that were committed, or these and the one that was being appended.
 //!
-//! First a row is appended behind three; then a session of nine requests is served over a new store, and its rows are compared with its replies.
+//! First a row is appended after three; then a session of nine requests is served over a new store, and its rows are compared with its replies.
 mod appending;
 mod disks;
 mod serving;
@@ -20,7 +20,7 @@ use std::thread::Threads;
 struct Tally {
     /// Stops before the disk's store was open.
     unopened: u64,
-    /// Stops behind that.
+    /// Stops after that.
     stopped: u64,
     /// Looks at a store that had the committed rows alone.
     committed: u64,
@@ -39,7 +39,7 @@ impl Tally {
         }
     }
 
-    /// Notes a look at a store that has so many rows where so many were committed, and tells whether it has those or one more.
+    /// Notes a look at a store that has so many rows when so many were committed, and says whether it has those or one more.
     fn note(&mut self, rows: usize, committed: usize) -> bool {
         if rows == committed {
             self.committed = self.committed.saturating_add(1);
@@ -50,7 +50,7 @@ impl Tally {
     }
 }
 
-/// Notes what one stop came to, and tells whether it did stop something.
+/// Notes what one stop came to, and says whether it did stop something.
 fn note(rt: &HostRuntime, tally: &mut Tally, name: &str, calls: u64, after: After) -> Result<bool> {
     match after.outcome {
         Outcome::Unopened => tally.unopened = tally.unopened.saturating_add(1),

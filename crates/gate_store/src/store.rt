@@ -1,4 +1,4 @@
-//! Serves stored scripts over stores in memory, each reopened from its rows, and tells what the stores hold.
+//! Serves stored scripts over stores in memory, each reopened from its rows, and prints what the stores hold.
 //!
 //! The standard input has a command a line:
 //! - `store`: a new store, with nothing;
@@ -6,7 +6,7 @@
 //! - `as OFFICER TOKEN NAME`: the same, for another officer;
 //! - `reopen NAME`: the desk is reopened, and a connection with the number 1, which the rows have too, is served with the script of that name. Nothing
 //!   of it is stored, and the store is let go;
-//! - `row CONNECTION KIND LINE`: a row is stored behind the others, as it stands;
+//! - `row CONNECTION KIND LINE`: a row is stored after the others, as it is;
 //! - `first N`: the store has its first rows alone;
 //! - `rows`: the rows, without their payloads;
 //! - `count`: how many they are;
@@ -29,7 +29,7 @@ use std::fs;
 use std::thread::Threads;
 use store::{Store, add_row, new_store};
 
-/// A store, none where its desk was closed or could not be reopened.
+/// A store, none if its desk was closed or could not be reopened.
 type Shelf = Option<Store<MemStore>>;
 
 /// The officer of that name and token.
@@ -75,7 +75,7 @@ fn serve_first(
     Ok(None)
 }
 
-/// Reopens a store's desk, serves a script over it, and tells whether it was answered as written.
+/// Reopens a store's desk, serves a script over it, and says whether it was answered as written.
 fn serve_script(
     rt: &HostRuntime,
     threads: &(impl Threads + Sync),

@@ -28,7 +28,7 @@ fn print_row(rt: &HostRuntime, entry: &Entry) -> io::Result<()> {
     }
 }
 
-/// Prints a table, behind its title.
+/// Prints a table, after its title.
 fn print_table(rt: &HostRuntime, table: &Table) -> io::Result<()> {
     if let Some(first) = table.entries.first() {
         print!(rt; "\n## {}\n\n{}", table.title, head(first.detail))?;

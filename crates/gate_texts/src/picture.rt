@@ -7,7 +7,7 @@
 //! - `marker | RULE AXIS SIDE X1 X2 Y0 Y1` adds a marker, and `many COUNT STEP | ..` so many, each so far to the right of the one before;
 //! - `whole | N R90 x y, ..` draws all of placed submissions, by number, and `first LIMIT | ..` the same with at most so many markers
 //!   of a rule;
-//! - `near PLACE | N R90 x y, ..` draws what lies round the marker with that place, which is wanted.
+//! - `near PLACE | N R90 x y, ..` draws what is around the marker with that place, which is wanted.
 mod given;
 
 use anyhow::{Context, Result};
@@ -42,7 +42,7 @@ fn print_first(rt: &HostRuntime, given: &Given, snapshot: &Snapshot, limit: u32)
     print(rt, given, snapshot, &picture)
 }
 
-/// Draws what lies round the marker with that place.
+/// Draws what is around the marker with that place.
 fn print_near(rt: &HostRuntime, given: &Given, snapshot: &Snapshot, place: u32) -> Result<()> {
     let marker = given
         .markers

@@ -1,9 +1,9 @@
 //! The reports of markers.
 //!
 //! The lines are a deck, a line `--`, the name of the structure, and then a marker a line as `RULE AXIS SIDE X1 X2 Y0 Y1`. The report of all markers is
-//! written. Where there is a line `original FILE`, a full report stands behind it, of that file, with at most `limit N` items a rule, and
+//! written. If there is a line `original FILE`, a full report of that file follows, with at most `limit N` items a rule, and
 //! with the notes of the lines `note NOTE`, and the faults of the lines `fault CODE BYTE STRUCTURE [X0 Y0 X1 Y1]`, whose structure may be `-` for none.
-//! Where there is a line `counts N..` too, the same report stands behind that by these numbers of markers, rule by rule.
+//! If there is a line `counts N..` too, the same report by these numbers of markers, rule by rule, comes after that.
 mod given;
 
 use anyhow::{Context, Result};

@@ -1,10 +1,10 @@
-//! What a store keeps of the requests on the standard input, and what is read back.
+//! What a store has of the requests on the standard input, and what is read back.
 //!
 //! Each line is repeated, with the answer below. A line that begins with `#`, and an empty one, says nothing.
-//! - `asked LINE` has a request's line: its stored line is told, and read back. It submits as many zeros as it says;
+//! - `asked LINE` has a request's line: its stored line is printed, and read back. It submits as many zeros as it says;
 //! - `stored LINE` has a stored line without a payload, `payload N LINE` one with a payload of N zeros: whether they
 //!   are a request's;
-//! - `grant` tells the stored lines of grants whose objects are of either kind, and reads them back.
+//! - `grant` prints the stored lines of grants whose objects are of either kind, and reads them back.
 use anyhow::{Context, Result, bail};
 use mpw_geom::Name;
 use mpw_permissions::{Grant, Object, Operation};
@@ -38,7 +38,7 @@ fn is_read(alloc: Global, line: &str, payload: Option<&[u8]>) -> Result<bool> {
     Ok(true)
 }
 
-/// Tells a request's stored line, and reads it back.
+/// Prints a request's stored line, and reads it back.
 fn tell_request(rt: &HostRuntime, request: &Request) -> Result<()> {
     let line = stored_line(rt.alloc(), request)?;
     println!(rt; "    {line}")?;
@@ -52,13 +52,13 @@ fn tell_request(rt: &HostRuntime, request: &Request) -> Result<()> {
     Ok(println!(rt; "    read back")?)
 }
 
-/// Tells whether a line and a payload are a request's.
+/// Prints whether a line and a payload are a request's.
 fn tell_stored(rt: &HostRuntime, line: &str, payload: Option<&[u8]>) -> Result<()> {
     let is_read = is_read(rt.alloc(), line, payload)?;
     Ok(println!(rt; "    {}", if is_read { "a request's" } else { "nobody's" })?)
 }
 
-/// Tells the stored line of a grant to role `r`.
+/// Prints the stored line of a grant to role `r`.
 fn tell_grant(rt: &HostRuntime, operation: Operation, object: Object) -> Result<()> {
     let role = Name::read(rt.alloc(), b"r")?;
     let grant = Grant {
@@ -69,7 +69,7 @@ fn tell_grant(rt: &HostRuntime, operation: Operation, object: Object) -> Result<
     tell_request(rt, &Request::Policy(PolicyRequest::Grant { grant }))
 }
 
-/// Tells grants on the desk and on a cell that is named `desk`, by operations of either kind.
+/// Prints the stored lines of grants on the desk and on a cell that is named `desk`, by operations of either kind.
 fn tell_grants(rt: &HostRuntime) -> Result<()> {
     for operation in [Operation::Submit, Operation::Admin] {
         tell_grant(rt, operation, Object::Desk)?;

@@ -1,4 +1,4 @@
-//! Numbers.
+//! Reads the numbers that words spell.
 
 use anyhow::{Result, bail};
 use std::alloc::Global;

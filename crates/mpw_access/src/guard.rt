@@ -1,4 +1,4 @@
-//! The guard: the connection has what its request needs. It stands before every other test of a request.
+//! The guard: the connection has what its request needs. It comes before every other test of a request.
 ghost use Rattle.std.specs.Prelude.{◌≡◌, is_some, true};
 ghost use Rattle.mpw_rbac.specs.Policy.{session_of};
 ghost use Rattle.mpw_rbac.specs.Rows.{user_of};

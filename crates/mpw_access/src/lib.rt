@@ -1,4 +1,4 @@
-//! The guard that stands before every request, and which submissions a session sees.
+//! The guard that comes before every request, and which submissions a session sees.
 #![tactic(auto)]
 
 mod guard;

@@ -15,7 +15,7 @@ covers x r flows =
     let counted : r * (x / r) + x % r ≤ r * (x / r + min 1 (x % r)) = counts_rest r (x / r) (x % r) (mod-lt x flows) in
     omega (arith, whole, counted)
 
--- a time after another brings what each of them does
+-- a time after another adds what each of them does
 adds : (rate since now more : ℕ) → since ≤ now → rate * (now + more - since) ≡ rate * (now - since) + rate * more
 adds rate since now more past =
     let apart : now + more - since ≡ (now - since) + more = omega (arith, past) in

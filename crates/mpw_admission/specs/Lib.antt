@@ -1,3 +1,4 @@
+-- The files of this crate's definitions.
 pub mod Drain
 pub mod Login
 pub mod Pail

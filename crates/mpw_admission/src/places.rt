@@ -11,7 +11,7 @@ pub trait Placed {
         ensures { result ≡ is_stranger self.now };
 }
 
-/// How many of so many places are kept for connections with a session: a quarter, two at least, but never all.
+/// How many of so many places are reserved for connections with a session: a quarter, two at least, but never all.
 pub fn kept_places(places: u32) -> u32
     ensures { result ≡ kept_of places }
 {
@@ -29,7 +29,7 @@ fn oldest_stranger<P: Placed>(taken: &[P]) -> Option<usize>
     )
 }
 
-/// Which connection leaves for a newcomer, by its index: if no more places are free than are kept, the oldest stranger. `taken` are those that have a place,
+/// Which connection leaves for a newcomer, by its index: the oldest stranger, if no more places are free than are reserved. `taken` have one,
 /// the oldest first.
 pub fn leaving<P: Placed>(places: u32, free: u32, taken: &[P]) -> Option<usize>
     ensures { result ≡ leaving places free (position P.is_stranger taken.now) }

@@ -16,7 +16,7 @@ asks text words name letter =
     list_any (λ word. name_eq (text word) name) words
     || list_any (λ word. name_eq (text word) letter) words
 
--- The help, or else the version, where a word asks for it.
+-- The help, or else the version, if a word asks for it.
 abbrev pub telling_of : {A : Type 0} → (A → List ℕ) → List A → Option Telling
 telling_of text words =
     if asks text words (codes "--help") (codes "-h") then Some Help
@@ -37,7 +37,7 @@ IsTold command (Some telling) text = IsToldBy command telling text
 
 -- ---- the commands
 
--- A check where no text is asked for, and else that text.
+-- A check if no text is asked for, and else that text.
 abbrev pub IsOfCheck : Option Telling → Asked → Type 0
 IsOfCheck telling (Check options) = telling ≡ None
 IsOfCheck telling (Stitch options) = ⊥
@@ -49,7 +49,7 @@ IsOfStitch telling (Check options) = ⊥
 IsOfStitch telling (Stitch options) = telling ≡ None
 IsOfStitch telling (Told text) = IsTold (codes "mpw stitch") telling (string_bytes text)
 
--- By the word behind the program's name.
+-- By the word after the program's name.
 abbrev pub IsOfWord : Option (List ℕ) → Option Telling → Asked → Type 0
 IsOfWord word telling asked =
     ((word ≡ Some (codes "check")) × IsOfCheck telling asked)

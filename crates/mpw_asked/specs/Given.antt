@@ -22,7 +22,7 @@ picture_key (Some wanted) = option_map string_bytes wanted.key
 
 -- ---- what is checked of a layout
 
--- A flag is set where the words give it, and else not.
+-- A flag is set if the words give it, and else not.
 pub record IsFlag (found : Found) (name : List ℕ) (flag : Bool) : Type 0 where
   pub given : one_text found name ≡ Some (codes "true") → flag ≡ true
   pub other : one_text found name ≡ Some (codes "false") → flag ≡ false

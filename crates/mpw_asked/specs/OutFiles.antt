@@ -14,7 +14,7 @@ unfoldable pub written_over_text : (option over : List ℕ) → List ℕ
 written_over_text option over =
     codes "error: the " ++ (option ++ (codes " can't be written over " ++ over))
 
--- The file that is given is the standard output; or it is one of those that are read, which are told as `over`; or there is no room.
+-- The file that is given is the standard output; or it is one of those that are read, which are given as `over`; or memory runs out.
 abbrev pub IsOfOut : {A : Type 0} → (A → List ℕ) → (option over : List ℕ) → List A → Option (List ℕ)
     → FirmFault → Type 0
 IsOfOut text option over others None fault = ⊥

@@ -29,9 +29,9 @@ pub struct Choices {
     pub faultless: bool,
     /// How many markers of each rule are listed, written and drawn at most.
     pub limit: Option<u32>,
-    /// Whether all faults of the library's elements are told, where it has one.
+    /// Whether all faults of the library's elements are printed, if it has one.
     pub faults: bool,
-    /// Whether the numbers of markers by rule are printed in the place of the listing.
+    /// Whether the numbers of markers by rule are printed instead of the listing.
     pub summary: bool,
 }
 

@@ -1,6 +1,6 @@
 //! What the words of a command line ask `mpw check` and `mpw stitch` for.
 //!
-//! [`read_options`] reads them: a check by its [`Options`], parts by their [`StitchOptions`], or a text that is told. `specs/Given.antt` says what is taken
+//! [`read_options`] reads them: a check by its [`Options`], parts by their [`StitchOptions`], or a text. `specs/Given.antt` says what is taken
 //! of a command line's values, and `specs/Commands.antt` which command the words ask for.
 #![tactic(auto)]
 

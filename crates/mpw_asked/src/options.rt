@@ -158,7 +158,7 @@ fn options_in(alloc: Global, matches: &ArgMatches<'_>) -> Result<Options, FirmFa
     })
 }
 
-/// What is told of an error of `clap`.
+/// What is printed about an error of `clap`.
 pub fn misuse_of(alloc: Global, error: Error) -> FirmFault
     ensures { IsMisuse result }
 {
@@ -222,7 +222,7 @@ pub fn command_words<'a>(
     Ok(named)
 }
 
-/// The options that the words behind `check` give.
+/// The options that the words after `check` give.
 fn options_of(alloc: Global, words: &[&str]) -> Result<Options, FirmFault>
     ensures { IfErr result IsMisuse }
 {
@@ -233,7 +233,7 @@ fn options_of(alloc: Global, words: &[&str]) -> Result<Options, FirmFault>
     }
 }
 
-/// What the words behind `check` ask for, where a text may be asked for in their place.
+/// What the words after `check` ask for; they may ask for a text instead of a check.
 fn read_check(alloc: Global, telling: Option<Telling>, words: &[&str]) -> Result<Asked, FirmFault>
     ensures asked { IfOk result (IsOfCheck telling) }
     ensures refused { IfErr result IsMisuse }
@@ -244,7 +244,7 @@ fn read_check(alloc: Global, telling: Option<Telling>, words: &[&str]) -> Result
     }
 }
 
-/// What the words behind a command's name ask for.
+/// What the words after a command's name ask for.
 fn read_command(
     alloc: Global,
     telling: Option<Telling>,
@@ -263,7 +263,7 @@ fn read_command(
     Err(usage(alloc, "error: the first word is check or stitch"))
 }
 
-/// What the words of a command line ask for: the program's name, `check` or `stitch`, and the words of that command. Where one of
+/// What the words of a command line ask for: the program's name, `check` or `stitch`, and the words of that command. If one of
 /// the words is `--help` or `-h`, or else `--version` or `-V`, it is that text, whatever the others are. Three passes over the words.
 ///
 /// # Errors

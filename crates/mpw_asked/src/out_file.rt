@@ -31,7 +31,7 @@ pub fn is_among(text: &str, words: &[&str]) -> bool
     false
 }
 
-/// What is told of an option that takes a file, where it names the standard output.
+/// What is printed about an option that takes a file, if it names the standard output.
 #[tactic(auto, unfolding(crate::specs::OutFiles::no_file_text))]
 fn no_file(alloc: Global, option: &str) -> FirmFault
     ensures { Misuses (no_file_text option.now) result }
@@ -39,7 +39,7 @@ fn no_file(alloc: Global, option: &str) -> FirmFault
     misuse(format!(in alloc; "error: --{option} takes a file, and not the standard output"))
 }
 
-/// What is told of an option that names a file that is read.
+/// What is printed about an option that names a file that is read.
 #[tactic(auto, unfolding(crate::specs::OutFiles::written_over_text))]
 fn written_over(alloc: Global, option: &str, over: &str) -> FirmFault
     ensures { Misuses (written_over_text option.now over.now) result }
@@ -50,7 +50,7 @@ fn written_over(alloc: Global, option: &str, over: &str) -> FirmFault
 /// The file that an option names, which none of the files that are read may be, and not `-`, which is the standard output.
 ///
 /// # Errors
-/// `Usage`, with a text that says what is wrong, where it is `-`, and where it is one of those; and `Memory`.
+/// `Usage`, with a text that says what is wrong, if it is `-`, and if it is one of those; and `Memory`.
 pub fn out_file(
     alloc: Global,
     option: &str,

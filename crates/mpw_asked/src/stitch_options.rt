@@ -90,7 +90,7 @@ fn options_in(alloc: Global, matches: &ArgMatches<'_>) -> Result<StitchOptions, 
     })
 }
 
-/// The options that the words behind `stitch` give.
+/// The options that the words after `stitch` give.
 fn options_of(alloc: Global, words: &[&str]) -> Result<StitchOptions, FirmFault>
     ensures { IfErr result IsMisuse }
 {
@@ -101,7 +101,7 @@ fn options_of(alloc: Global, words: &[&str]) -> Result<StitchOptions, FirmFault>
     }
 }
 
-/// What the words behind `stitch` ask for, where a text may be asked for in their place. One pass over the words.
+/// What the words after `stitch` ask for; they may ask for a text instead. One pass over the words.
 ///
 /// # Errors
 /// `Usage`, with a text that says what is wrong and what is accepted; and `Memory`.

@@ -1,3 +1,4 @@
+-- The files of this crate's lemmas.
 pub mod AnsweringLemmas
 pub mod SettingsLemmas
 mod ReportLemmas

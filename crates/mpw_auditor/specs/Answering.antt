@@ -62,7 +62,7 @@ is_unsound store.Other = true
 abbrev pub checked : StoreFault → AuditFault
 checked fault = if is_unsound fault then audit.Unsound fault else audit.Store fault
 
--- the same where the file isn't opened
+-- the same if the file isn't opened
 abbrev pub unopened : FileFault → AuditFault
 unopened (file.Store fault) = checked fault
 unopened file.Missing = audit.File file.Missing

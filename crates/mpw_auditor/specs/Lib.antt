@@ -1,3 +1,4 @@
+-- The files of this crate's definitions.
 pub mod Answering
 pub mod Forms
 pub mod Reporting

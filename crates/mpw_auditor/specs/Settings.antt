@@ -78,7 +78,7 @@ pub record GiveNone (words : List Text) : Type 0 where
 
 -- ---- faults
 
--- a command line isn't one; or there is no room
+-- a command line is wrong; or memory runs out
 abbrev pub IsMisuse : AuditFault → Type 0
 IsMisuse (audit.Usage text) = Unit {0}
 IsMisuse (audit.File fault) = ⊥
@@ -90,6 +90,6 @@ IsMisuse (audit.NoPayload place) = ⊥
 IsMisuse audit.Output = ⊥
 IsMisuse audit.Memory = Unit {0}
 
--- there is no room; or the command line isn't one, and that is so
+-- memory runs out; or the command line is wrong, and that is so
 abbrev pub IsFaultOf : Type 0 → AuditFault → Type 0
 IsFaultOf why fault = (fault ≡ audit.Memory) ⊎ (IsMisuse fault × why)

@@ -21,7 +21,7 @@ status_of (audit.NoPayload place) = 3
 status_of audit.Output = 3
 status_of audit.Memory = 5
 
--- 0 where it was told
+-- 0 if the answer was printed
 abbrev pub exit_of : Result (Unit {0}) AuditFault → ℕ
 exit_of (Ok done) = 0
 exit_of (Err fault) = status_of fault

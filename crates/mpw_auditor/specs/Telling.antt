@@ -1,4 +1,4 @@
--- How a file that can't be opened is reported, by what was asked of it, and how a log is.
+-- How a file that can't be opened is reported, by what the command asks of it, and how a log is.
 use Rattle.std.specs.Prelude.{Result, Ok, Err, if◌then◌else◌}
 use Rattle.mpw_store_file.specs.declared.fault.FileFault.{FileFault}
 use Rattle.mpw_auditor.specs.Answering.{unopened}

@@ -1,4 +1,4 @@
-//! Why nothing is told.
+//! Why nothing is printed.
 ghost use Rattle.std.specs.Prelude.{◌≡◌};
 ghost use Rattle.mpw_auditor.specs.Status.{exit_of, status_of};
 ghost use Rattle.mpw_auditor.specs.declared.fault.AuditFault.TheVariants as told;
@@ -10,10 +10,10 @@ use mpw_wire::WireFault;
 use std::alloc::AllocError;
 use thiserror::Error;
 
-/// Why nothing is told, or not all.
+/// Why nothing is printed, or not all.
 #[derive(Debug, Drop, Error)]
 pub enum AuditFault {
-    /// The command line isn't one; the text says what is wrong and what is accepted.
+    /// The command line is wrong; the text says what is wrong and what is accepted.
     #[error("{0}")]
     Usage(String),
     /// The file isn't opened.
@@ -38,7 +38,7 @@ pub enum AuditFault {
     /// The output failed.
     #[error("error: the standard output failed")]
     Output,
-    /// There is no room.
+    /// Memory runs out.
     #[error("error: out of memory")]
     Memory,
 }
@@ -59,7 +59,7 @@ impl AuditFault {
     }
 }
 
-/// The exit status: 0 where it was told, and else the fault's.
+/// The exit status: 0 if the answer was printed, and else the fault's.
 pub fn exit_status(ended: &Result<(), AuditFault>) -> u8
     ensures { result ≡ exit_of ended.now }
 {

@@ -32,7 +32,7 @@ fn run(rt: &HostRuntime, threads: &(impl Threads + Sync)) -> Result<(), AuditFau
     tell::<Core, _>(rt, threads, &asked)
 }
 
-/// Exits with 0 if it was printed, 2 if the command line isn't one, 3 if the file can't be read or the output failed, 4 if a store that is checked isn't
+/// Exits with 0 if all was printed, 2 if the command line is wrong, 3 if the file can't be read or output fails, 4 if a store that is checked isn't
 /// sound, and 5 if memory ran out.
 fn main(rt: HostRuntime) -> ExitCode {
     let ended = run(&rt, &rt);

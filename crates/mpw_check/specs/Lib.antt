@@ -1,3 +1,4 @@
+-- The files of this crate's definitions.
 pub mod Drawn
 pub mod Tiled
 pub mod Lists

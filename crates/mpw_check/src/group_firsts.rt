@@ -155,7 +155,7 @@ fn first_of_groups<P: Progress>(
     Ok(Some(joined))
 }
 
-/// The first markers of a layout that is checked by columns: group by group where [`check_by_columns`](crate::groups) does so, or else as a whole. The only
+/// The first markers of a layout checked by columns: group by group if [`check_by_columns`](crate::groups) does so, or else as a whole. The only
 /// error is out of memory, also if the progress has no room for the keys that are held.
 pub(crate) fn first_by_columns<P: Progress>(
     rt: &(impl Threads + Sync),

@@ -1,3 +1,4 @@
+-- The files of this crate's lemmas.
 pub mod Keyed
 pub mod Agreeing
 pub mod Displacing

@@ -1,3 +1,4 @@
+-- The files of this crate's definitions.
 pub mod Seen
 pub mod Within
 pub mod Plan

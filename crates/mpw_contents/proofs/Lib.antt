@@ -1,3 +1,4 @@
+-- The files of this crate's lemmas.
 pub mod Members
 pub mod Windows
 pub mod Adding

@@ -1,3 +1,4 @@
+-- The files of this crate's definitions.
 pub mod Things
 pub mod Contents
 pub mod Boxes

@@ -1,3 +1,4 @@
+-- The files of this crate's lemmas.
 pub mod AnswerLemmas
 pub mod HistoryLemmas
 pub mod RefusalLemmas

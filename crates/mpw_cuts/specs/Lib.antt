@@ -1,0 +1,1 @@
+-- This crate has no definitions: no contract speaks of its estimates.

@@ -117,7 +117,7 @@ fn put(numbers: &mut Vec<i64>, place: usize, number: i64) {
     }
 }
 
-/// Keeps, of sorted lines, one at each position where all instances that began before it have ended.
+/// Leaves, of sorted lines, one at each position where all instances that began before it have ended.
 fn keep_clean(lines: &mut Vec<i64>, begins: &[i64], ends: &[i64]) {
     let (mut kept, mut begun, mut ended) = (0usize, 0usize, 0usize);
     let mut last = None;

@@ -1,3 +1,4 @@
+-- The files of this crate's definitions.
 pub mod Decks
 pub mod Named
 pub mod Reading

@@ -1,3 +1,4 @@
+-- The files of this crate's lemmas.
 pub mod Adding
 pub mod Answering
 pub mod Coming

@@ -1,3 +1,4 @@
+-- The files of this crate's definitions.
 pub mod Finished
 pub mod Hints
 pub mod Internal

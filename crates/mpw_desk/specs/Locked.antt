@@ -6,9 +6,9 @@ use Rattle.mpw_events.specs.History.{KeptDesk}
 use Rattle.mpw_desk.specs.Legal.{GoesLegally}
 use Rattle.mpw_desk.specs.Numbers.{AreBelow}
 
--- the registered calls lead from the state when the desk was shared to the present one, each is legal, and
--- the store writer has their changes; as many calls are counted; and each pass has its own part of the ledger
--- and its own number
+-- the registered calls lead from the state when the desk was shared to the present one; each is legal, none is
+-- a restart, and the history had room for each; the store writer has their changes; as many calls are counted;
+-- and each pass has its own part of the ledger and its own number
 pub record IsLocked (begun kept : KeptDesk) (since : List Call) (begins total all left amount made : ℕ) :
     Type 0 where
   pub base : begins ≡ length begun.desk.history

@@ -6,8 +6,8 @@
 //! run's jobs under the lock and do them outside it ([`Shared::worker`]).
 //!
 //! At the end [`Shared::conclude`] compares the counts of the passes with the history. If they agree, the passes counted as many calls as
-//! the history has since the desk was shared, each of these calls is legal, and each pass's receipts are the calls of its connection, each
-//! once, in order.
+//! the history has since the desk was shared. Each of these calls is legal, and was made while the history had room. Each pass's receipts
+//! are the calls of its connection, each once, in order.
 //!
 //! Begin with `locked.rt`, which has the critical section as a function that waits for nobody. `shared.rt` only takes the lock.
 #![tactic(auto)]

@@ -144,7 +144,8 @@ impl<H: Handler + Drop, K: Keeper + Drop, N: Room> Locked<H, K, N> {
         &self.core
     }
 
-    /// The number of calls in the desk's history: those before it was shared, and those since. The latter are legal, and were counted. Constant time.
+    /// The number of calls in the desk's history: those before it was shared, and those since. The latter are legal, none is a restart, the
+    /// history had room for each, and they were counted. Constant time.
     pub fn calls(&self) -> usize
         ensures counted { result ≡ length self.now.kept.desk.history }
         ensures goes { GoesOnTo N.begun self.now.kept }
@@ -232,8 +233,8 @@ impl<H: Handler + Drop, K: Keeper + Drop, N: Room> Locked<H, K, N> {
         count + calls
     }
 
-    /// The core with its store writer, if these passes counted all calls since the desk was shared. These calls are legal, and the store
-    /// writer failed exactly at those that weren't stored. Cost: the passes.
+    /// The core with its store writer, if these passes counted all calls since the desk was shared. These calls are legal, none is a restart,
+    /// the history had room for each, and the store writer failed exactly at those that weren't stored. Cost: the passes.
     ///
     /// # Errors
     /// `Mismatch` if they made another number of calls, for example because a pass is missing.

@@ -136,7 +136,8 @@ impl<H: Handler + Drop, K: Keeper + Drop, N: Room> Shared<H, K, N> {
     }
 
     /// The core with its store writer, if these passes counted all calls since the desk was shared. Their receipts are then the calls of
-    /// their connections. The calls are legal, and the store writer failed exactly at those that weren't stored. Cost: the passes.
+    /// their connections. The calls are legal, none is a restart, the history had room for each, and the store writer failed exactly at
+    /// those that weren't stored. Cost: the passes.
     ///
     /// # Errors
     /// `Mismatch` if they made another number of calls, for example because a pass is missing.

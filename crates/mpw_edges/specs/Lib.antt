@@ -1,3 +1,4 @@
+-- The files of this crate's definitions.
 pub mod Edges
 pub mod Steps
 pub mod Pieces

@@ -1,3 +1,4 @@
+-- The files of this crate's lemmas.
 pub mod DerivedElements
 pub mod DerivedFields
 pub mod DerivedReferences

@@ -1,3 +1,4 @@
+-- The files of this crate's definitions.
 pub mod Reading
 pub mod Values
 pub mod Grammar

@@ -1,3 +1,4 @@
+-- The files of this crate's definitions.
 pub mod GoingOn
 pub mod History
 pub mod Keeping

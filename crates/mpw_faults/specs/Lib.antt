@@ -1,3 +1,4 @@
+-- The files of this crate's definitions.
 pub mod Areas
 pub mod Details
 pub mod Faults

@@ -46,7 +46,7 @@ read_from : (deck top library : List ℕ) (made : Deck) (layout : Snapshot)
 read_from deck top library made layout of drawn =
     (of.0, of.1, subst (λ d. IsDrawnFrom d top library layout) of.2 drawn)
 
--- Where nothing is left out, the text is read as it is.
+-- If nothing is left out, the text is read as it is.
 kept_plain : (library : List ℕ) (source : Source) → IsSourceOf [] None false library source
     → kept_text source ≡ library
 kept_plain library source of = rw (of.faulty, of.structures, of.layers) of.text_is

@@ -1,4 +1,4 @@
--- What is told of the markers that are held is what is told of all, where those are enough.
+-- What is printed about the markers that are held is what is printed about all, if those are enough.
 use Rattle.std.proofs.Common.{◌≡◌, ◌∙◌, ℕ, Bool, true, false, List, [], ◌∷◌, Option, None, Some, length, refl, ap, subst}
 use Rattle.mpw_asked.specs.declared.picture_options.Wanted.{Wanted}
 use Rattle.mpw_firm.specs.Came.{listing_texts, report_texts}
@@ -15,7 +15,7 @@ use Rattle.mpw_outputs.specs.Counted.{counts_text, rule_counts}
 use Rattle.mpw_outputs.specs.Outputs.{in_file, on_output}
 use Rattle.mpw_report.specs.Report.{FirstMarkersHaveTheItems, full_text}
 
--- Where all are wanted, all are held.
+-- If all are wanted, all are held.
 all_held : (h : Held) (book : List Marker) → AreHeld None h book → markers_of h ≡ book
 all_held (held.All all) book are = are
 all_held (held.First first) book are = absurd are

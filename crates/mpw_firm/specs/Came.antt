@@ -1,4 +1,4 @@
--- What came of a command: the texts that stand in their places, and how many markers were found.
+-- What came of a command: the texts that are in their places, and how many markers were found.
 use Rattle.std.specs.Prelude.{◌≡◌, ℕ, ◌+◌, List, [], ◌∷◌, ◌++◌, false, length, map, slice_get, Option, None, Some, option_map, Result, IfOk}
 use Rattle.std.specs.String.{string_bytes}
 use Rattle.mpw_grid.specs.Texts.{grid_parts}
@@ -44,7 +44,7 @@ use Rattle.mpw_firm.specs.declared.whole.Whole.{Whole}
 
 -- ---- texts in their places
 
--- The report of markers, where a file for it is wanted.
+-- The report of markers, if a file for it is wanted.
 abbrev pub report_texts : Option (List ℕ) → Shown → List Kept
 report_texts None s = []
 report_texts (Some file) s = in_file file (full_text (content_of s)) ∷ []
@@ -72,7 +72,7 @@ PutsAll options layout s old new =
     PutsPicture options.picture layout s old new
     (listing_texts (option_map string_bytes options.report) s)
 
--- What is shown of a check: the library's file, the limit that is chosen, what is told of what is looked at, whether the numbers are chosen,
+-- What is shown of a check: the library's file, the limit that is chosen, what is reported of what is looked at, whether the numbers are chosen,
 -- and the elements that are left out for their faults.
 abbrev pub shown_by : Options → Choices → Drawn → List Marker → Shown
 shown_by options choices drawn book = record {
@@ -101,11 +101,11 @@ shown_with notes limit whole = record {
   faults = [];
 }
 
--- They don't tell which layers have shapes.
+-- Parts don't say which layers have shapes.
 abbrev pub shown_whole : Option ℕ → Whole → Shown
 shown_whole limit whole = shown_with (rule_notes whole.deck.rules) limit whole
 
--- A deck and a library were checked, their markers are told in all that is wanted, and they and the elements that are left out for their
+-- A deck and a library were checked, their markers are in all texts that are wanted, and they and the elements that are left out for their
 -- faults are so many, up to 2^64 - 1. The markers are those of the flat list of the structure in the library without these elements, whatever
 -- the side of the tiles is. If the library's unit is a part of a nanometre, they are so on that grid.
 pub record IsChecked (options : Options) (choices : Choices) (old new : Option (List Kept))
@@ -143,7 +143,7 @@ IsCheckDone options (portion.Columns range) old new found = IsPartChecked option
 
 -- ---- of parts
 
--- Parts were stitched, the markers of their whole are told in all that is wanted, and they are so many.
+-- Parts were stitched, the markers of their whole are in all texts that are wanted, and they are so many.
 pub record IsStitched (options : StitchOptions) (old new : Option (List Kept)) (found : ℕ) : Type 0
   where
     pub parts : List Found
@@ -162,7 +162,7 @@ IsDone (asked.Stitch options) old new found = IsStitched options old new found
 IsDone (asked.Told text) old new found =
     Grows old new (on_output (string_bytes text) ∷ []) × (found ≡ 0)
 
--- The word behind the program's name, and what is to be told in place of what a command does, ask for something, and that was done.
+-- The word after the program's name, and the text that may be printed instead of what a command does, ask for something, and that was done.
 abbrev pub IsDoneBy : Option (List ℕ) → Option Telling → Option (List Kept) → Option (List Kept) → ℕ
     → Type 0
 IsDoneBy word telling old new found =
@@ -179,7 +179,7 @@ abbrev pub IsDoneOfSome : Option (List Kept) → Option (List Kept) → ℕ → 
 IsDoneOfSome old new found =
     (word : Option (List ℕ)) × (telling : Option Telling) × IsDoneBy word telling old new found
 
--- The exit status is that of what came: 0 or 1 just where what the words ask for was done.
+-- The exit status is that of what came: 0 or 1 just if what the words ask for was done.
 pub record Ends (old new : Option (List Kept)) (status : ℕ) : Type 0 where
   pub ended : Result ℕ FirmFault
   pub done : IfOk ended (IsDoneOfSome old new)

@@ -45,7 +45,7 @@ pub record IsDrawnBy (top : Option (List ℕ)) (deck : Deck) (source : Source) (
   pub from : IsDrawnFrom deck drawn.top (kept_text source) drawn.layout
   pub left : map told_seen drawn.left_out.items ≡ told_left_out source drawn.top
 
--- The deck is that of the text, with that side where there is one.
+-- The deck is that of the text, with that side if there is one.
 abbrev pub IsDeckOf : Option ℕ → List ℕ → Deck → Type 0
 IsDeckOf side text deck = (rules : Deck) × (deck_of text ≡ Ok rules) × (deck ≡ with_side side rules)
 
@@ -54,14 +54,14 @@ abbrev pub IsDeckOn : (grid : Option ℕ) → Option ℕ → List ℕ → Deck �
 IsDeckOn grid side text deck =
     (made : Deck) × IsDeckOf side text made × (deck ≡ deck_for grid made)
 
--- It is drawn of the texts of a deck and a library, with that side where there is one.
+-- It is drawn of the texts of a deck and a library, with that side if there is one.
 pub record IsDrawnOf (top : Option (List ℕ)) (side : Option ℕ) (deck : List ℕ) (source : Source)
     (drawn : Drawn) : Type 0 where
   pub made : Deck
   pub read : IsDeckOf side deck made
   pub by : IsDrawnBy top made source drawn
 
--- The structure which has to reach what is read: the one that is named, where that is asked for.
+-- The structure which has to reach what is read: the one that is named, if that is asked for.
 abbrev pub above : Bool → Option (List ℕ) → Option (List ℕ)
 above false top = None
 above true top = top
@@ -99,8 +99,8 @@ AreFlatByEachSide =
 
 -- ---- why it isn't checked
 
--- The structure of that name can't be, of a library's text as it is read, and that is told with the place in the text; or there is no
--- room.
+-- The structure of that name can't be checked, of a library's text as it is read, and that is printed with the place in the text; or
+-- memory runs out.
 abbrev pub IsOfSource : (file top : List ℕ) → Source → FirmFault → Type 0
 IsOfSource file top source fault =
     (fault ≡ Memory)
@@ -112,7 +112,7 @@ no_top_text file =
     file
     ++ codes ": not just one structure is placed by no other: name the one to check with --top"
 
--- No structure is named, and the text has a fault, or not just one of its structures is placed by no other; or there is no room.
+-- No structure is named, and the text has a fault, or not just one of its structures is placed by no other; or memory runs out.
 abbrev pub IsOfNoTop : List ℕ → Source → FirmFault → Type 0
 IsOfNoTop file source fault =
     (fault ≡ Memory)

@@ -12,7 +12,7 @@ use Rattle.mpw_sources.specs.Sources.{Source, kept_text}
 use Rattle.mpw_told.specs.declared.fault.FirmFault.{FirmFault}
 use Rattle.mpw_told.specs.declared.fault.FirmFault.TheVariants.{Memory}
 
--- The structure in whose coordinates faults are told: the one that is named, or the only one that nothing places.
+-- The structure in whose coordinates faults are reported: the one that is named, or the only one that nothing places.
 abbrev pub top_for : Option (List ℕ) → List ℕ → Option (List ℕ)
 top_for (Some name) text = Some name
 top_for None text = only_top text
@@ -30,7 +30,7 @@ faulty_content file top rules faults = record {
   faults = faults;
 }
 
--- It is written where there are faults.
+-- It is written if there are faults.
 abbrev pub some_texts : (out file top : List ℕ) → List Rule → List Told → List Kept
 some_texts out file top rules [] = []
 some_texts out file top rules (fault ∷ faults) =
@@ -46,18 +46,18 @@ abbrev pub wanted_texts : Option (List ℕ) → (file : List ℕ) → Option (Li
 wanted_texts None file top rules source = []
 wanted_texts (Some out) file top rules source = top_texts out file top rules source
 
--- Of a library that is refused, where a report is wanted and there is such a structure.
+-- Of a library that is refused, if a report is wanted and there is such a structure.
 abbrev pub faulty_texts : Options → List Rule → Source → Option (List ℕ) → List Kept
 faulty_texts options rules source top =
     wanted_texts (option_map string_bytes options.report) (string_bytes options.file) top rules
     source
 
--- The report can't be written, where one is wanted; or there is no room.
+-- The report can't be written, if one is wanted; or memory runs out.
 abbrev pub IsUnfaulty : Options → FirmFault → Type 0
 IsUnfaulty options fault =
     (fault ≡ Memory) ⊎ IsUnwritten (option_map string_bytes options.report) fault
 
--- What is told of the whole is the library's fault, and the report is written; or that it can't be.
+-- What is printed about the whole is the library's fault, and the report is written; or that it can't be.
 abbrev pub IsToldFaulty : Options → List Rule → Source → Option (List Kept) → Option (List Kept)
     → (fault told : FirmFault) → Type 0
 IsToldFaulty options rules source old new fault told =

@@ -1,4 +1,4 @@
--- Which markers of a check are held: all of them, or the first of each rule where no more are told.
+-- Which markers of a check are held: all of them, or the first of each rule if no more are printed.
 use Rattle.std.specs.Prelude.{◌≡◌, ℕ, Bool, true, false, List, length, Option, None, Some, option_map}
 use Rattle.std.specs.String.{string_bytes}
 use Rattle.mpw_asked.specs.declared.options.Options.{Options}
@@ -13,9 +13,9 @@ use Rattle.mpw_outputs.specs.Counted.{capped, rule_counts}
 use Rattle.mpw_report.specs.Content.{AgreeFirst}
 use Rattle.mpw_tiles.specs.Snapshots.{Snapshot}
 
--- ---- how many of each rule are enough, where not all are wanted
+-- ---- how many of each rule are enough, if not all are wanted
 
--- Of a listing and a report: none where the numbers alone are told, and else as many as the limit.
+-- Of a listing and a report: none if the numbers alone are printed, and else as many as the limit.
 abbrev pub enough_listed : (report : Option (List ℕ)) → (summary : Bool) → (limit : Option ℕ)
     → Option ℕ
 enough_listed None true limit = Some 0
@@ -35,7 +35,7 @@ enough_for options summary limit =
 
 -- ---- what is held of a book
 
--- All of its markers; or the first of each rule, where so many are enough.
+-- All of its markers; or the first of each rule, if so many are enough.
 abbrev pub AreHeld : (enough : Option ℕ) → Held → List Marker → Type 0
 AreHeld enough (held.All all) book = all ≡ book
 AreHeld None (held.First first) book = ⊥

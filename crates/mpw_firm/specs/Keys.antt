@@ -21,7 +21,7 @@ is_keyed parts word m (Some rule) = name_eq (key_text parts rule.name (key_of m)
 abbrev pub has_key : (parts : ℕ) → List Rule → List ℕ → Marker → Bool
 has_key parts rules word m = is_keyed parts word m (slice_get rules m.rule)
 
--- The first marker of that key, where there is one.
+-- The first marker of that key, if there is one.
 abbrev pub marker_named : (parts : ℕ) → List Rule → List ℕ → List Marker → Option Marker
 marker_named parts rules word markers = find (has_key parts rules word) markers
 
@@ -38,7 +38,7 @@ unknown_text key =
     codes "error: --marker "
     ++ (key ++ codes ": no marker has this key: take a line of the listing up to the blank")
 
--- No marker has the key, which is told; or there is no room.
+-- No marker has the key, which is reported; or memory runs out.
 abbrev pub IsUnknown : (parts : ℕ) → List Rule → List ℕ → List Marker → FirmFault → Type 0
 IsUnknown parts rules word markers fault =
     (fault ≡ Memory)

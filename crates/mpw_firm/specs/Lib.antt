@@ -1,3 +1,4 @@
+-- The files of this crate's definitions.
 pub mod Came
 pub mod Counts
 pub mod Drawings

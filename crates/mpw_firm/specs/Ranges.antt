@@ -11,7 +11,7 @@ use Rattle.mpw_told.specs.declared.fault.FirmFault.TheVariants.{Memory}
 use Rattle.mpw_told.specs.Told.{Misuses}
 use Rattle.mpw_told.specs.ToldParts.{range_text}
 
--- The part has just the columns that are asked for of those into which the layout is cut, and tells how many these are.
+-- The part has just the columns that are asked for of those into which the layout is cut, and says how many these are.
 pub record HasColumnsOf (s : Snapshot) (range : ColumnRange) (part : Found) : Type 0 where
   pub columns : List Column
   pub cut : AreColumnsOfLayout s columns
@@ -20,7 +20,7 @@ pub record HasColumnsOf (s : Snapshot) (range : ColumnRange) (part : Found) : Ty
       (Some (record { first = part.first; end = part.first + length part.lists }))
   pub own : part.columns ≡ take (length part.lists) (drop part.first columns)
 
--- The layout is cut into columns and hasn't those that are asked for, and that is told; or there is no room.
+-- The layout is cut into columns and hasn't those that are asked for, and that is reported; or memory runs out.
 abbrev pub IsOfRange : Snapshot → ColumnRange → FirmFault → Type 0
 IsOfRange s range fault =
     (fault ≡ Memory)

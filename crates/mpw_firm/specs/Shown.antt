@@ -1,4 +1,4 @@
--- What is told of a layout's markers: their listing and their report, of the first of each rule where there is a limit; or their numbers by rule.
+-- What is printed about a layout's markers: their listing and their report, of the first of each rule if there is a limit; or their numbers by rule.
 use Rattle.std.specs.Prelude.{ℕ, ◌-◌, ◌^◌, Bool, true, false, List, [], ◌∷◌, length, map, Option, None, Some, option_map}
 use Rattle.std.specs.List.{flat_map}
 use Rattle.mpw_outputs.specs.Counted.{counts_text, rule_counts, summary_text}
@@ -32,7 +32,7 @@ pub record Shown : Type 0 where
   pub summary : Bool
   pub faults : List Told
 
--- What is shown of what was checked, where these are all its markers.
+-- What is shown of what was checked, if these are all its markers.
 abbrev pub shown_of : Checked → List Marker → Shown
 shown_of c book = record {
   original = option_map (λ file. file.now) c.original;
@@ -71,7 +71,7 @@ printed_text s false = listing_by s s.limit
 abbrev pub listing_text : Shown → List ℕ
 listing_text s = printed_text s s.summary
 
--- What the report tells with these numbers: the first markers of each rule have an item, and each element that is left out for its fault.
+-- What the report has with these numbers: the first markers of each rule have an item, and each element that is left out for its fault.
 abbrev pub content_with : Shown → List ℕ → Content
 content_with s counts = record {
   original = s.original;
@@ -84,7 +84,7 @@ content_with s counts = record {
   faults = s.faults;
 }
 
--- What the report tells: all markers, with how many each rule has.
+-- What the report has: all markers, with how many each rule has.
 abbrev pub content_of : Shown → Content
 content_of s = content_with s (rule_counts (length s.rules) s.book)
 

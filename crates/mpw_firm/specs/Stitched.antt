@@ -18,7 +18,7 @@ use Rattle.mpw_told.specs.Told.{Refuses, Tells}
 use Rattle.mpw_told.specs.ToldParts.{Holder, no_markers_text, no_part_text, older_text, damaged_text, fault_text}
 
 -- A file is refused whose text is no part, with a text of its own if it begins as an older part, and another if it begins as a part; or
--- there is no room.
+-- memory runs out.
 abbrev pub unread_text : (older begun : Bool) → List ℕ → List ℕ
 unread_text true begun file = older_text file
 unread_text false true file = damaged_text file
@@ -32,14 +32,14 @@ IsOfFile file text fault =
 
 -- ---- parts of these files, of a layout with so many columns under so many rules
 
--- The parts aren't stitched, and why is told.
+-- The parts aren't stitched, and why is printed.
 abbrev pub IsOfParts : List Holder → (columns rules : ℕ) → List Found → FirmFault → Type 0
 IsOfParts holders columns rules parts fault =
     (why : PartsFault) × IsFaultOf rules parts why × Tells (fault_text holders columns why) fault
 
 -- ---- the whole
 
--- The deck, the structure's name and the number of columns are those that the first of the parts tells.
+-- The deck, the structure's name and the number of columns are those that the first of the parts has.
 pub record IsSubjectOf (parts : List Found) (subject : Subject) : Type 0 where
   pub first : Found
   pub at : slice_get parts 0 ≡ Some first
@@ -47,12 +47,12 @@ pub record IsSubjectOf (parts : List Found) (subject : Subject) : Type 0 where
   pub top : subject.top ≡ first.subject.top
   pub columns : subject.columns ≡ first.subject.columns
 
--- The name of the first file; where there is none, the command's.
+-- The name of the first file; if there is none, the command's.
 abbrev pub first_name : List Holder → List ℕ
 first_name [] = codes "mpw stitch"
 first_name (first ∷ rest) = first.name
 
--- There is no part, or the first one's deck has a fault, which is told of the first file.
+-- There is no part, or the first one's deck has a fault, which is reported of the first file.
 abbrev pub IsOfFirst : List Holder → List Found → FirmFault → Type 0
 IsOfFirst holders parts fault =
     ((parts ≡ []) × Refuses no_markers_text fault)

@@ -27,7 +27,7 @@ unfoldable pub lap_text : (before name : List ℕ) (time : ℕ) → List ℕ
 lap_text before name time =
     before ++ (codes " " ++ (name ++ (codes " " ++ (decimal time ++ codes " ms"))))
 
--- The time of a part that is known stands after those before it.
+-- The time of a part that is known comes after those before it.
 abbrev pub with_lap : (text name : List ℕ) → (time : Option ℕ) → List ℕ
 with_lap text name None = text
 with_lap text name (Some time) = text ++ lap_text (begun_by text) name time

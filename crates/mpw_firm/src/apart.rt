@@ -11,7 +11,7 @@ use mpw_outputs::{Outputs, Use, apart};
 use mpw_told::FirmFault;
 use std::alloc::{AllocError, Global};
 
-/// A file that is read, or the standard input where it is `-`.
+/// A file that is read, or the standard input if it is `-`.
 fn input<'a>(what: &'a str, name: &'a str) -> Use<'a>
     ensures { result.name.now ≡ input_name name.entry.now }
 {

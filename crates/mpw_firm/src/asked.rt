@@ -25,7 +25,7 @@ use rayon::current_num_threads;
 use std::alloc::Global;
 use std::thread::Threads;
 
-/// Prints the markers or their numbers, and writes the report and the picture. Where what is held is enough for all that is wanted, they are
+/// Prints the markers or their numbers, and writes the report and the picture. If what is held is enough for all that is wanted, they are
 /// those of all markers.
 fn write_all<O: Outputs>(
     outputs: &mut O,
@@ -58,7 +58,7 @@ fn look_at(alloc: Global, options: &Options, drawn: &Drawn) -> Result<(), FirmFa
     look(alloc, options.strict, &target, &drawn.layout)
 }
 
-/// Checks what the command line asks for, prints its markers or their numbers, writes its report and its picture and tells how many markers there
+/// Checks what the command line asks for, prints its markers or their numbers, writes its report and its picture and returns how many markers there
 /// are, with the elements that are left out for their faults, up to 2^64 - 1. A key that no marker has is refused before anything is printed.
 ///
 /// # Errors

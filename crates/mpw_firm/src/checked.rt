@@ -22,13 +22,13 @@ pub struct Checked<'a> {
     pub parts: &'a Parts,
     /// Its markers, as many as are held, and how many it has.
     pub found: &'a Findings,
-    /// The name of the layout's file, where it is known.
+    /// The name of the layout's file, if it is known.
     pub original: Option<&'a str>,
     /// How many markers of each rule are listed, written and drawn at most.
     pub limit: Option<u32>,
-    /// What the report tells of what was looked at.
+    /// What the report says of what was looked at.
     pub notes: &'a [Note<'a>],
-    /// Whether the numbers of markers by rule are printed in the place of the listing.
+    /// Whether the numbers of markers by rule are printed instead of the listing.
     pub summary: bool,
     /// The elements that are left out for their faults.
     pub faults: &'a [Fault<'a>],

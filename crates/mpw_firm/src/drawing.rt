@@ -34,7 +34,7 @@ fn is_of_top(fault: &CheckFault) -> bool {
     matches!(fault, CheckFault::Structure(HierFault::NoTop))
 }
 
-/// What is told of a library of that text that isn't checked.
+/// What is printed about a library of that text that isn't checked.
 pub fn refusal_of(
     rt: &HostRuntime,
     target: &Target<'_>,
@@ -46,7 +46,7 @@ pub fn refusal_of(
     check_fault(rt.alloc(), target.file, target.top.as_str(), fault, text)
 }
 
-/// What is told of a library where no structure is named, and not just one isn't placed.
+/// What is printed about a library if no structure is named, and not just one isn't placed.
 #[tactic(auto, unfolding(crate::specs::Drawings::no_top_text))]
 fn several_tops(alloc: Global, file: &str) -> FirmFault
     ensures { Refuses (no_top_text file.now) result }
@@ -56,7 +56,7 @@ fn several_tops(alloc: Global, file: &str) -> FirmFault
     ))
 }
 
-/// The same, or what is told of its first fault, if it has one.
+/// The same, or what is printed about its first fault, if it has one.
 fn no_top(rt: &HostRuntime, file: &str, source: &Source<'_>) -> FirmFault
     requires { only_top (kept_text source.now) ≡ None }
     ensures { IsOfNoTop file.now source.now result }
@@ -139,7 +139,7 @@ fn drawn_with(
 /// The structure that is checked, under a deck. If it isn't there, the names of those that nothing places are printed on the standard error.
 ///
 /// # Errors
-/// `Refused` where the library's text has a fault, or the structure can't be checked; and `Memory`.
+/// `Refused` if the library's text has a fault, or the structure can't be checked; and `Memory`.
 fn drawn_under(
     rt: &HostRuntime,
     options: &Options,
@@ -156,7 +156,7 @@ fn drawn_under(
     }
 }
 
-/// The deck of a text, with that side of its tiles where there is one.
+/// The deck of a text, with that side of its tiles if there is one.
 fn deck_under(
     alloc: Global,
     options: &Options,
@@ -172,10 +172,10 @@ fn deck_under(
     }
 }
 
-/// What is checked, of the texts of a deck and a library, with that side of the tiles where there is one.
+/// What is checked, of the texts of a deck and a library, with that side of the tiles if there is one.
 ///
 /// # Errors
-/// `Refused` where the deck's text has a fault, and where it hasn't, as [`drawn_under`]; and `Memory`.
+/// `Refused` if the deck's text has a fault, and if it hasn't, as [`drawn_under`]; and `Memory`.
 pub fn drawn_of(
     rt: &HostRuntime,
     options: &Options,
@@ -195,7 +195,7 @@ pub fn drawn_of(
     }
 }
 
-/// The structure which has to reach what is read, where that is asked for.
+/// The structure which has to reach what is read, if that is asked for.
 fn above<'a>(options: &'a Options, choices: &Choices) -> Option<&'a Name>
     ensures { option_map (λ name. name.now) result ≡ above choices.now.unreached options.entry.now.top }
 {
@@ -205,12 +205,12 @@ fn above<'a>(options: &'a Options, choices: &Choices) -> Option<&'a Name>
     }
 }
 
-/// What is checked of the whole, of the files that the command line names. What is left out of the library is told on the standard
-/// error, and, where that is asked for, each fault of its elements, which are reported too.
+/// What is checked of the whole, of the files that the command line names. What is left out of the library is printed on the standard
+/// error, and, if that is asked for, each fault of its elements, which are reported too.
 ///
 /// # Errors
 /// A file that can't be read, a deck or a library with a fault, a structure that can't be checked, a report of faults that can't be
-/// written, or want of memory.
+/// written, or out of memory.
 pub fn drawn_by<O: Outputs>(
     rt: &HostRuntime,
     outputs: &mut O,

@@ -1,4 +1,4 @@
-//! A library that is refused, with all faults of its elements told and reported. `specs/Faulty.antt` has what contracts say of it.
+//! A library that is refused, with all faults of its elements printed and reported. `specs/Faulty.antt` has what contracts say of it.
 ghost use Rattle.std.specs.Prelude.{◌≡◌, ◌∷◌, [], Some, map, option_map, IfOk, IfErr};
 ghost use Rattle.std.specs.String.{string_bytes};
 ghost use Rattle.mpw_firm.specs.Faulty.{IsToldFaulty, IsUnfaulty, faulty_content, faulty_texts, some_texts, top_for, top_texts};
@@ -31,7 +31,7 @@ pub struct Refused<'a> {
     pub rules: &'a [Rule],
 }
 
-/// The structure in whose coordinates faults are told: the one that is named, or the only one that nothing places.
+/// The structure in whose coordinates faults are reported: the one that is named, or the only one that nothing places.
 fn top_for(
     alloc: Global,
     options: &Options,
@@ -104,7 +104,7 @@ fn put_below<O: Outputs>(
     put_some(outputs, alloc, file, refused, seen.as_slice())
 }
 
-/// Writes the report of a library's faults, where a report is wanted, and there is a structure in whose coordinates they are told.
+/// Writes the report of a library's faults, if a report is wanted, and there is a structure in whose coordinates they are reported.
 fn put_wanted<O: Outputs>(
     outputs: &mut O,
     alloc: Global,
@@ -157,14 +157,14 @@ pub fn tell_skipped(rt: &HostRuntime, options: &Options, source: &Source<'_>) ->
     tell_faulty(rt, options.file.as_str(), source, &top)
 }
 
-/// Tells each fault of a library.
+/// Prints each fault of a library.
 fn tell_all(rt: &HostRuntime, options: &Options, source: &Source<'_>) -> io::Result<()> {
     let top = top_for(rt.alloc(), options, source)?;
     tell_faults(rt, options.file.as_str(), source, &top)
 }
 
-/// Tells each fault of a library that was refused, and writes the report of them that is wanted. What is told of the whole is that fault
-/// still; or that the report can't be written; or want of memory.
+/// Prints each fault of a library that was refused, and writes the report of them that is wanted. What is printed about the whole is that fault
+/// still; or that the report can't be written; or out of memory.
 pub fn faulty<O: Outputs>(
     rt: &HostRuntime,
     outputs: &mut O,

@@ -1,4 +1,4 @@
-//! The markers of a layout, as many as have to be held for what is told of them: all, or the first of each rule. `specs/Held.antt` has
+//! The markers of a layout, as many as have to be held for what is printed about them: all, or the first of each rule. `specs/Held.antt` has
 //! what contracts say of it.
 //!
 //! A marker that is held takes some 100 bytes; of those that aren't, only the numbers by rule are there.
@@ -23,7 +23,7 @@ use std::thread::Threads;
 pub enum Held {
     /// All of them.
     All(Book),
-    /// The first of each rule, where no more are told.
+    /// The first of each rule, if no more are printed.
     First(Vec<Marker>),
 }
 
@@ -42,7 +42,7 @@ impl Findings {
     /// All markers of a book under these rules.
     ///
     /// # Errors
-    /// Want of memory.
+    /// Out of memory.
     pub fn of_book(alloc: Global, rules: &[Rule], book: Book) -> Result<Findings, AllocError>
         ensures { IfOk result (λ found. IsFoundOf None (length rules.now) found book) }
     {
@@ -66,7 +66,7 @@ impl Findings {
     }
 }
 
-/// How many markers of each rule are enough for the listing and the report; none where all are wanted.
+/// How many markers of each rule are enough for the listing and the report; none if all are wanted.
 fn enough_listed(options: &Options, choices: &Choices) -> Option<usize>
     ensures { result ≡ enough_listed (option_map string_bytes options.now.report) choices.now.summary choices.now.limit }
 {
@@ -79,7 +79,7 @@ fn enough_listed(options: &Options, choices: &Choices) -> Option<usize>
     }
 }
 
-/// How many markers of each rule are enough for what the command line asks for; none where all are wanted.
+/// How many markers of each rule are enough for what the command line asks for; none if all are wanted.
 pub fn enough_for(options: &Options, choices: &Choices) -> Option<usize>
     ensures { result ≡ enough_for options.now choices.now.summary choices.now.limit }
 {
@@ -122,10 +122,10 @@ fn first_in(
     })
 }
 
-/// The markers of a layout, all or the first of each rule where so many are enough, while a terminal is told how far the check came.
+/// The markers of a layout, all or the first of each rule if so many are enough, while a terminal shows how far the check came.
 ///
 /// # Errors
-/// Want of memory.
+/// Out of memory.
 pub fn found_in(
     rt: &HostRuntime,
     threads: &(impl Threads + Sync),

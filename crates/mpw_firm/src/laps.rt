@@ -1,4 +1,4 @@
-//! How long each part of a check takes. A clock that can't be read leaves out what it would tell. `specs/Times.antt` has what contracts say of it.
+//! How long each part of a check takes. If the clock can't be read, that time is left out. `specs/Times.antt` has what contracts say of it.
 ghost use Rattle.std.specs.Prelude.{◌≡◌, ℕ, Option, None, IfOk};
 ghost use Rattle.std.specs.String.{string_bytes};
 ghost use Rattle.mpw_firm.specs.Times.{begun_by, cut_name, lap_text, stitch_name, taken_with, times_text, with_lap};
@@ -84,7 +84,7 @@ fn since(rt: &HostRuntime, then: Option<Instant>) -> Option<u64> {
     }
 }
 
-/// What stands before the next time.
+/// What is before the next time.
 fn begun_by(text: &str) -> &'static str
     ensures { result.now ≡ begun_by text.now }
 {

@@ -1,4 +1,4 @@
-//! The line on which a terminal is told how far a check came, and how long its parts took.
+//! The line on which a terminal shows how far a check came, and how long its parts took.
 ghost use Rattle.std.specs.Prelude.{◌≡◌, ◌<◌, ◌≤◌, ◌+◌, ◌-◌, ◌*◌, ◌/◌};
 
 use crate::laps::{Lap, Laps};
@@ -8,7 +8,7 @@ use mpw_tiles::Snapshot;
 use std::io::{self, IsTerminal};
 use std::time::Instant;
 
-/// A line on the standard error, which is written only where that is a terminal, and the times of a check's parts. Where the terminal
+/// A line on the standard error, which is written only if that is a terminal, and the times of a check's parts. If the terminal
 /// or the clock fails the check goes on.
 #[derive(Drop)]
 pub struct Line<'a> {
@@ -26,7 +26,7 @@ pub struct Line<'a> {
     laps: Laps<'a>,
 }
 
-/// The seconds that the others take, rounded up, where so many of all took so many ms.
+/// The seconds that the others take, rounded up, if so many of all took so many ms.
 fn seconds_left(taken: u64, done: usize, total: usize) -> u128
     requires some { 0 < done }
     requires within { done ≤ total }
@@ -51,7 +51,7 @@ impl<'a> Line<'a> {
         }
     }
 
-    /// Tells what was read, which is checked by columns or by tiles, and that this part has ended.
+    /// Prints what was read, which is checked by columns or by tiles, and that this part has ended.
     pub fn tell_read(&mut self, snapshot: &Snapshot, by_columns: bool) {
         self.laps.end(Lap::Read);
         self.read = peak(self.rt);
@@ -67,14 +67,14 @@ impl<'a> Line<'a> {
         if self.by_columns { "columns" } else { "tiles" }
     }
 
-    /// Tells how many tiles there are, into which the layout is cut, or how many columns.
+    /// Prints how many tiles there are, into which the layout is cut, or how many columns.
     fn write_begun(&mut self, total: usize) -> io::Result<()> {
         self.begun = Some(Instant::now(self.rt)?);
         let cut = if self.by_columns { "" } else { "cut, " };
         eprint!(self.rt; "\rmpw: {cut}{total} {} to check", self.parts())
     }
 
-    /// Tells about how long the others take, by what these took since the first was begun.
+    /// Prints about how long the others take, by what these took since the first was begun.
     fn write_left(&self, done: usize, total: usize, begun: &Instant) -> io::Result<()>
         requires some { 0 < done }
         requires within { done ≤ total }
@@ -84,7 +84,7 @@ impl<'a> Line<'a> {
         eprint!(self.rt; ", about {left} s left   ")
     }
 
-    /// Tells how many are checked, and how many markers were found so far.
+    /// Prints how many are checked, and how many markers were found so far.
     fn write_checked(&self, done: usize, total: usize, markers: usize) -> io::Result<()> {
         let parts = self.parts();
         eprint!(self.rt; "\rmpw: {done} of {total} {parts} checked, {markers} markers so far")
@@ -114,8 +114,8 @@ impl<'a> Line<'a> {
         self.is_open = false;
     }
 
-    /// The most memory that the check of a layout is reckoned to take, of whose markers so many are held, in MB of 2^20 bytes; none where the system
-    /// doesn't tell what reading took.
+    /// The most memory that the check of a layout is estimated to take, of whose markers so many are held, in MB of 2^20 bytes; none if the system
+    /// doesn't say what reading took.
     pub fn reckoned(&self, layout: &Snapshot, held: usize) -> Option<u64> {
         let read = self.read?;
         Some(reckoned(layout, read, self.threads, held))
@@ -126,7 +126,7 @@ impl<'a> Line<'a> {
         self.laps.all()
     }
 
-    /// Ends the part that writes, and tells on the standard error how long each part took.
+    /// Ends the part that writes, and prints on the standard error how long each part took.
     pub fn tell_times(&mut self) {
         self.laps.end(Lap::Write);
         let _ = self.laps.tell(self.by_columns);

@@ -1,8 +1,8 @@
 //! The program of a firm: `mpw check --deck DECK --top STRUCTURE FILE` checks a structure of a GDSII library under a deck, and
 //! prints its markers as a desk lists them; with `--report OUT` it writes them to a file too, as a report database of KLayout's.
 //! With `--tiles` it checks some columns of the layout, and prints their part; `mpw stitch PART..` prints the markers of the whole.
-//! With `--summary` it prints how many markers each rule has in the place of the markers.
-//! With `--picture OUT` it draws what was checked, or with `--marker KEY` what lies round a marker, as SVG.
+//! With `--summary` it prints how many markers each rule has instead of the markers.
+//! With `--picture OUT` it draws what was checked, or with `--marker KEY` what is around a marker, as SVG.
 #![tactic(auto)]
 
 ghost use Rattle.std.specs.Prelude.{◌≡◌, ◌∷◌, [], IfOk, IfErr};
@@ -65,7 +65,7 @@ fn print_told<O: Outputs>(outputs: &mut O, alloc: Global, text: &str) -> Result<
     Ok(0)
 }
 
-/// Checks the whole, or the columns that are asked for, where no output is an input or another output.
+/// Checks the whole, or the columns that are asked for, if no output is an input or another output.
 fn check_asked<O: Outputs>(
     rt: &HostRuntime,
     threads: &(impl Threads + Sync),
@@ -81,7 +81,7 @@ fn check_asked<O: Outputs>(
     }
 }
 
-/// Stitches the parts, where none of them is an output.
+/// Stitches the parts, if none of them is an output.
 fn stitch_asked<O: Outputs>(
     rt: &HostRuntime,
     outputs: &mut O,
@@ -93,7 +93,7 @@ fn stitch_asked<O: Outputs>(
     stitch(rt, outputs, options)
 }
 
-/// Does what is asked for, and tells how many markers there are.
+/// Does what is asked for, and returns how many markers there are.
 fn done<O: Outputs>(
     rt: &HostRuntime,
     threads: &(impl Threads + Sync),
@@ -109,7 +109,7 @@ fn done<O: Outputs>(
     }
 }
 
-/// Does what these words ask for, and tells how many markers there are.
+/// Does what these words ask for, and returns how many markers there are.
 fn done_of<O: Outputs>(
     rt: &HostRuntime,
     threads: &(impl Threads + Sync),
@@ -122,7 +122,7 @@ fn done_of<O: Outputs>(
     done(rt, threads, outputs, &asked)
 }
 
-/// Does what the command line asks for, and tells how many markers there are.
+/// Does what the command line asks for, and returns how many markers there are.
 fn run<O: Outputs>(
     rt: &HostRuntime,
     threads: &(impl Threads + Sync),
@@ -135,7 +135,7 @@ fn run<O: Outputs>(
     done_of(rt, threads, outputs, words.as_slice())
 }
 
-/// Does what the command line asks for, tells a fault on the standard error, and gives the exit status.
+/// Does what the command line asks for, prints a fault on the standard error, and gives the exit status.
 fn ended<O: Outputs>(rt: &HostRuntime, threads: &(impl Threads + Sync), outputs: &mut O) -> ExitCode
     ensures { Ends (O.kept outputs.old) (O.kept outputs.new) (exit_status result) }
 {
@@ -146,8 +146,8 @@ fn ended<O: Outputs>(rt: &HostRuntime, threads: &(impl Threads + Sync), outputs:
     ExitCode::from(exit_status(&ended))
 }
 
-/// Exits with 0 without markers and 1 with some, 2 at a usage fault, 3 where a file or a device failed, 4 where the library,
-/// the deck or a part has a fault, and 5 where memory was wanting; with 0 behind the help and the version too. A fault is told on the
+/// Exits with 0 without markers and 1 with some, 2 at a usage fault, 3 if a file or a device failed, 4 if the library,
+/// the deck or a part has a fault, and 5 if memory ran out; with 0 after the help and the version too. A fault is printed on the
 /// standard error.
 fn main(rt: HostRuntime) -> ExitCode {
     let space = Space::new();

@@ -29,10 +29,10 @@ const MOST_BOXES: u64 = 1 << 20;
 /// What a shape of a layout takes that is cut into the windows of tiles, in bytes.
 const FOR_A_SHAPE: u64 = 1024;
 
-/// What a thread takes for the columns at work, and for the parts of columns that it keeps, in MB.
+/// What a thread takes for the columns at work, and for the parts of columns that it holds, in MB.
 const FOR_A_THREAD: u64 = 128;
 
-/// The kB that stand behind a name in a text of Linux's.
+/// The kB after a name in a text of Linux's.
 fn told_in(text: &str, name: &str) -> Option<u64> {
     for line in text.lines() {
         if let Some(told) = line.strip_prefix(name) {
@@ -42,7 +42,7 @@ fn told_in(text: &str, name: &str) -> Option<u64> {
     None
 }
 
-/// The greatest memory that the process had so far, in MB of 2^20 bytes, rounded up; none where the system doesn't tell it.
+/// The greatest memory that the process had so far, in MB of 2^20 bytes, rounded up; none if the system doesn't say.
 pub fn peak(rt: &HostRuntime) -> Option<u64> {
     let status = fs::read_to_string(rt, "/proc/self/status").ok()?;
     Some(told_in(status.as_str(), "VmHWM:")?.div_ceil(1024))
@@ -109,7 +109,7 @@ fn for_layout(layout: &Snapshot) -> u64 {
     lists.saturating_add(boxes)
 }
 
-/// The most memory that a check is reckoned to take, in MB of 2^20 bytes: what the process had when the library was read, what the layout takes in windows or
+/// The most memory that a check is estimated to take, in MB of 2^20 bytes: what the process had after reading, what the layout takes in windows or
 /// in lists and boxes, what each of so many threads does, and the markers that are held. Shapes that lie over one another in great numbers take more.
 pub fn reckoned(layout: &Snapshot, read: u64, threads: usize, held: usize) -> u64 {
     let markers = (held as u64).saturating_mul(FOR_A_MARKER);

@@ -83,10 +83,10 @@ fn part_of(
     Ok(part?)
 }
 
-/// Checks the columns that the command line asks for, prints their part and tells how many markers they have.
+/// Checks the columns that the command line asks for, prints their part and returns how many markers they have.
 ///
 /// # Errors
-/// Columns that the layout hasn't, a file that can't be read, a library or a deck with a fault, a device that failed, or want of memory.
+/// Columns that the layout hasn't, a file that can't be read, a library or a deck with a fault, a device that failed, or out of memory.
 #[tactic(auto, using(crate::proofs::Flat::part_read, crate::proofs::Flat::part_named))]
 pub fn check_range<O: Outputs>(
     rt: &HostRuntime,

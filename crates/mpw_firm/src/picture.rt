@@ -21,7 +21,7 @@ use mpw_tiles::Snapshot;
 use mpw_told::{FirmFault, misuse};
 use std::alloc::{AllocError, Global};
 
-/// What is told of a key that no marker has.
+/// What is printed about a key that no marker has.
 #[tactic(auto, unfolding(crate::specs::Keys::unknown_text))]
 fn unknown_marker(alloc: Global, key: &str) -> FirmFault
     ensures { Misuses (unknown_text key.now) result }

@@ -1,4 +1,4 @@
-//! What is told on the standard error of a check that has ended.
+//! What is printed on the standard error about a check that has ended.
 ghost use Rattle.std.specs.Prelude.{◌≡◌, nat_lt};
 ghost use Rattle.std.specs.List.{list_any};
 ghost use Rattle.mpw_firm.specs.Counts.{count_of, has_some};
@@ -16,7 +16,7 @@ use std::io;
 /// The most shapes of a submission to a desk.
 const MAX_ON_DESK: u64 = 1 << 20;
 
-/// Tells how many markers there are, and how many of each rule.
+/// Prints how many markers there are, and how many of each rule.
 pub fn tell_markers(rt: &HostRuntime, checked: &Checked<'_>) -> io::Result<()> {
     eprint!(rt; "{} markers", checked.found.all)?;
     for (rule, count) in checked.rules.iter().zip(checked.found.counts.iter()) {
@@ -25,7 +25,7 @@ pub fn tell_markers(rt: &HostRuntime, checked: &Checked<'_>) -> io::Result<()> {
     Ok(())
 }
 
-/// Tells the time that was taken, if the clock can be read, and the greatest memory, where the system tells it.
+/// Prints the time that was taken, if the clock can be read, and the greatest memory, if the system says it.
 fn tell_taken(rt: &HostRuntime, taken: Option<u64>) -> io::Result<()> {
     if let Some(taken) = taken {
         eprint!(rt; ", {taken} ms")?;
@@ -36,7 +36,7 @@ fn tell_taken(rt: &HostRuntime, taken: Option<u64>) -> io::Result<()> {
     Ok(())
 }
 
-/// Ends a line with the memory that a check was reckoned to take, where the system told what reading took.
+/// Ends a line with the memory that a check was estimated to take, if the system said what reading took.
 fn tell_reckoned(
     rt: &HostRuntime,
     layout: &Snapshot,
@@ -54,7 +54,7 @@ fn tell_reckoned(
     eprintln!(rt; "")
 }
 
-/// Tells in how many tiles a layout was checked, or that columns were.
+/// Prints in how many tiles a layout was checked, or that columns were.
 fn tell_way(rt: &HostRuntime, snapshot: &Snapshot) -> io::Result<()> {
     match checked_tiles(snapshot) {
         Some(tiles) => eprint!(rt; "{tiles} tiles, "),
@@ -123,7 +123,7 @@ pub fn count_of(lists: &[ColumnKeys]) -> usize
     count
 }
 
-/// Tells which of the columns were checked, how many markers these have, and the time and the memory that it took.
+/// Prints which of the columns were checked, how many markers these have, and the time and the memory that it took.
 pub fn tell_part(
     rt: &HostRuntime,
     snapshot: &Snapshot,

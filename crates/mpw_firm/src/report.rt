@@ -99,7 +99,7 @@ fn list_counts<O: Outputs>(
     put(outputs, alloc, Place::Standard, &text)
 }
 
-/// Prints the markers that are held; or how many each rule has, where that is asked for.
+/// Prints the markers that are held; or how many each rule has, if that is asked for.
 fn list<O: Outputs>(outputs: &mut O, alloc: Global, checked: &Checked<'_>) -> Result<(), FirmFault>
     ensures kept { IfOk result (λ _. Grows (O.kept outputs.old) (O.kept outputs.new) (on_output (held_printed checked.now checked.now.summary) ∷ [])) }
     ensures refused { IfErr result OutputFails }
@@ -111,7 +111,7 @@ fn list<O: Outputs>(outputs: &mut O, alloc: Global, checked: &Checked<'_>) -> Re
     }
 }
 
-/// Writes the report that the command line asks for; nothing where it asks for none.
+/// Writes the report that the command line asks for; nothing if it asks for none.
 fn report<O: Outputs>(
     outputs: &mut O,
     alloc: Global,

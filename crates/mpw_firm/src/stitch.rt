@@ -65,7 +65,7 @@ fn whole_in(rt: &HostRuntime, names: &[String]) -> Result<Whole, FirmFault>
     whole_of(alloc, files.as_slice(), parts)
 }
 
-/// Tells of how many parts the markers were stitched, how many these are, and of which rules some are left out.
+/// Prints of how many parts the markers were stitched, how many these are, and of which rules some are left out.
 fn tell_stitched(
     rt: &HostRuntime,
     parts: usize,
@@ -78,10 +78,10 @@ fn tell_stitched(
     tell_limit(rt, checked)
 }
 
-/// Stitches the parts that the command line names, prints the markers, writes the report and tells how many markers there are.
+/// Stitches the parts that the command line names, prints the markers, writes the report and returns how many markers there are.
 ///
 /// # Errors
-/// A file that can't be read or written, one that is no part, parts that don't fit, a device that failed, or want of memory.
+/// A file that can't be read or written, one that is no part, parts that don't fit, a device that failed, or out of memory.
 pub fn stitch<O: Outputs>(
     rt: &HostRuntime,
     outputs: &mut O,

@@ -29,7 +29,7 @@ pub struct Whole {
     pub book: Book,
 }
 
-/// What the first of the parts tells of it.
+/// What the first of the parts says of it.
 fn subject_of(alloc: Global, files: &[PartFile<'_>], parts: &[Part]) -> Result<Subject, FirmFault>
     ensures subject { IfOk result (IsSubjectOf parts.now) }
     ensures refused { IfErr result (IsOfFirst files.now parts.now) }
@@ -82,7 +82,7 @@ fn book_of(
     }
 }
 
-/// The same, without what the law tells of it.
+/// The same, without what the law says of it.
 fn make_whole(alloc: Global, files: &[PartFile<'_>], parts: Vec<Part>) -> Result<Whole, FirmFault>
     ensures whole { IfOk result (IsWholeOf parts.items) }
     ensures refused { IfErr result (IsOfWhole files.now parts.items) }

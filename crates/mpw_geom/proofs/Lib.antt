@@ -1,3 +1,4 @@
+-- The files of this crate's lemmas.
 pub mod Boxes
 pub mod Chains
 pub mod LeastLemmas

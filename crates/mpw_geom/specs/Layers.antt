@@ -1,4 +1,4 @@
--- Layers.
+-- When two layers are the same.
 use Rattle.std.specs.Prelude.{◌==◌, ◌&&◌, Bool}
 use Rattle.mpw_geom.specs.declared.plane.Layer.{Layer}
 

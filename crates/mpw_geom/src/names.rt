@@ -77,7 +77,7 @@ impl Names {
         Ok(())
     }
 
-    /// Removes the name. The others keep their order. One pass.
+    /// Removes the name. The others stay in their order. One pass.
     pub fn remove(&mut self, name: &Name)
         ensures { self.new ≡ without_name self.old name.now }
     {
@@ -88,7 +88,7 @@ impl Names {
         );
     }
 
-    /// Sorts the names by their bytes and keeps each once: n log n comparisons.
+    /// Sorts the names by their bytes and leaves each once: n log n comparisons.
     ///
     /// # Errors
     /// Out of memory. The list is then as it was.

@@ -1,6 +1,6 @@
 //! Placings: an orientation and then a displacement (GDSII Stream release 6, SREF and AREF).
 //!
-//! No call here takes memory. Callers keep coordinates between -2^48 and 2^48 nm, so that no sum
+//! No call here takes memory. Callers ensure that coordinates are between -2^48 and 2^48 nm, so that no sum
 //! wraps.
 
 ghost use Rattle.std.specs.Prelude.{◌≡◌, ◌↔◌, IsTrue};

@@ -8,9 +8,9 @@ ghost use Rattle.mpw_geom.specs.declared.plane.Point.{Point};
 /// A point, in nm.
 #[derive(Clone, Copy, PartialEq, Eq)]
 pub struct Point {
-    /// Grows to the right. Callers keep it within -2^48 to 2^48.
+    /// Grows to the right. Callers ensure that it is within -2^48 to 2^48.
     pub x: i64,
-    /// Grows upwards. Callers keep it within -2^48 to 2^48.
+    /// Grows upwards. Callers ensure that it is within -2^48 to 2^48.
     pub y: i64,
 }
 

@@ -1,3 +1,4 @@
+-- The files of this crate's lemmas.
 mod Staying
 mod Named
 mod Squared

@@ -1,4 +1,4 @@
--- The layers of rules, and what stays of a layout if only shapes on these are kept.
+-- The layers of rules, and what stays of a layout if only shapes on these are left.
 use Rattle.std.specs.Prelude.{Bool, true, ◌||◌, List, map, filter}
 use Rattle.std.specs.List.{list_any}
 use Rattle.mpw_geom.specs.declared.plane.Layer.{Layer}

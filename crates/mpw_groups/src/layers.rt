@@ -1,4 +1,4 @@
-//! The layers of rules, and which elements stay if only shapes on these are kept.
+//! The layers of rules, and which elements stay if only shapes on these are left.
 
 ghost use Rattle.std.specs.Prelude.{◌≡◌, ◌||◌, IfOk, OnOk};
 ghost use Rattle.mpw_geom.specs.Layers.{same_layer};

@@ -1,6 +1,6 @@
 //! Splits a check by groups of rules. The rules of a group share layers with one another, directly or by a chain, and none with the rules of other groups.
 //!
-//! A group is checked over its part of the layout: only the shapes on its layers. So wires of other groups don't keep cells from repeating one another, and
+//! A group is checked over its part of the layout: only the shapes on its layers. So wires of other groups don't make equal cells unequal, and
 //! a structure without shapes of the group isn't visited.
 //!
 //! - [`groups_of`] finds the groups of a deck's rules.

@@ -41,7 +41,7 @@ pub struct Entry {
 /// The entries of a subject.
 #[derive(Clone, Copy)]
 pub struct Table {
-    /// The subject, which stands before the entries' words where `mpw help` lists them.
+    /// The subject, which comes before the entries' words when `mpw help` lists them.
     pub title: &'static str,
     /// In the order in which the help prints them.
     pub entries: &'static [Entry],

@@ -1,3 +1,4 @@
+-- The files of this crate's lemmas.
 pub mod Leading
 pub mod Steps
 pub mod StepReads

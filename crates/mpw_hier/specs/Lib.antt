@@ -1,3 +1,4 @@
+-- The files of this crate's definitions.
 pub mod Structures
 pub mod Outside
 pub mod Outline

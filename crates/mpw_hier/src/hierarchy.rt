@@ -28,7 +28,7 @@ use mpw_structures::Element;
 use std::alloc::{AllocError, Global};
 use std::collections::BTreeMap;
 
-/// The numbers of the submissions to which names are bound, by name.
+/// The numbers of the submissions to which names are bound, found by the name.
 fn table_of(alloc: Global, bindings: &[Binding]) -> Result<BTreeMap<Name, u32>, AllocError>
     ensures { IfOk result (λ table. ShowsBindings table bindings.now) }
 {

@@ -1,3 +1,4 @@
+-- The files of this crate's lemmas.
 pub mod Tests
 pub mod Shapes
 pub mod Flat

@@ -1,3 +1,4 @@
+-- The files of this crate's definitions.
 pub mod Layers
 pub mod Answers
 pub mod Layout

@@ -1,3 +1,4 @@
+-- The files of this crate's lemmas.
 pub mod SameKey
 pub mod KeyOrder
 pub mod Ordered

@@ -1,3 +1,4 @@
+-- The files of this crate's definitions.
 pub mod Columns
 pub mod Firsts
 pub mod Keys

@@ -1,4 +1,4 @@
--- The guard stands before each decision table: what the response to a request says of both.
+-- The guard comes before each decision table: what the response to a request says of both.
 use Rattle.std.proofs.Common.{◌≡◌, ◌⊎◌, ℕ, Bool, List, Result, Ok, Err, inl, inr, refl, sym, ap, ◌∙◌}
 use Rattle.mpw_access.specs.Guard.{DeniedIsLacked, Lacks, entered}
 use Rattle.mpw_requests.specs.Needs.{need_of}

@@ -1,3 +1,4 @@
+-- The files of this crate's lemmas.
 pub mod AcceptedLemmas
 pub mod BookLines
 pub mod CheckingReadable

@@ -46,7 +46,7 @@ present_is exact (Some deck) placings s e =
     let same : now ≡ s = (exact.snapshots now s).0 e in
     (ap (λ (x : Snapshot). Some x.deck) same, ap (λ (x : Snapshot). x.roots) same)
 
--- what a verdict tells, and of which run
+-- what a verdict says, and of which run
 record IsVerdict (wafer : Wafer) (run : Run) (waivers : List (Option Waiver)) (lines : List Listed) :
     Type 0 where
   f : Checked

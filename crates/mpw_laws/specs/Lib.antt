@@ -1,3 +1,4 @@
+-- The files of this crate's definitions.
 pub mod CheckingLaws
 pub mod LayoutLaws
 pub mod ListingLaws

@@ -1,3 +1,4 @@
+-- The files of this crate's lemmas.
 pub mod Placed
 pub mod Values
 pub mod Children

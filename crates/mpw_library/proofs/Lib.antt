@@ -1,3 +1,4 @@
+-- The files of this crate's lemmas.
 pub mod Apart
 pub mod DerivedLibrary
 pub mod Ended

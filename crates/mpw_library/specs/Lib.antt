@@ -1,3 +1,4 @@
+-- The files of this crate's definitions.
 pub mod Grammar
 pub mod Derivation
 pub mod Fronts

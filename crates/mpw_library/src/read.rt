@@ -262,7 +262,7 @@ pub fn read_shared(alloc: Global, text: &Arc<Vec<u8>>) -> Result<Library, ReadEr
     read_whole(alloc, text)
 }
 
-/// Reads a library from a text that the caller keeps. The text is copied once.
+/// Reads a library from a text that stays with the caller. The text is copied once.
 ///
 /// # Errors
 /// The same as those of [`read_shared`].

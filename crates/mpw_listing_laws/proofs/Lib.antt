@@ -1,3 +1,4 @@
+-- The files of this crate's lemmas.
 pub mod Alike
 pub mod Handled
 pub mod MarkerLines

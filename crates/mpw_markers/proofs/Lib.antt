@@ -1,3 +1,4 @@
+-- The files of this crate's lemmas.
 pub mod Order
 mod Referred
 pub mod Marked

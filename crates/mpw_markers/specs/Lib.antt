@@ -1,3 +1,4 @@
+-- The files of this crate's definitions.
 pub mod Met
 pub mod Markers
 pub mod Order

@@ -41,7 +41,7 @@ impl Model for Met {
     ghost invariant = { λ m. IsAscending (numbers_of m.numbers) };
 }
 
-/// Sorts the numbers and keeps each once.
+/// Sorts the numbers and leaves each once.
 fn sort_each_once(numbers: &mut Vec<u32>)
     ensures ascending { IsAscending numbers.new.items }
     ensures same { (n : ℕ) → Contains numbers.new.items n ↔ Contains numbers.old.items n }

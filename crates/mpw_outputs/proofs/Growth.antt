@@ -1,4 +1,4 @@
--- Texts that are put one behind another.
+-- Texts that are put one after another.
 use Rattle.std.proofs.Common.{◌≡◌, ◌∙◌, ℕ, List, [], ◌∷◌, ◌++◌, Option, None, Some, ap, subst, append_assoc}
 use Rattle.std.specs.Prelude.{IfSome}
 use Rattle.std.specs.Io.KnownBytes.{Appends}
@@ -12,7 +12,7 @@ grows_more (Some xs) (Some ys) (Some zs) first second a b =
 grows_more (Some xs) (Some ys) None first second a b = b
 grows_more (Some xs) None new first second a b = absurd a
 
--- The same where the second is of a file that is named otherwise too.
+-- The same if the second is of a file that is named otherwise too.
 pub grows_named : (old middle new : Option (List Kept)) (first : List Kept)
     (name other text : List ℕ)
     → other ≡ name → Grows old middle first → Grows middle new (in_file other text ∷ [])
@@ -21,7 +21,7 @@ grows_named old middle new first name other text same a b =
     grows_more old middle new first (in_file name text ∷ []) a
     (subst (λ n. Grows middle new (in_file n text ∷ [])) same b)
 
--- What one text grows by, where it is known what was there before.
+-- What one text grows by, if it is known what was there before.
 puts_known : (xs : List Kept) (new : Option (List Kept)) (whole : Option (List ℕ))
     (place : Option (List ℕ)) (text : List ℕ) → Appends (Some []) whole text
     → Puts (Some xs) new place whole

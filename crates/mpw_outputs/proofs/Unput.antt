@@ -1,4 +1,4 @@
--- What is told of a place that doesn't take a text is of that place.
+-- What is printed about a place that doesn't take a text is of that place.
 use Rattle.std.proofs.Common.{ℕ, Bool, true, List, [], Option, None, Some}
 use Rattle.mpw_told.specs.Told.{reason_text}
 use Rattle.mpw_told.specs.declared.fault.FirmFault.{FirmFault}

@@ -1,4 +1,4 @@
--- The numbers of markers by rule, and the text that tells them.
+-- The numbers of markers by rule, and the text that has them.
 use Rattle.std.specs.Prelude.{ℕ, ◌-◌, ◌^◌, ◌++◌, List, codes, get_or, length, map, min}
 use Rattle.std.specs.List.{enumerate_from, flat_map, range_with_len}
 use Rattle.std.specs.Fmt.{decimal}
@@ -27,7 +27,7 @@ rule_line counts row = count_line row.1.name (get_or counts row.0 0)
 abbrev pub rule_lines : List Rule → List ℕ → List ℕ
 rule_lines rules counts = flat_map (rule_line counts) (enumerate_from 0 rules)
 
--- And behind them one for all markers.
+-- And after them one for all markers.
 abbrev pub counts_text : List Rule → (counts : List ℕ) → (all : ℕ) → List ℕ
 counts_text rules counts all = rule_lines rules counts ++ count_line (codes "all") all
 

@@ -1,1 +1,2 @@
+-- The files of definitions for private functions and proofs.
 pub mod Counted

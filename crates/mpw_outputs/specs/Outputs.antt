@@ -21,13 +21,13 @@ on_output text = record { place = None; text = text }
 abbrev pub in_file : (name text : List ℕ) → Kept
 in_file name text = record { place = Some name; text = text }
 
--- Texts that are known have further ones behind them.
+-- Texts that are known have further ones after them.
 abbrev pub Grows : Option (List Kept) → Option (List Kept) → List Kept → Type 0
 Grows None new more = ⊤
 Grows (Some xs) None more = ⊥
 Grows (Some xs) (Some ys) more = ys ≡ xs ++ more
 
--- The same of one text, where it is known.
+-- The same of one text, if it is known.
 abbrev pub Puts : Option (List Kept) → Option (List Kept) → Option (List ℕ) → Option (List ℕ)
     → Type 0
 Puts None new place text = ⊤
@@ -35,12 +35,12 @@ Puts (Some xs) new place None = ⊤
 Puts (Some xs) new place (Some text) =
     Grows (Some xs) new (record { place = place; text = text } ∷ [])
 
--- A text isn't put into that place, which is told; or there is no room.
+-- A text isn't put into that place, which is reported; or memory runs out.
 abbrev pub IsUnput : Option (List ℕ) → FirmFault → Type 0
 IsUnput None fault = OutputFails fault
 IsUnput (Some file) fault = CannotBeWritten file fault
 
--- The file that is wanted can't be written, where one is.
+-- The file that is wanted can't be written, if one is.
 abbrev pub IsUnwritten : Option (List ℕ) → FirmFault → Type 0
 IsUnwritten None fault = ⊥
 IsUnwritten (Some file) fault = CannotBeWritten file fault
@@ -81,6 +81,6 @@ are_apart leads inputs [] = true
 are_apart leads inputs (name ∷ names) =
     not (is_among leads inputs name) && are_apart leads (inputs ++ (name ∷ [])) names
 
--- The same, where it is known which files the names lead to.
+-- The same, if it is known which files the names lead to.
 abbrev pub AreApart : Option (List ℕ → Option Spot) → (inputs outputs : List (List ℕ)) → Type 0
 AreApart files inputs outputs = IfSome files (λ leads. are_apart leads inputs outputs ≡ true)

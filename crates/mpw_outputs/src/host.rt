@@ -86,7 +86,7 @@ impl Target {
     }
 }
 
-/// What takes the bytes of a text, and notes where no space is left.
+/// What takes the bytes of a text, and notes if no space is left.
 #[derive(Drop)]
 pub struct Device<'a> {
     target: Target,
@@ -105,7 +105,7 @@ impl Write for Device<'_> {
     }
 }
 
-/// The name of a new file, and that of the place that it is for. Where it isn't put there it is removed.
+/// The name of a new file, and that of the place that it is for. If it isn't put there it is removed.
 struct NewName<'a> {
     rt: &'a HostRuntime,
     new: String,

@@ -28,7 +28,7 @@ pub struct Draft<S, N> {
 }
 
 /// Where texts are written to. Contracts see the texts that are in their places, in the order in which they came there, and which
-/// file a name leads to, or `None`, which claims nothing, where nobody can say what a device holds.
+/// file a name leads to, or `None`, which claims nothing, if nobody can say what a device holds.
 pub trait Outputs {
     /// What takes a draft's bytes.
     type Bytes: Sink + Drop;
@@ -46,17 +46,17 @@ pub trait Outputs {
     /// The name of a draft's place; none is the standard output's.
     ghost place: { Self.Name → Option (List ℕ) };
 
-    /// The file that a name leads to, where it leads to one that holds what is written there.
+    /// The file that a name leads to, if it leads to one that holds what is written there.
     ///
     /// # Errors
-    /// Want of memory.
+    /// Out of memory.
     fn spot(&self, alloc: Global, name: &str) -> Result<Option<FileSpot>, AllocError>
         ensures { IfOk result (λ spot. IfSome (files self.now) (λ leads. spot ≡ leads name.now)) };
 
     /// Begins a text for a place.
     ///
     /// # Errors
-    /// `Device` where it can't be begun, and `Memory`.
+    /// `Device` if it can't be begun, and `Memory`.
     fn begin(
         &mut self,
         alloc: Global,
@@ -74,7 +74,7 @@ pub trait Outputs {
     /// Puts a text into its place, whole and at once.
     ///
     /// # Errors
-    /// `Device` where that failed, and `Memory`; what was in the place is as it was.
+    /// `Device` if that failed, and `Memory`; what was in the place is as it was.
     fn keep(
         &mut self,
         alloc: Global,
@@ -88,7 +88,7 @@ pub trait Outputs {
 /// Writes a text and puts it into its place, once all of it was handed on.
 ///
 /// # Errors
-/// `Device` where that failed, which says so if no space was left, and `Memory`. The file that was there is then unchanged.
+/// `Device` if that failed, which says so if no space was left, and `Memory`. The file that was there is then unchanged.
 pub fn put<O: Outputs>(
     outputs: &mut O,
     alloc: Global,
@@ -105,7 +105,7 @@ pub fn put<O: Outputs>(
     outputs.keep(alloc, draft)
 }
 
-/// What is told of a place that doesn't take a text.
+/// What is printed about a place that doesn't take a text.
 fn untaken(alloc: Global, to: Place<'_>, is_full: bool) -> FirmFault
     ensures { IsUntaken (place_of to.entry) is_full result }
 {

@@ -1,4 +1,4 @@
-//! The numbers of markers by rule, and the text that tells them. `specs/Counted.antt` has what contracts say of it.
+//! The numbers of markers by rule, and the text that has them. `specs/Counted.antt` has what contracts say of it.
 ghost use Rattle.std.specs.Prelude.{◌≡◌, ◌==◌, ◌<◌, ◌+◌, ◌^◌, ◌++◌, ℕ, if◌then◌else◌, get_or, length, replicate, slice_index, IfOk};
 ghost use Rattle.std.specs.String.{string_bytes};
 ghost use Rattle.mpw_outputs.specs.Counted.{count_line, counts_text, rule_counts, rule_lines};
@@ -43,7 +43,7 @@ fn count_one(counts: &mut Vec<usize>, place: usize)
 /// takes 8 bytes for each rule.
 ///
 /// # Errors
-/// Want of memory.
+/// Out of memory.
 pub fn rule_counts(
     alloc: Global,
     rules: usize,

@@ -33,7 +33,7 @@ pub enum Text<'a> {
     Picture(&'a [Rule], &'a Name, &'a Picture),
     /// The part of some columns.
     Part(&'a Part),
-    /// A text as it stands.
+    /// A text as it is.
     Told(&'a str),
 }
 

@@ -12,7 +12,7 @@ use std::alloc::{AllocError, Global};
 /// A file with what it is used for.
 #[derive(Clone, Copy, Drop)]
 pub struct Use<'a> {
-    /// What it is used for, as that is told.
+    /// What it is used for, as that is printed.
     pub what: &'a str,
     /// Its name.
     pub name: &'a str,
@@ -36,7 +36,7 @@ fn same_as<'a, O: Outputs>(
     Ok(None)
 }
 
-/// What is told of an output that is a file which is used otherwise too.
+/// What is printed about an output that is a file which is used otherwise too.
 #[tactic(auto, unfolding(crate::specs::Apart::one_file_text))]
 fn one_file(alloc: Global, out: &Use<'_>, other: &Use<'_>) -> FirmFault
     ensures { Misuses (one_file_text out.now other.now) result }

@@ -12,7 +12,7 @@ use Rattle.mpw_markers.specs.Order.{StandsBefore}
 use Rattle.mpw_markers.proofs.Order.{StandsBefore-chain}
 use Rattle.mpw_keys.specs.Keys.{of_first}
 
--- each of the first n markers stands before those of them behind it
+-- each of the first n markers is before those after it
 abbrev pub AreApartBelow : ℕ → List Marker → Type 0
 AreApartBelow n markers = (i j : ℕ) (d : Marker) → i < j → j < n
     → StandsBefore (get_or markers i d) (get_or markers j d)

@@ -11,7 +11,7 @@ use Rattle.mpw_keys.specs.Columns.{seen_box, AreColumns, AreColumnsOf}
 use Rattle.mpw_parts.specs.Stitching.{CoverExtent}
 use Rattle.mpw_parts.specs.Internal.Stitching.{count_on, upright_count}
 
--- ---- an extent up to the last number of 64 bits has a place behind it, where no column ends
+-- ---- an extent up to the last number of 64 bits has a place after it, where no column ends
 
 ends_below : (axis : Axis) (low high : ℤ) (cs : List Column) → low <ℤ high
     → All (λ (c : Column). c.to <ℤ high) cs → AreColumns axis low high cs → ⊥
@@ -60,7 +60,7 @@ all_counted None us hs cover =
     ∙ sym (ap length cover.0)
 all_counted (Some extent) us hs cover = counted _ _ _ _ us hs cover.0 cover.1
 
--- where columns are divided at all so that they cover the extent, they are divided there
+-- if columns are divided at all so that they cover the extent, they are divided there
 pub divided : (extent : Option Box2) (columns us hs : List Column) → columns ≡ us ++ hs
     → CoverExtent extent us hs
     → CoverExtent extent (take (upright_count columns) columns)

@@ -7,7 +7,7 @@ use Rattle.sha2.specs.Sha256.{sha256}
 use Rattle.mpw_parts.specs.Text.{digest_line}
 use Rattle.mpw_parts.proofs.Splitting.{IsOne}
 
--- no place of the table has a line feed, and none behind its end
+-- no place of the table has a line feed, and none after its end
 digit : (table : List ℕ) (k : ℕ) → IsOne 10 table → (slice_index table k == 10) ≡ false
 digit [] k all = refl
 digit (d ∷ ds) zero all = All-head (λ byte. (byte == 10) ≡ false) d ds all

@@ -54,7 +54,7 @@ begun from part column (inl begins) low high =
 begun from part column (inr none) low high =
     absurd (let empty : length part.lists ≡ 0 = ap length none in omega (arith, empty))
 
--- and none behind
+-- and none after
 ended : (from : ℕ) (part : Found) (column : ℕ) → BeginsAt from part
     → from + length part.lists ≤ column
     → count column part ≡ 0

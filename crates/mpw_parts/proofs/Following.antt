@@ -11,7 +11,7 @@ use Rattle.mpw_parts.specs.Parts.{Found}
 use Rattle.mpw_parts.specs.Stitching.{columns_of, lists_of, BeginsAt, FollowOn, IsFrom, EachColumnHasItsList}
 use Rattle.mpw_parts.proofs.Lists.{zip_append, zip_parts}
 
--- another part behind parts
+-- another part after parts
 follow_more : (from : ℕ) (parts : List Found) (end : ℕ) (part : Found) → FollowOn from parts end
     → BeginsAt end part → FollowOn from (parts ++ part ∷ []) (end + length part.lists)
 follow_more from [] end part so begins =

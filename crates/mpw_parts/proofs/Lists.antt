@@ -33,7 +33,7 @@ pub zip_push : {X Y : Type 0} (R : X → Y → Type 0) (xs : List X) (ys : List 
     → AllZip R xs ys → R x y → AllZip R (xs ++ x ∷ []) (ys ++ y ∷ [])
 zip_push R xs ys x y h r = zip_append R xs (x ∷ []) ys (y ∷ []) h (r, tt)
 
--- those of two fronts that are as long, and those behind
+-- those of two fronts that are as long, and those after
 pub zip_parts : {X Y : Type 0} (R : X → Y → Type 0) (xs vs : List X) (ys ws : List Y)
     → length ys ≡ length xs → AllZip R (xs ++ vs) (ys ++ ws) → AllZip R xs ys × AllZip R vs ws
 zip_parts R [] vs [] ws long h = (tt, h)

@@ -98,7 +98,7 @@ head_words s first =
     encode_lower s.library ∷ encode_lower s.deck ∷ s.top ∷ extent_text s.extent
     ∷ decimal s.columns ∷ decimal first ∷ []
 
--- texts one behind another
+-- texts one after another
 in_row : (k l d t s e c f : List ℕ) → k ++ l ++ d ++ t ++ s ++ e ++ c ++ f
     ≡ k ++ (l ++ (d ++ (t ++ (s ++ (e ++ (c ++ (f ++ [])))))))
 in_row k l d t s e c f =

@@ -1,4 +1,4 @@
--- Words, fields and lines that were put one behind another are taken apart again.
+-- Words, fields and lines that were put one after another are taken apart again.
 use Rattle.std.proofs.Common.{◌≡◌, ◌≤◌, ◌<◌, ◌-◌, ◌==◌, ℕ, true, false, cond, List, [], ◌∷◌, ◌++◌, length, take, refl, ap, ◌∙◌, arith, append-nil, append_assoc}
 use Rattle.std.specs.List.{All, slice_split, flat_map}
 use Rattle.std.proofs.lemmas.List.{length_push}
@@ -12,7 +12,7 @@ use Rattle.mpw_parts.specs.Text.{ended}
 abbrev pub IsOne : ℕ → List ℕ → Type 0
 IsOne separator word = All (λ byte. (byte == separator) ≡ false) word
 
--- words, each behind the separator
+-- words, each after the separator
 abbrev pub each_behind : ℕ → List (List ℕ) → List ℕ
 each_behind separator words = flat_map (λ word. separator ∷ word) words
 
@@ -93,7 +93,7 @@ one_field word all = All-weaker IsPlain (λ byte. (byte == 58) ≡ false) (λ by
 pub glyphs : (word : List ℕ) → All IsPlain word → All IsGlyph word
 glyphs word all = All-weaker IsPlain IsGlyph (λ byte h. h.0) word all
 
--- what holds of each byte of words holds of them one behind another
+-- what holds of each byte of words holds of them one after another
 pub all_flat : (P : ℕ → Type 0) (separator : ℕ) (words : List (List ℕ)) → P separator
     → All (All P) words → All P (each_behind separator words)
 all_flat P separator [] h all = All-nil P

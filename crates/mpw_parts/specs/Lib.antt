@@ -1,3 +1,4 @@
+-- The files of this crate's definitions.
 pub mod Parts
 pub mod Text
 pub mod Reading

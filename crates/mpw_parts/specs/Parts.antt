@@ -18,7 +18,7 @@ pub record Checked : Type 0 where
   pub extent : Option Box2
   pub columns : ℕ
 
--- Columns that stand one behind another among those, from the first of them on, and the keys of each.
+-- Columns that are one after another among those, from the first of them on, and the keys of each.
 pub record Found : Type 0 where
   pub subject : Checked
   pub first : ℕ

@@ -18,19 +18,19 @@ use Rattle.mpw_parts.specs.declared.line.Listed.{Listed}
 use Rattle.mpw_parts.specs.Parts.{Found}
 use Rattle.mpw_parts.specs.Text.{part_text}
 
--- a part, and then the next where there is one
+-- a part, and then the next if there is one
 infixl 10 ◌>>=◌
 abbrev pub ◌>>=◌ : {A B : Type 0} → Option A → (A → Option B) → Option B
 option >>= next = option_and_then next option
 
--- what all items are, where each is something
+-- what all items are, if each is something
 unfoldable pub all_of : {A B : Type 0} → (A → Option B) → List A → Option (List B)
 all_of is [] = Some []
 all_of is (x ∷ xs) = is x >>= λ y. option_map (λ ys. y ∷ ys) (all_of is xs)
 
 -- ---- words
 
--- a number of 64 bits: digits, behind a minus sign below 0
+-- a number of 64 bits: digits, after a minus sign below 0
 abbrev pub negative : ℕ → ℤ
 negative number = neg_ℤ (pos number)
 
@@ -120,7 +120,7 @@ key_with axis rule side e = record {
   y1 = e.y1;
 }
 
--- the key that fields tell, on the column's axis
+-- the key that fields give, on the column's axis
 unfoldable pub key_from : Column → (rule side : List ℕ) → List (List ℕ) → Option Key
 key_from c rule side words = do
   r ← number_of 0 4294967295 rule

@@ -18,7 +18,7 @@ use Rattle.mpw_parts.specs.declared.fault.PartsFault.{PartsFault}
 use Rattle.mpw_parts.specs.declared.fault.PartsFault.TheVariants as faults
 use Rattle.mpw_parts.specs.Parts.{Checked, Found}
 
--- the columns of parts and their lists, those of one part behind those of another
+-- the columns of parts and their lists, those of one part after those of another
 abbrev pub columns_of : List Found → List Column
 columns_of parts = flat_map (λ (part : Found). part.columns) parts
 
@@ -58,7 +58,7 @@ HasRules rules part = AreRuledLists rules part.lists
 abbrev pub HaveRules : ℕ → List Found → Type 0
 HaveRules rules parts = All (HasRules rules) parts
 
--- Columns of axis V, and columns of axis H, follow on one another over the extent; where there is none, there is no column.
+-- Columns of axis V, and columns of axis H, follow on one another over the extent; if there is none, there is no column.
 abbrev pub CoverExtent : Option Box2 → (upright across : List Column) → Type 0
 CoverExtent None upright across = (upright ≡ []) × (across ≡ [])
 CoverExtent (Some extent) upright across =
@@ -153,8 +153,8 @@ pub record AreApart (extent : Option Box2) (columns : ℕ) (parts : List Found) 
 
 -- Why parts aren't stitched: there are none; one is of another check than the first; all are of one check, and one has a key of a rule
 -- or a side that there isn't; none has, and a column is in none of them, or in more than one, or each is in one and they don't follow on
--- one another over the extent; they do, and what is put together is no book, as where two runs on one line overlap or touch; or
--- there is no room.
+-- one another over the extent; they do, and what is put together is no book, as when two runs on one line overlap or touch; or
+-- memory runs out.
 abbrev pub IsFaultOf : ℕ → List Found → PartsFault → Type 0
 IsFaultOf rules parts faults.Memory = Unit {0}
 IsFaultOf rules parts faults.NoPart = parts ≡ []
@@ -179,7 +179,7 @@ abbrev pub IsFrom : List Found → Column → List Key → Type 0
 IsFrom parts c keys = (part : Found) × (k : ℕ) × Contains parts part
     × (slice_get part.columns k ≡ Some c) × (slice_get part.lists k ≡ Some keys)
 
--- Where parts have each column once, there are as many lists, and each column of either axis has the list that it has in one of the parts.
+-- If parts have each column once, there are as many lists, and each column of either axis has the list that it has in one of the parts.
 abbrev pub EachColumnHasItsList : Type 0
 EachColumnHasItsList =
     (rules : ℕ) (parts : List Found) (vs hs : List (List Key)) (whole : AreWhole rules parts vs hs)

@@ -13,7 +13,7 @@ use Rattle.mpw_markers.specs.declared.marker.Key.{Key}
 use Rattle.mpw_keys.specs.declared.column.Column.{Column}
 use Rattle.mpw_parts.specs.Parts.{Checked, Found}
 
--- a word behind a space, and a line with its line feed
+-- a word after a space, and a line with its line feed
 abbrev pub spaced : List ℕ → List ℕ
 spaced word = 32 ∷ word
 
@@ -36,7 +36,7 @@ key_text k = with_colons (decimal k.rule ∷ key_fields k)
 abbrev pub key_part : Key → List ℕ
 key_part k = spaced (key_text k)
 
--- a column: its axis, its first place, and the place behind its last one
+-- a column: its axis, its first place, and the place after its last one
 abbrev pub column_fields : Column → List (List ℕ)
 column_fields c = signed_decimal c.from ∷ signed_decimal c.to ∷ []
 

@@ -70,7 +70,7 @@ fn are_filled(markers: &[Marker]) -> bool
     true
 }
 
-/// Whether each marker stands before those behind it.
+/// Whether each marker is before those after it.
 fn are_apart(markers: &[Marker]) -> bool
     requires { All IsFilled markers.now }
     ensures { IsTrue result ↔ AllPairs StandsBefore markers.now }

@@ -46,7 +46,7 @@ impl fmt::Display for Difference {
 /// Why parts aren't stitched.
 #[derive(Clone, Copy, Debug, Error)]
 pub enum PartsFault {
-    /// There is no room.
+    /// Memory runs out.
     #[error("out of memory")]
     Memory,
     /// There is no part.
@@ -67,7 +67,7 @@ pub enum PartsFault {
     /// The columns don't follow on one another over the extent.
     #[error("the columns of the parts don't follow on one another over the extent")]
     Apart,
-    /// The markers, put together, are no book, as where two on one line overlap or touch.
+    /// The markers, put together, are no book, as when two on one line overlap or touch.
     #[error("the markers of the parts make no book")]
     NoBook,
 }

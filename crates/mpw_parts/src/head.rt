@@ -11,7 +11,7 @@ use std::alloc::{AllocError, Global};
 /// The greatest number of columns.
 const MAX_COLUMNS: u32 = 4194304;
 
-/// What a part's first line tells.
+/// What a part's first line says.
 #[derive(Drop)]
 pub(crate) struct Heading {
     pub subject: Subject,
@@ -33,7 +33,7 @@ fn box_by(words: &[&[u8]]) -> Option<Box2>
     Some(Box2 { x0, y0, x1, y1 })
 }
 
-/// The extent that a word tells, or that there is none.
+/// The extent that a word gives, or that there is none.
 #[tactic(auto, unfolding(crate::specs::Reading::extent_of))]
 fn extent(alloc: Global, word: &[u8]) -> Result<Option<Option<Box2>>, AllocError>
     ensures { IfOk result (λ found. found ≡ extent_of word.now) }
@@ -48,7 +48,7 @@ fn extent(alloc: Global, word: &[u8]) -> Result<Option<Option<Box2>>, AllocError
     }
 }
 
-/// What the words behind the first tell.
+/// What the words after the first say.
 #[tactic(auto, unfolding(crate::specs::Reading::head_from))]
 fn head_from(alloc: Global, words: &[&[u8]]) -> Result<Option<Heading>, AllocError>
     ensures { IfOk result (λ found. found ≡ head_from (map (λ word. word.now) words.now)) }
@@ -80,7 +80,7 @@ fn head_from(alloc: Global, words: &[&[u8]]) -> Result<Option<Heading>, AllocErr
     }))
 }
 
-/// What a first line tells, by its words.
+/// What a first line says, by its words.
 #[tactic(auto, unfolding(crate::specs::Reading::head_by))]
 fn head_by(alloc: Global, words: &[&[u8]]) -> Result<Option<Heading>, AllocError>
     ensures { IfOk result (λ found. found ≡ head_by (map (λ word. word.now) words.now)) }
@@ -91,7 +91,7 @@ fn head_by(alloc: Global, words: &[&[u8]]) -> Result<Option<Heading>, AllocError
     }
 }
 
-/// What a first line tells.
+/// What a first line says.
 pub(crate) fn head(alloc: Global, line: &[u8]) -> Result<Option<Heading>, AllocError>
     ensures { IfOk result (λ found. found ≡ head_of line.now) }
 {

@@ -13,7 +13,7 @@ pub fn only_parts_are_read()
     ensures { OnlyPartsAreRead }
 {}
 
-/// Where parts are a whole, what holds of each of their columns with its list holds of the columns and lists that are put together.
+/// If parts are a whole, what holds of each of their columns with its list holds of the columns and lists that are put together.
 pub fn each_column_has_its_list()
     ensures { EachColumnHasItsList }
 {}

@@ -1,9 +1,9 @@
 //! Parts of a check: the keys of some of the columns into which a layout is cut, as a text that another machine reads.
 //!
-//! A [`Part`] has what was checked, its [`Subject`], and columns that stand one behind another with the keys of each. [`write_part`]
+//! A [`Part`] has what was checked, its [`Subject`], and columns that are one after another with the keys of each. [`write_part`]
 //! writes it, with the SHA-256 of its text on the last line. [`read_part`] reads what was written as that part again
 //! ([`parts_are_read_back`]), and nothing else ([`only_parts_are_read`]). [`stitch_parts`] makes one
-//! book of parts that have each column once: no run goes on in another column, so their lists are put one behind another.
+//! book of parts that have each column once: no run goes on in another column, so their lists are put one after another.
 #![tactic(auto)]
 
 mod book;

@@ -8,7 +8,7 @@ use mpw_keys::{Column, ColumnKeys};
 use std::marker::Model;
 
 /// What is checked: a library by the SHA-256 of its text, a deck by its text, the structure by its name, the extent of what is
-/// checked where there are shapes, and into how many columns it is cut, at most 2^22. Contracts see these.
+/// checked if there are shapes, and into how many columns it is cut, at most 2^22. Contracts see these.
 pub struct Subject {
     library: [u8; 32],
     deck: Vec<u8>,
@@ -106,7 +106,7 @@ pub(crate) struct Lists {
     pub lists: Vec<ColumnKeys>,
 }
 
-/// Columns that stand one behind another among those of a check, from the first of them on, with the keys of each. Contracts see these,
+/// Columns that are one after another among those of a check, from the first of them on, with the keys of each. Contracts see these,
 /// and what was checked.
 pub struct Part {
     subject: Subject,

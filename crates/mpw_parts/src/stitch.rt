@@ -54,7 +54,7 @@ fn difference(first: &Subject, other: &Subject) -> Option<Difference>
     }
 }
 
-/// The first part that isn't of this check, and what it doesn't share; none where all are of it.
+/// The first part that isn't of this check, and what it doesn't share; none if all are of it.
 fn first_other(first: &Subject, parts: &[Part]) -> Option<(usize, Difference)>
     ensures { MatchOption result (AreAllOf first.now parts.now) (λ other. IsOther first.now parts.now other.0 other.1) }
 {
@@ -111,7 +111,7 @@ fn has_rules(rules: u32, part: &Part) -> bool
     are_ruled_lists(rules, part.lists())
 }
 
-/// The first part with a key of another rule or side; none where there is none.
+/// The first part with a key of another rule or side; none if there is none.
 fn first_unruled(rules: u32, parts: &[Part]) -> Option<usize>
     ensures { MatchOption result (HaveRules rules parts.now) (λ place. IsUnruled rules parts.now place) }
 {
@@ -156,15 +156,15 @@ fn put_together(
     }
 }
 
-/// The book of parts of one check under a deck of so many rules: the markers of all columns, put one behind another in the order of a book, each of
+/// The book of parts of one check under a deck of so many rules: the markers of all columns, put one after another in the order of a book, each of
 /// which meets the first submission alone. The parts may come in any order. It costs a sort of the parts, a pass over the keys, another over
 /// the columns, and what [`mpw_keys::together`] does; keys aren't copied but into their markers.
 ///
 /// # Errors
-/// `NoPart` without parts; `Other` at the first that isn't of the first part's check; where all are, `NoRule` at the first with a marker of
-/// a rule that isn't one of so many; where none has, `Missing` and `Doubled` with a column that no part has or that more than one has; where
-/// each is there once, `Apart` if the columns don't follow on one another over the extent; where they do, `NoBook` if the markers are
-/// no book, as where two on one line overlap or touch; or `Memory`.
+/// `NoPart` without parts; `Other` at the first that isn't of the first part's check; if all are, `NoRule` at the first with a marker of
+/// a rule that isn't one of so many; if none has, `Missing` and `Doubled` with a column that no part has or that more than one has; if
+/// each is there once, `Apart` if the columns don't follow on one another over the extent; if they do, `NoBook` if the markers are
+/// no book, as when two on one line overlap or touch; or `Memory`.
 pub fn stitch_parts(alloc: Global, parts: Vec<Part>, rules: u32) -> Result<Book, PartsFault>
     ensures ok { IfOk result (IsBookOf rules parts.items) }
     ensures faults { IfErr result (IsFaultOf rules parts.items) }

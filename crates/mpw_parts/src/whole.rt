@@ -32,7 +32,7 @@ fn begins_at(column: usize, part: &Part) -> bool
     part.first() as usize == column || part.lists().is_empty()
 }
 
-/// What keeps a part from beginning at the column, where it begins at another.
+/// Why a part doesn't begin at the column, if it begins at another.
 fn fault_at(column: usize, first: usize) -> PartsFault
     ensures { result ≡ fault_at column first }
 {
@@ -43,10 +43,10 @@ fn fault_at(column: usize, first: usize) -> PartsFault
     }
 }
 
-/// Whether parts that stand in order have each of so many columns once.
+/// Whether parts that are in order have each of so many columns once.
 ///
 /// # Errors
-/// The first column where they haven't.
+/// The first column that isn't in just one of them.
 fn follow_on(columns: usize, parts: &[Part]) -> Result<(), PartsFault>
     requires own { All (λ part. part.subject.columns ≡ columns) parts.now }
     requires ordered { AreInOrder parts.now }
@@ -82,7 +82,7 @@ fn add_part(
     lists.append(&mut more.lists)
 }
 
-/// The columns of parts, those of one behind those of another. They are moved, and not copied.
+/// The columns of parts, those of one after those of another. They are moved, and not copied.
 fn joined(alloc: Global, count: usize, parts: Vec<Part>) -> Result<Lists, AllocError>
     ensures columns { IfOk result (λ joined. joined.columns.items ≡ columns_of parts.items) }
     ensures lists { IfOk result (λ joined. joined.lists.items ≡ lists_of parts.items) }
@@ -108,7 +108,7 @@ fn upright_count(columns: &[Column]) -> usize
     count
 }
 
-/// No column ends behind the last number of 64 bits. A fact of the type: the function does nothing.
+/// No column ends after the last number of 64 bits. A fact of the type: the function does nothing.
 fn end_below(columns: &[Column])
     ensures { All (λ column. column.to <ℤ pos (2 ^ 63)) columns.now }
 {
@@ -117,7 +117,7 @@ fn end_below(columns: &[Column])
     }
 }
 
-/// The first place along an axis at which an edge can stand, and the last, in nm.
+/// The first place along an axis at which an edge can be, and the last, in nm.
 #[derive(Clone, Copy)]
 struct Places {
     low: i64,
@@ -142,7 +142,7 @@ fn places_along(axis: Axis, extent: &Box2) -> Places
     }
 }
 
-/// The place behind the last; none behind the last number of 64 bits.
+/// The place after the last; none after the last number of 64 bits.
 fn behind(places: &Places) -> Option<i64>
     ensures { MatchOption result (places.now.high ≡ pos 9223372036854775807) (λ next. next ≡ places.now.high +ℤ pos 1) }
 {
@@ -167,7 +167,7 @@ fn are_columns_of(axis: Axis, extent: &Box2, columns: &[Column]) -> bool
     }
 }
 
-/// Whether columns of axis `V` and columns of axis `H` follow on one another over the extent, or there are none where it is none.
+/// Whether columns of axis `V` and columns of axis `H` follow on one another over the extent, or there are none if it is none.
 fn cover_both(extent: Option<Box2>, upright: &[Column], across: &[Column]) -> bool
     ensures { IsTrue result ↔ CoverExtent extent upright.now across.now }
 {
@@ -188,7 +188,7 @@ fn cover(extent: Option<Box2>, columns: &[Column], upright: usize) -> bool
     cover_both(extent, first, second)
 }
 
-/// How many of the columns are of axis `V`, where these and the others follow on over the extent.
+/// How many of the columns are of axis `V`, if these and the others follow on over the extent.
 fn divided(extent: Option<Box2>, columns: &[Column]) -> Option<usize>
     ensures divided { MatchOption result (AreUndivided extent columns.now) (λ upright. CoverExtent extent (take upright columns.now) (drop upright columns.now)) }
     ensures within { IfSome result (λ upright. upright ≤ length columns.now) }
@@ -208,7 +208,7 @@ pub(crate) struct Whole {
     pub upright: usize,
 }
 
-/// The lists of parts that stand in order, and follow on over the extent.
+/// The lists of parts that are in order, and follow on over the extent.
 fn covering(
     alloc: Global,
     extent: Option<Box2>,

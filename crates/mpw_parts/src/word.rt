@@ -39,7 +39,7 @@ fn above(digits: &[u8]) -> Option<i64>
     }
 }
 
-/// The number that a word spells: digits without a leading zero, behind a minus sign where it is below 0.
+/// The number that a word spells: digits without a leading zero, after a minus sign if it is below 0.
 #[tactic(auto, unfolding(crate::specs::Reading::integer_of))]
 pub(crate) fn integer(word: &[u8]) -> Option<i64>
     ensures { result ≡ integer_of word.now }

@@ -227,7 +227,7 @@ same-key operation object role a b one other =
           ↦ absurd (true≢false (sym is ∙ ne_eqb i k apart))
     ]
 
--- what a filter keeps
+-- what a filter leaves
 any-kept : {X : Type 0} (p k : X → Bool) → ((x : X) → p x ≡ true → k x ≡ true) → (xs : List X)
     → list_any p (filter k xs) ≡ list_any p xs
 any-kept p k keeps [] = refl

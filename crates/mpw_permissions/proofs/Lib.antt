@@ -1,3 +1,4 @@
+-- The files of this crate's lemmas.
 pub mod BlockLemmas
 pub mod BucketLemmas
 pub mod GrantedLemmas

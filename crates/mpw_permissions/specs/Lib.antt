@@ -1,3 +1,4 @@
+-- The files of this crate's definitions.
 pub mod Grant
 pub mod Internal
 pub mod Permissions

@@ -1,3 +1,4 @@
+-- The files of this crate's definitions.
 pub mod Density
 pub mod Drawn
 pub mod Internal

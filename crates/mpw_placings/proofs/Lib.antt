@@ -1,3 +1,4 @@
+-- The files of this crate's lemmas.
 pub mod Inverted
 pub mod Keeping
 pub mod Maps

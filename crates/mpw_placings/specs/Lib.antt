@@ -1,3 +1,4 @@
+-- The files of this crate's definitions.
 pub mod Internal
 pub mod Laws
 pub mod Placements

@@ -1,3 +1,4 @@
+-- The files of this crate's lemmas.
 pub mod AccessLemmas
 pub mod HolderLemmas
 pub mod InheritLemmas

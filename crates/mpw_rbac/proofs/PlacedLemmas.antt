@@ -35,7 +35,7 @@ pub names-changed : (change : PairChange) (h : Hierarchy) (senior junior : Name)
 names-changed Inherit = names-inherited
 names-changed Uninherit = names-uninherited
 
--- a change of the sets keeps their masks right
+-- a change of the sets leaves their masks right
 pub placed-after : (h k : Hierarchy) → k ≡ h → (old new : KeptSets)
     → (AreSetsPlaced (role_names k) old → AreSetsPlaced (role_names k) new)
     → AreSetsPlaced (role_names h) old → AreSetsPlaced (role_names h) new

@@ -35,7 +35,7 @@ all-filter p keep (x ∷ xs) a =
     elim (keep x) as (λ b. list_all p (cond b (x ∷ filter keep xs) (filter keep xs)) ≡ true)
     [ true ↦ and_both (p x) _ parts.0 rest | false ↦ rest ]
 
--- if each user keeps what it was authorized for, and the sessions stay
+-- if each user stays authorized for what it was, and the sessions stay
 pub sound-grows : (p q : Policy) → q.sessions ≡ p.sessions
     → ((u : Name) → is_user p u ≡ true → is_user q u ≡ true)
     → ((u r : Name) → contains_name (authorized p u) r ≡ true

@@ -1,3 +1,4 @@
+-- The files of this crate's definitions.
 pub mod Access
 pub mod Fault
 pub mod Laws

@@ -84,7 +84,7 @@ abbrev pub kept_roles : Policy → Session → Session
 kept_roles policy session = record session
     { active = filter (contains_name (authorized policy session.user)) session.active }
 
--- each session keeps those active roles that its user is authorized for, and a deleted user's sessions end
+-- in each session those active roles stay that its user is authorized for, and a deleted user's sessions end
 abbrev pub kept_sessions : Policy → List (ℕ × Session) → List (ℕ × Session)
 kept_sessions policy sessions = map (λ entry. (entry.0, kept_roles policy entry.1))
     (filter (λ (entry : ℕ × Session). is_user policy entry.1.user) sessions)

@@ -20,7 +20,7 @@ module _ {K V : Type 0} (eq : K → K → Bool) where
   abbrev pub without_key : List (K × V) → K → List (K × V)
   without_key entries key = filter (λ entry. not (eq key entry.0)) entries
 
-  -- the table with a value at a key: an existing key keeps its place, and a new one is added at
+  -- the table with a value at a key: an existing key stays in its place, and a new one is added at
   -- the end
   abbrev pub insert_entry : List (K × V) → K → V → List (K × V)
   insert_entry [] key value = (key, value) ∷ []

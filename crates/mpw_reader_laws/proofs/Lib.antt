@@ -1,3 +1,4 @@
+-- The files of this crate's lemmas.
 pub mod Progress
 pub mod Elements
 pub mod Items

@@ -1,3 +1,4 @@
+-- The files of this crate's lemmas.
 mod Seats
 pub mod Calls
 pub mod Adding

@@ -87,7 +87,7 @@ pub struct Reception {
     workers: u32,
     /// How many connections may have a place.
     places: u32,
-    /// Whether places are kept for connections with a session.
+    /// Whether places are reserved for connections with a session.
     keeps_places: bool,
 }
 
@@ -119,7 +119,7 @@ impl Waiting {
         Some(leaver.ticket)
     }
 
-    /// Makes room for a newcomer: if no more places are free than are kept for connections with a session, the oldest stranger is ended.
+    /// Makes room for a newcomer: if no more places are free than are reserved for connections with a session, the oldest stranger is ended.
     fn make_room<R: Wait>(&mut self, rt: &R, places: u32) {
         if let Some(ticket) = self.leaver(rt, places) {
             self.forget(ticket);

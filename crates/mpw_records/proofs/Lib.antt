@@ -1,3 +1,4 @@
+-- The files of this crate's lemmas.
 pub mod Fronts
 pub mod Sizes
 pub mod Near

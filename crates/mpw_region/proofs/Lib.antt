@@ -1,3 +1,4 @@
+-- The files of this crate's lemmas.
 pub mod Orderings
 pub mod Order
 pub mod Held

@@ -1,3 +1,4 @@
+-- The files of this crate's definitions.
 pub mod Squares
 pub mod Runs
 pub mod Banded

@@ -3,7 +3,7 @@
 //! The boxes are sorted once by their lowest rows. A step goes up to a row, removes the boxes that end at
 //! it or below, adds those that begin, and sorts the list from left to right. The part that the list had
 //! before is sorted already, so the sort finds it as one run. A step costs the boxes that it removes,
-//! keeps and adds, and a sort of those that it adds.
+//! leaves and adds, and a sort of those that it adds.
 
 ghost use Rattle.std.specs.Prelude.{
   ◌≡◌,

@@ -1,3 +1,4 @@
+-- The files of this crate's lemmas.
 pub mod RowFolds
 pub mod StoredOutcomes
 pub mod Sound

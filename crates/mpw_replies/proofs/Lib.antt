@@ -1,3 +1,4 @@
+-- The files of this crate's lemmas.
 mod EntryLemmas
 pub mod FirstLineLemmas
 mod ListingLemmas

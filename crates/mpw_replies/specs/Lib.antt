@@ -1,3 +1,4 @@
+-- The files of this crate's definitions.
 pub mod Blocks
 pub mod Entries
 pub mod Listing

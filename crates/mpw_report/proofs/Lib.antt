@@ -1,3 +1,4 @@
+-- The files of this crate's lemmas.
 mod Escaped
 mod Exact
 pub mod First

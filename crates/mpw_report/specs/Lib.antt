@@ -1,3 +1,4 @@
+-- The files of this crate's definitions.
 pub mod Content
 pub mod Escapes
 pub mod Lengths

@@ -1,3 +1,4 @@
+-- The files of this crate's definitions.
 pub mod Digest
 pub mod Needs
 pub mod Parts

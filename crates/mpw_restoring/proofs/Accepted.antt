@@ -1,4 +1,4 @@
--- A request changes the desk where it is accepted and is no listing.
+-- A request changes the desk if it is accepted and is no listing.
 use Rattle.std.proofs.Common.{◌≡◌, ℕ, ◌+◌, Bool, true, false, List, [], ◌∷◌, Result, Ok, Err, refl}
 use Rattle.std.specs.Prelude.{◌&&◌}
 use Rattle.mpw_rbac.specs.Rows as rows

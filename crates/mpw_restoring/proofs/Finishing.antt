@@ -56,7 +56,7 @@ wanted_tile : (s : State) (a : FoundMarkers)
 unfolding event_outcome
 wanted_tile s a = refl
 
--- the run behind an event of the run
+-- the run after an event of the run
 run_behind : (d : Desk) (e : Event) (o : run.Outcome)
     → event_outcome (state_of d) e ≡ of_run (state_of d) o
     → (state_of (answering d e true).desk).run ≡ o.run

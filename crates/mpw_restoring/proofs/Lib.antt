@@ -1,3 +1,4 @@
+-- The files of this crate's lemmas.
 pub mod Outcomes
 pub mod Again
 pub mod Accepted

@@ -1,3 +1,4 @@
+-- The files of this crate's lemmas.
 pub mod BoolLemmas
 pub mod CallerLemmas
 pub mod CommonLemmas

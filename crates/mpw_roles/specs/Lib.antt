@@ -1,3 +1,4 @@
+-- The files of this crate's definitions.
 pub mod Decided
 pub mod Hierarchy
 pub mod Marks

@@ -2,7 +2,7 @@
 //!
 //! [`Roles`] stores the pairs that were added, and for each role a [`Mask`]: the indexes of the roles at or below it, one bit each. The
 //! index of a role is its position in the order of the roles. So a question of order is one bit, and the roles below several others are the
-//! union of their masks. A change of pairs keeps the masks right. A new pair joins masks. If a pair or a role is removed, all masks are
+//! union of their masks. A change of pairs leaves the masks right. A new pair joins masks. If a pair or a role is removed, all masks are
 //! made again, with a pass over them for each pair that is left.
 #![tactic(auto)]
 

@@ -1,3 +1,4 @@
+-- The files of this crate's lemmas.
 pub mod Exactness
 pub mod TileLists
 pub mod Next

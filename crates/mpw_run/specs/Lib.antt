@@ -1,3 +1,4 @@
+-- The files of this crate's definitions.
 pub mod Same
 pub mod Stitching
 pub mod Run

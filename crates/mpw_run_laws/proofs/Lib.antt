@@ -1,3 +1,4 @@
+-- The files of this crate's lemmas.
 pub mod Calls
 pub mod Counted
 pub mod Followed

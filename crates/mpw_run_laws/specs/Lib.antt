@@ -1,3 +1,4 @@
+-- The files of this crate's definitions.
 pub mod Calls
 pub mod Finishing
 pub mod Restarts

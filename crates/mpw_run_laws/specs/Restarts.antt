@@ -36,7 +36,7 @@ worked_on (Finished f) = None
 abbrev pub cutting : ℕ → Planned → CutJob
 cutting number planned = record { run = number; snapshot = planned.snapshot }
 
--- The run keeps its number, what it checks, and, if it is finished, what it found: everybody gets the same
+-- The run's number, what it checks and, if it is finished, what it found stay as they are: everybody gets the same
 -- list of markers, and the waivers are the same. No answer of a tile counts: none is accepted, a call for a
 -- job of an unfinished run gets the cut, and after the windows no tile is answered.
 pub record TakesBack (state behind : State) : Type 0 where

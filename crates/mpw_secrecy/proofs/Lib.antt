@@ -1,3 +1,4 @@
+-- The files of this crate's lemmas.
 pub mod Answered
 pub mod Books
 pub mod Cells

@@ -60,7 +60,7 @@ besides connection a b first second c d same = record {
 
 -- ---- the guard
 
--- both desks deny alike what the connection lacks, so only what one who has it is answered is to be compared
+-- both desks deny in the same way what the connection lacks, so only what one who has it is answered is to be compared
 pub entered_alike : EnteredHas → (connection : ℕ) (a b : State) (request : Request)
     → SameView connection a b
     → (Has a.policy connection (need_of request)

@@ -1,3 +1,4 @@
+-- The files of this crate's definitions.
 pub mod Apart
 pub mod Clean
 pub mod Questions

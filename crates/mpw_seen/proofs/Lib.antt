@@ -1,3 +1,4 @@
+-- The files of this crate's lemmas.
 pub mod Sums
 pub mod Placed
 pub mod Children

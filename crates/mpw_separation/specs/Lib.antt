@@ -1,3 +1,4 @@
+-- The files of this crate's definitions.
 pub mod Placed
 pub mod Rows
 pub mod Separation

@@ -1,3 +1,4 @@
+-- The files of this crate's lemmas.
 mod BatchLemmas
 mod HandingLemmas
 pub mod ServedLemmas

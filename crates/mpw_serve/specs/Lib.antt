@@ -1,3 +1,4 @@
+-- The files of this crate's definitions.
 pub mod Serving
 pub mod OwnDesk
 pub mod Working

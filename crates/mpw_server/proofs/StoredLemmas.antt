@@ -1,4 +1,4 @@
--- How a service over a store ends, and what the store's rows tell then.
+-- How a service over a store ends, and what the store's rows have then.
 use Rattle.std.proofs.Common.{◌≡◌, ◌↔◌, ◌∙◌, ℕ, Bool, true, false, List, [], ◌++◌, Option, None, Some, Result, Ok, Err, IsTrue, refl, sym, ap, subst, append-nil}
 use Rattle.sqlite.specs.State.{HasCleanDisk, State}
 use Rattle.std.proofs.lemmas.List.Elements.{All-nil}
@@ -25,7 +25,7 @@ use Rattle.mpw_server.specs.declared.fault.ServiceFault.TheVariants as service
 same-list : (a b : List KeptChange) → Some a ≡ Some b → a ≡ b
 same-list a b e = cc
 
--- a list that is known at the end was known before, and has just the further changes behind it
+-- a list that is known at the end was known before, and has just the further changes after it
 known-before : (old new : Option (List KeptChange)) (now more : List KeptChange) → new ≡ Some now
     → Grows old new more → (known : List KeptChange) × (old ≡ Some known) × (now ≡ known ++ more)
 known-before None None now more is grows = absurd (cc)
@@ -54,7 +54,7 @@ pub stores_its_changes : (s s' : State) → StoresItsChanges s s'
 stores_its_changes s s' officer begun ended begins ends clean is_open =
     goes_on officer s s' begun ends.left begins ends.goes (ends.comes.stored clean is_open)
 
--- ---- a keeper's store
+-- ---- a store writer's store
 
 pub told_by : (keeper : Option Keeping) (keeping : Keeping) (fault : Option StoreFault)
     → Some keeping ≡ keeper → (fault ≡ None) ↔ (keeping.failures ≡ 0)
@@ -109,13 +109,13 @@ err-is-ok : (ended : Result (Unit {0}) ServiceFault) (told : ServiceFault) → e
     → ended ≡ Ok tt → ⊥
 err-is-ok ended told is well = cc
 
--- a fault that no store gave is told as none of a store
+-- a fault that no store gave is reported as none of a store
 no-store : (ended : Result (Unit {0}) ServiceFault) (told : ServiceFault) (stored : StoredFault)
     → IsNoStore told → ended ≡ Err told → ended ≡ Err (service.Store stored) → ⊥
 no-store ended told stored storeless is other = let same : told ≡ service.Store stored = cc in
     subst IsNoStore same storeless
 
--- a desk that wasn't shared, of which each change was kept
+-- a desk that wasn't shared, of which each change was stored
 pub ends_unshared : (desk : Desk) (kept : Option (List KeptChange)) (failures : ℕ)
     (fault : Option StoreFault) (Comes : Option (List KeptChange) → Option StoreFault → Type 0)
     (told : ServiceFault) → IsNoStore told → failures ≡ 0 → (fault ≡ None) ↔ (failures ≡ 0)
@@ -176,7 +176,7 @@ ok-is-err : (told : ServiceFault) (ended : Result (Unit {0}) ServiceFault) → e
     → ended ≡ Err told → ⊥
 ok-is-err told ended well is = cc
 
--- so it ends where it is told as ended with or without its store
+-- so it ends if it is reported as ended with or without its store
 pub ends_with : (begun : KeptDesk) (ended : Result (Unit {0}) ServiceFault)
     (Comes : Option (List KeptChange) → Option StoreFault → Type 0) (back : Bool)
     → Ends begun ended Comes → Ends begun (ended_with back ended) Comes

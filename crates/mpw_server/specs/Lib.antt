@@ -1,3 +1,4 @@
+-- The files of this crate's definitions.
 pub mod Staff
 pub mod Status
 pub mod Stored

@@ -17,27 +17,27 @@ use Rattle.mpw_stored_script.specs.declared.fault.StoredFault.TheVariants.{Close
 use Rattle.mpw_server.specs.declared.fault.ServiceFault.{ServiceFault}
 use Rattle.mpw_server.specs.declared.fault.ServiceFault.TheVariants as service
 
--- a desk that is shared is what the store's rows lead to; where its keeper's list is known, it begins with their changes, and nothing has
--- failed to be kept
+-- a desk that is shared is what the store's rows lead to; if its store writer's list is known, it begins with their changes, and no change
+-- has failed to be stored
 pub record BeginsOver (officer : Officer) (s : State) (begun : KeptDesk) : Type 0 where
   pub begins : (known : List KeptChange) → begun.kept ≡ Some known
       → BeginsWith officer s begun.desk known
   pub whole : begun.failures ≡ 0
 
--- a store has just the changes that are kept, while the disk is clean and the database open, as it is where each change could be kept
+-- a store has just the changes that count as stored, while the disk is clean and the database open, as it is if each change could be stored
 pub record HasStored (s : State) (kept : Option (List KeptChange)) (fault : Option StoreFault) :
     Type 0 where
   pub stored : HasCleanDisk s → IsTrue s.is_open → IsKeptIn s kept
   pub is_open : HasCleanDisk s → fault ≡ None → IsTrue s.is_open
 
--- so has the store that a desk comes back with; where it comes back with none, nothing is known to be kept
+-- so has the store that a desk comes back with; if it comes back with none, nothing is known to be stored
 abbrev pub ComesBack : {A : Type 0} → Option A → (A → State) → Option (List KeptChange)
     → Option StoreFault → Type 0
 ComesBack None shown kept fault = kept ≡ None
 ComesBack (Some conn) shown kept fault = HasStored (shown conn) kept fault
 
--- a desk that was shared comes back with so many calls, and with such a store: it went on by calls, which its passes made, and its keeper has
--- just their changes behind those before; there is a fault just where a change could not be kept
+-- a desk that was shared comes back with so many calls, and with such a store: it went on by calls, which its passes made, and its writer has
+-- just their changes after those before; there is a fault just if a change could not be stored
 pub record Leaves (begun : KeptDesk) (calls : ℕ) (fault : Option StoreFault)
     (Comes : Option (List KeptChange) → Option StoreFault → Type 0) : Type 0 where
   pub left : KeptDesk
@@ -60,8 +60,8 @@ IsNoStore service.Mismatch = ⊤
 IsNoStore service.Full = ⊤
 IsNoStore service.FullStore = ⊤
 
--- how a service ends that began with a desk: that went on by calls, which its passes made, and such a store is given back. Where it ends well each change was kept; and
--- where one could not be, that is what is told, and nothing else of the store
+-- how a service ends that began with a desk: it went on by calls, which its passes made, and such a store is given back. If it ends well, each change
+-- was stored; and if one could not be, that is what is reported, and nothing else of the store
 pub record Ends (begun : KeptDesk) (ended : Result (Unit {0}) ServiceFault)
     (Comes : Option (List KeptChange) → Option StoreFault → Type 0) : Type 0 where
   pub left : KeptDesk
@@ -82,7 +82,7 @@ ended_with true ended = ended
 ended_with false (Ok done) = Err service.Mismatch
 ended_with false (Err fault) = Err fault
 
--- a service over a store: its rows lead to no desk, which is told with such a reason; or the service begins with the desk that they lead to, and
+-- a service over a store: its rows lead to no desk, which is reported with such a reason; or the service begins with the desk that they lead to, and
 -- ends
 pub data EndsOver (officer : Officer) (s : State) (IsReason : StoredFault → Type 0)
     (Comes : Option (List KeptChange) → Option StoreFault → Type 0) :
@@ -93,7 +93,7 @@ pub data EndsOver (officer : Officer) (s : State) (IsReason : StoredFault → Ty
       → Ends begun ended Comes → EndsOver officer s IsReason Comes ended
 
 -- the rows that a service over a store leaves are just those of the changes that its store had, with the ends of the sessions that were open, and
--- then of those that the service's calls had kept; each row tells its change
+-- then of those that the service's calls had stored; each row gives its change
 pub record GoesOnStored (officer : Officer) (s s' : State) : Type 0 where
   pub desk : Desk
   pub known : List KeptChange

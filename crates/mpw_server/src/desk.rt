@@ -1,4 +1,4 @@
-//! The desk of a service with the keeper of its changes: how it begins, and how it comes back.
+//! The desk of a service with the store writer: how it begins, and how it comes back.
 ghost use Rattle.std.specs.Prelude.{◌≡◌, ◌↔◌, ◌+◌, None, IfErr, IfOk, IsSome, length};
 ghost use Rattle.mpw_desk.specs.Numbers.{AreBelow};
 ghost use Rattle.mpw_events.specs.History.{kept_desk, new_desk};
@@ -105,7 +105,7 @@ where
     }
 }
 
-/// The store of a keeper, if there is one, and why the first change that could not be stored could not.
+/// The store of a store writer, if there is one, and why the first change that could not be stored could not.
 pub(crate) fn parts_of<S: Alter + Drop>(
     keeper: OptionalKeeper<S>,
 ) -> (Option<Connection<S>>, Option<StoreFault>)
@@ -121,7 +121,7 @@ pub(crate) fn parts_of<S: Alter + Drop>(
     }
 }
 
-/// What is left of a desk with its keeper.
+/// What is left of a desk with its store writer.
 pub(crate) fn left_of<S: Alter + Drop, H: Handler + Drop>(
     desk: (Box<H>, OptionalKeeper<S>),
 ) -> Left<S>

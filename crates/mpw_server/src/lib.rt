@@ -1,7 +1,7 @@
 //! The program `mpw serve`: a desk on a socket, which may be the desk of a store.
 //!
-//! The threads of a service are in `mpw_service`, over any core and any keeper. Here a desk is made for them: a new one, or the one that the rows of a store
-//! lead to. Each accepted change is then stored under the desk's lock, before its reply is written. At the end the store comes back, with the reason if
+//! The threads of a service are in `mpw_service`, over any core and any store writer. Here a desk is made for them: a new one, or that of
+//! a store's rows. Each accepted change is stored under the desk's lock, before its reply is written. At the end the store comes back, and why, if
 //! a change could not be stored.
 //!
 //! The core is a type parameter in this crate, and the store is one in all but `program.rt`, which opens and closes its file. So a check of this crate

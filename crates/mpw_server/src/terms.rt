@@ -1,11 +1,11 @@
-//! What a service keeps to while its desks change.
+//! What stays for a service while its desks change.
 
 use mpw_log::Log;
 use mpw_service::Staff;
 use mpw_settings::Service;
 use std::net::TcpListener;
 
-/// What a service keeps to: an ongoing one over a store may serve several desks, one after the other.
+/// What stays for a service: an ongoing one over a store may serve several desks, one after the other.
 #[derive(Drop)]
 pub struct Terms<'a> {
     /// The settings.

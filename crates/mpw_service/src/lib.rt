@@ -4,7 +4,7 @@
 //! meanwhile. Each connection and each worker has a pass of the desk. All passes come back at the end, so that [`mpw_desk::Shared::finish`] can
 //! compare what they counted with the desk's history. The log of `mpw_log` gets a line for each connection and for each request.
 //!
-//! The desk's core and its keeper are type parameters here, so this crate needs no core, no store and no file.
+//! The desk's core and its store writer are type parameters here, so this crate needs no core, no store and no file.
 #![tactic(auto)]
 
 mod accepting;

@@ -46,7 +46,7 @@ impl<'a> Opening<'a> {
 pub struct Begun<H: Handler + Drop, K: Keeper + Drop> {
     /// The desk.
     pub core: Box<H>,
-    /// The keeper of its changes.
+    /// The store writer.
     pub keeper: K,
     /// The number of its first connection or worker, which is greater than that of each connection in its history.
     pub first: u32,

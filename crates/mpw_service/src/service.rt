@@ -90,7 +90,7 @@ where
     }
 }
 
-/// Shares a desk, and serves it as [`serve`] does. The core and the keeper are returned if the passes account for every call, and so is whether serving
+/// Shares a desk, and serves it as [`serve`] does. If the passes account for all calls, the core and the store writer are returned, and whether it
 /// ended well.
 pub fn serve_desk<H, K, R>(
     rt: &R,
@@ -107,7 +107,7 @@ where
     requires above { AreBelow begun.first (H.desk begun.core.value).history }
     requires parts { blank.parts ≡ 2097152 }
 
-    // The desk went on by calls, and its keeper has just their changes after those before. The passes made all of them.
+    // The desk went on by calls, and its store writer has just their changes after those before. The passes made all of them.
     ensures { IfOk result.0 (λ back. IsServed opening.entry.staff.workers (kept_desk (H.desk begun.core.value) (K.kept begun.keeper) (K.failures begun.keeper)) (kept_desk (H.desk back.0.value) (K.kept back.1) (K.failures back.1)) result.1) }
 {
     serve_named::<H, K, Brand, R>(rt, alloc, begun, blank, opening)

@@ -56,7 +56,7 @@ fn read_name(alloc: Global, text: &str) -> Result<Name, SettingsFault>
 /// The officer that the options give.
 ///
 /// # Errors
-/// `Usage` where they give none, and `Memory`.
+/// `Usage` if they give none, and `Memory`.
 pub fn read_officer(alloc: Global, options: &ArgMatches<'_>) -> Result<Officer, SettingsFault>
     ensures ok { IfOk result (GivesOfficer (rows_of (found_of options.now))) }
     ensures refused { IfErr result (IsFaultOf (GivesNone (GivesOfficer (rows_of (found_of options.now))))) }

@@ -79,7 +79,7 @@ pub fn has_value(options: &ArgMatches<'_>, name: &str) -> bool
 /// The value of an option that has to be given.
 ///
 /// # Errors
-/// `Usage` where it isn't, and `Memory`.
+/// `Usage` if it isn't, and `Memory`.
 pub fn value_of<'a>(
     alloc: Global,
     options: &ArgMatches<'a>,
@@ -97,7 +97,7 @@ pub fn value_of<'a>(
 /// The number that is given for an option, decimal without a sign or a leading zero.
 ///
 /// # Errors
-/// `Usage` where none from `least` to `most` is, and `Memory`.
+/// `Usage` if none from `least` to `most` is, and `Memory`.
 #[tactic(auto, using(std::proofs::lemmas::Bool::Decides::nat_tests))]
 pub fn number_of(
     alloc: Global,

@@ -70,7 +70,7 @@ fn help_of(alloc: Global, error: &Error) -> Result<String, SettingsFault>
 /// The settings that the words of a command line give, the program's name first. One pass over the words.
 ///
 /// # Errors
-/// `Usage`, only where the words give no settings, with a text that says what is wrong and what is accepted; and `Memory`.
+/// `Usage`, only if the words give no settings, with a text that says what is wrong and what is accepted; and `Memory`.
 pub fn read_settings<'a>(alloc: Global, words: &'a [&'a str]) -> Result<Settings, SettingsFault>
     ensures ok { IfOk result (λ settings. AreGiven settings (map (λ word. word.now) words.entry.now)) }
     ensures refused { IfErr result (IsFaultOf (GiveNone (map (λ word. word.now) words.entry.now))) }

@@ -1,3 +1,4 @@
+-- The files of this crate's lemmas.
 pub mod Chains
 pub mod Columns
 pub mod Counts

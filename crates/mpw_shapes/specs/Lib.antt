@@ -1,3 +1,4 @@
+-- The files of this crate's definitions.
 pub mod Boundary
 pub mod Element
 pub mod Path

@@ -1,3 +1,4 @@
+-- The files of this crate's definitions.
 pub mod Named
 pub mod SigningOff
 pub mod WaiverLines

@@ -1,3 +1,4 @@
+-- The files of this crate's definitions.
 pub mod Before
 pub mod Cuts
 pub mod Elements

@@ -67,7 +67,7 @@ joined_text file fault placed lifted =
     codes "fault: "
     ++ (file ++ (codes ": " ++ (fault_text fault ++ (placed ++ (lifted ++ codes "\n")))))
 
--- Behind its element's place stands where that lies in a top.
+-- After its element's place comes where that lies in a top.
 abbrev pub line_text : (file : List ℕ) → FaultLine → (lifted : List ℕ) → List ℕ
 line_text file f lifted = joined_text file f.fault (placed_text f) lifted
 

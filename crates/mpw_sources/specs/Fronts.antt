@@ -51,7 +51,7 @@ abbrev pub IsPlace : List ℕ → Place → Type 0
 IsPlace text (place.Record at) = (at ≤ length text) × AreRecords (take at text)
 IsPlace text (place.Behind at) = at ≤ length text
 
--- From a place on, the text is unsound. It isn't where no record is looked at.
+-- From a place on, the text is unsound. It isn't if no record is looked at.
 abbrev pub IsStopped : Place → List ℕ → Type 0
 IsStopped (place.Record at) text = IsUnsound text
 IsStopped (place.Behind at) text = ⊥
@@ -71,7 +71,7 @@ is_endless (place.Behind at) bytes = nat_lt (2 ^ 32 - 1) bytes || nat_lt (2 ^ 28
 
 -- ---- what a reader gives
 
--- Bytes of a reader stand after those that were there.
+-- Bytes of a reader come after those that were there.
 abbrev pub Takes : Option (List ℕ) → Option (List ℕ) → (before after : List ℕ) → Type 0
 Takes old new before after = (more : List ℕ) × (after ≡ before ++ more) × Consumes old new more
 

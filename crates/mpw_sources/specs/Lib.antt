@@ -1,3 +1,4 @@
+-- The files of this crate's definitions.
 pub mod FaultLines
 pub mod Fronts
 pub mod Looks

@@ -44,7 +44,7 @@ idle_text file top =
     ++ (top
     ++ codes ": a rule looks at nothing, or there is none, as the notes say: --strict asks for shapes on each layer of each rule"))
 
--- Else it was asked for, and it is refused, and that is told; or there is no room to look.
+-- Else it was asked for, and it is refused, and that is reported; or there is no memory to look.
 abbrev pub IsOfLook : Target → Bool → Snapshot → FirmFault → Type 0
 IsOfLook target strict s fault =
     (strict ≡ true) × ((fault ≡ Memory) ⊎ ((looks s s.deck.rules ≡ false)

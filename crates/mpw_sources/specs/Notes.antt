@@ -1,4 +1,4 @@
--- What is told of what a check looks at.
+-- What is printed about what a check looks at.
 use Rattle.std.specs.Prelude.{ℕ, List, [], ◌∷◌, ◌++◌, map, Option, None, Some}
 use Rattle.std.specs.List.{flat_map}
 use Rattle.mpw_deck.specs.declared.rule.Rule.{Rule}
@@ -17,7 +17,7 @@ unnamed_layers s = layers.unnamed_layers s.shelf s.roots s.deck.rules
 abbrev pub shapes_on : Snapshot → Layer → ℕ
 shapes_on s layer = layer_count s.shelf s.roots layer
 
--- ---- what is told
+-- ---- what is printed
 
 -- The deck has no rules.
 abbrev pub rule_notes : List Rule → List Noted

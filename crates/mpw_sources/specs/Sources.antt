@@ -1,4 +1,4 @@
--- A library's text as it is read, where layers, structures or elements with faults are set aside.
+-- A library's text as it is read, if layers, structures or elements with faults are set aside.
 use Rattle.std.specs.Prelude.{◌≡◌, ◌==◌, ◌%◌, ℕ, Bool, true, false, List, [], ◌∷◌, ◌++◌, length, Option, None, Some, if◌then◌else◌}
 use Rattle.mpw_check.specs.declared.fault.CheckFault.{CheckFault}
 use Rattle.mpw_check.specs.declared.fault.CheckFault.TheVariants as faults
@@ -17,7 +17,7 @@ pub record Layered : Type 0 where
   pub skip : List Layer
   pub text : List ℕ
 
--- What is left, and where layers are set aside the cuts.
+-- What is left, and the cuts if layers are set aside.
 abbrev pub IsLayered : List Layer → (text : List ℕ) → List Cut → (left : List ℕ) → Type 0
 IsLayered [] text cuts left = left ≡ text
 IsLayered (layer ∷ layers) text cuts left =
@@ -29,7 +29,7 @@ abbrev pub left_text : List Layer → List ℕ → List ℕ
 left_text [] text = text
 left_text (layer ∷ layers) text = without_layers (layer ∷ layers) text
 
--- Where a byte of it stands in the text.
+-- Where a byte of it is in the text.
 abbrev pub left_place : List Layer → List ℕ → ℕ → ℕ
 left_place [] text at = at
 left_place (layer ∷ layers) text at = original (cuts_of_layers (layer ∷ layers) text) at
@@ -54,7 +54,7 @@ abbrev pub cut_place : List Cut → ℕ → ℕ
 cut_place [] at = at
 cut_place (cut ∷ cuts) at = original (cut ∷ cuts) at
 
--- The text without these structures, and where a byte of it stands in the text.
+-- The text without these structures, and where a byte of it is in the text.
 abbrev pub reached_of : List Layer → List Cut → List ℕ → List ℕ
 reached_of skip structures text = cut_text structures (left_text skip text)
 
@@ -63,7 +63,7 @@ reached_place_of skip structures text at = left_place skip text (cut_place struc
 
 -- ---- and without the elements that have a fault of their own
 
--- The same with the elements that are left out for their faults, which stand in the text without these structures.
+-- The same with the elements that are left out for their faults, which are in the text without these structures.
 pub record Source : Type 0 where
   pub skip : List Layer
   pub structures : List Cut
@@ -76,7 +76,7 @@ reached_text s = reached_of s.skip s.structures s.text
 abbrev pub reached_place : Source → ℕ → ℕ
 reached_place s at = reached_place_of s.skip s.structures s.text at
 
--- What is kept of a text that is reached, and the cuts.
+-- What is left of a text that is reached, and the cuts.
 pub record IsKept (r : Reached) (faulty : List FaultFound) (cuts : List Cut) (kept : List ℕ) :
     Type 0 where
   pub cuts_are : cuts ≡ cuts_of_faults faulty
@@ -86,7 +86,7 @@ pub record IsKept (r : Reached) (faulty : List FaultFound) (cuts : List Cut) (ke
 abbrev pub kept_text : Source → List ℕ
 kept_text s = cut_text (cuts_of_faults s.faulty) (reached_text s)
 
--- Where a byte of it stands in the text.
+-- Where a byte of it is in the text.
 abbrev pub place_in : Source → ℕ → ℕ
 place_in s at = reached_place s (cut_place (cuts_of_faults s.faulty) at)
 
@@ -115,7 +115,7 @@ moved s (faults.Structure fault) = faults.Structure fault
 abbrev pub padded : List ℕ → List ℕ
 padded name = name ++ (if length name % 2 == 1 then 0 ∷ [] else [])
 
--- Nothing is cut out, or the structures that one doesn't reach; its name stands in the records with a NUL where its bytes are odd.
+-- Nothing is cut out, or the structures that one doesn't reach; its name is in the records with a NUL if its bytes are odd.
 abbrev pub AreCut : Option (List ℕ) → List ℕ → List Cut → Type 0
 AreCut None left cuts = cuts ≡ []
 AreCut (Some top) left cuts = AreUnreached left (padded top) cuts
@@ -127,12 +127,12 @@ pub record IsReachedOf (skip : List Layer) (above : Option (List ℕ)) (text : L
   pub text_is : reached.text ≡ text
   pub structures : AreCut above (left_text skip text) reached.structures
 
--- The elements that are left out of a text for their faults, where that is asked for: each that has one when it is read by itself.
+-- The elements that are left out of a text for their faults, if that is asked for: each that has one when it is read by itself.
 abbrev pub faulty_in : Bool → List ℕ → List FaultFound
 faulty_in false text = []
 faulty_in true text = element_faults text
 
--- The source of a text without the elements on these layers, the structures that one doesn't reach, and, where it is to be faultless, the
+-- The source of a text without the elements on these layers, the structures that one doesn't reach, and, if it is to be faultless, the
 -- elements that have a fault of their own.
 pub record IsSourceOf (skip : List Layer) (above : Option (List ℕ)) (faultless : Bool)
     (text : List ℕ) (source : Source) : Type 0 where

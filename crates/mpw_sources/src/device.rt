@@ -13,7 +13,7 @@ const FIRST_BYTES: usize = 1 << 17;
 /// Each turn reads a byte at least, and a text of so many bytes is endless.
 const MOST_TURNS: usize = 1 << 32;
 
-/// Reads, again where a signal interrupts the call.
+/// Reads, again if a signal interrupts the call.
 fn read_again<R: Read>(reader: &mut R, chunk: &mut [u8]) -> io::Result<usize>
     ensures bound { ReadsAtMost result chunk.new }
     ensures bytes { ReadConsumes (R.remaining reader.old) (R.remaining reader.new) result chunk.new }

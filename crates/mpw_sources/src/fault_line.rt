@@ -135,7 +135,7 @@ fn joined_text(
     format!(in alloc; "fault: {file}: {fault}{placed}{lifted}\n")
 }
 
-/// Adds the line of a fault to a text; `lifted` stands at its end.
+/// Adds the line of a fault to a text; `lifted` is at its end.
 ///
 /// # Errors
 /// Out of memory.

@@ -13,9 +13,9 @@ use std::sync::Arc;
 pub struct Layered<'a> {
     skip: &'a [Layer],
     text: Arc<Vec<u8>>,
-    /// What is left out; nothing where no layers are set aside.
+    /// What is left out; nothing if no layers are set aside.
     cuts: Vec<Cut>,
-    /// What is left: the text itself where no layers are set aside.
+    /// What is left: the text itself if no layers are set aside.
     left: Arc<Vec<u8>>,
 }
 
@@ -44,10 +44,10 @@ impl<'a> Model for Layered<'a> {
 }
 
 impl<'a> Layered<'a> {
-    /// A text, without the elements on these layers. Where there are such it takes what is left besides.
+    /// A text, without the elements on these layers. If there are such, it takes what is left besides.
     ///
     /// # Errors
-    /// Want of memory.
+    /// Out of memory.
     pub fn new(alloc: Global, skip: &'a [Layer], text: Vec<u8>) -> Result<Layered<'a>, AllocError>
         ensures { IfOk result (λ layered. layered ≡ record { skip = skip.entry.now; text = text.items }) }
     {
@@ -71,7 +71,7 @@ impl<'a> Layered<'a> {
         })
     }
 
-    /// The text as it stands in its file.
+    /// The text as it is in its file.
     pub fn text(&self) -> &[u8]
         ensures { result.now ≡ self.now.text }
     {
@@ -85,7 +85,7 @@ impl<'a> Layered<'a> {
         &self.left
     }
 
-    /// Where a byte of that stands in the file.
+    /// Where a byte of that is in the file.
     pub fn place(&self, at: usize) -> usize
         ensures { result ≡ left_place self.now.skip self.now.text at }
     {
@@ -95,7 +95,7 @@ impl<'a> Layered<'a> {
         }
     }
 
-    /// Tells on the standard error how many elements are left out.
+    /// Prints on the standard error how many elements are left out.
     ///
     /// # Errors
     /// That of the standard error.

@@ -14,7 +14,7 @@ use std::alloc::{AllocError, Global};
 /// Whether a layout shows a shape on a layer. It goes over the structures and their elements once, and not over the shapes.
 ///
 /// # Errors
-/// Want of memory.
+/// Out of memory.
 fn shows(alloc: Global, snapshot: &Snapshot, layer: Layer) -> Result<bool, AllocError>
     ensures { IfOk result (λ shown. shown ≡ shows snapshot.now layer) }
 {
@@ -24,7 +24,7 @@ fn shows(alloc: Global, snapshot: &Snapshot, layer: Layer) -> Result<bool, Alloc
 /// The first of two layers on which a layout shows no shape.
 ///
 /// # Errors
-/// Want of memory.
+/// Out of memory.
 fn empty_of(
     alloc: Global,
     snapshot: &Snapshot,
@@ -45,7 +45,7 @@ fn empty_of(
 /// A layer of a check on which a layout shows no shape, the first of them.
 ///
 /// # Errors
-/// Want of memory.
+/// Out of memory.
 pub(crate) fn empty_layer(
     alloc: Global,
     snapshot: &Snapshot,
@@ -67,7 +67,7 @@ pub(crate) fn empty_layer(
 /// Whether a layout shows shapes on each layer of these rules.
 ///
 /// # Errors
-/// Want of memory.
+/// Out of memory.
 fn all_look(alloc: Global, snapshot: &Snapshot, rules: &[Rule]) -> Result<bool, AllocError>
     ensures { IfOk result (λ look. look ≡ list_all (λ rule. is_none (empty_layer snapshot.now rule.check)) rules.now) }
 {
@@ -82,7 +82,7 @@ fn all_look(alloc: Global, snapshot: &Snapshot, rules: &[Rule]) -> Result<bool, 
 /// Whether there are rules, and a layout shows shapes on each of their layers.
 ///
 /// # Errors
-/// Want of memory.
+/// Out of memory.
 fn looks(alloc: Global, snapshot: &Snapshot, rules: &[Rule]) -> Result<bool, AllocError>
     ensures { IfOk result (λ look. look ≡ looks snapshot.now rules.now) }
 {
@@ -92,7 +92,7 @@ fn looks(alloc: Global, snapshot: &Snapshot, rules: &[Rule]) -> Result<bool, All
     }
 }
 
-/// What is told of a layout of which a rule looks at nothing.
+/// What is printed about a layout of which a rule looks at nothing.
 #[tactic(auto, unfolding(crate::specs::Looks::idle_text))]
 fn told_of_nothing(alloc: Global, file: &str, top: &str) -> FirmFault
     ensures { Refuses (idle_text file.now top.now) result }
@@ -103,7 +103,7 @@ fn told_of_nothing(alloc: Global, file: &str, top: &str) -> FirmFault
     ))
 }
 
-/// Refuses a layout, where that is asked for, of which a rule looks at nothing, or under a deck without rules.
+/// Refuses a layout, if that is asked for, of which a rule looks at nothing, or under a deck without rules.
 ///
 /// # Errors
 /// `Refused`, and `Memory`.

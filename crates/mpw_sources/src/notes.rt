@@ -1,4 +1,4 @@
-//! What is told of what a check looks at: rules that look at nothing, and layers that no rule names. `specs/Notes.antt` has what
+//! What is printed about what a check looks at: rules that look at nothing, and layers that no rule names. `specs/Notes.antt` has what
 //! contracts say of it.
 ghost use Rattle.std.specs.Prelude.{◌≡◌, ◌++◌, map, IfOk};
 ghost use Rattle.std.specs.List.{flat_map};
@@ -18,7 +18,7 @@ use std::io;
 /// once, and not over the shapes.
 ///
 /// # Errors
-/// Want of memory.
+/// Out of memory.
 fn unnamed_layers(alloc: Global, snapshot: &Snapshot) -> Result<Layers, AllocError>
     ensures { IfOk result (λ layers. layers ≡ unnamed_layers snapshot.now) }
 {
@@ -29,17 +29,17 @@ fn unnamed_layers(alloc: Global, snapshot: &Snapshot) -> Result<Layers, AllocErr
 /// How many shapes on a layer a layout shows. It goes over the structures and their elements once, and not over the shapes.
 ///
 /// # Errors
-/// Want of memory.
+/// Out of memory.
 fn shapes_on(alloc: Global, snapshot: &Snapshot, layer: Layer) -> Result<usize, AllocError>
     ensures { IfOk result (λ shapes. shapes ≡ shapes_on snapshot.now layer) }
 {
     layer_count(alloc, snapshot.shelf(), snapshot.roots(), layer)
 }
 
-/// That a deck has no rules, where it has none.
+/// That a deck has no rules, if it has none.
 ///
 /// # Errors
-/// Want of memory.
+/// Out of memory.
 pub fn rule_notes<'a>(alloc: Global, rules: &[Rule]) -> Result<Vec<Note<'a>>, AllocError>
     ensures { IfOk result (λ notes. map note_of notes.items ≡ rule_notes rules.now) }
 {
@@ -51,7 +51,7 @@ pub fn rule_notes<'a>(alloc: Global, rules: &[Rule]) -> Result<Vec<Note<'a>>, Al
     Ok(notes)
 }
 
-/// Adds that a rule looks at nothing, where it does.
+/// Adds that a rule looks at nothing, if it does.
 fn add_idle<'a>(
     notes: &mut Vec<Note<'a>>,
     rule: &'a Rule,
@@ -97,14 +97,14 @@ fn unnamed_notes<'a>(
     Ok(notes)
 }
 
-/// What is told of what a check of a layout looks at: that its deck has no rules; each rule that looks at nothing, with its layer that has no
+/// What is printed about what a check of a layout looks at: that its deck has no rules; each rule that looks at nothing, with its layer that has no
 /// shapes; and each layer that no rule names, with how many shapes are on it, at most 64.
 ///
 /// It goes over the structures and their elements once for each layer of each rule and for each layer that no rule names, and once
 /// besides, and not over the shapes, whatever the number of instances is. Memory for a number, or for 64 layers at most, each structure.
 ///
 /// # Errors
-/// Want of memory.
+/// Out of memory.
 pub fn notes_of<'a>(alloc: Global, snapshot: &'a Snapshot) -> Result<Vec<Note<'a>>, AllocError>
     ensures { IfOk result (λ notes. map note_of notes.items ≡ notes_of snapshot.entry.now) }
 {
@@ -118,7 +118,7 @@ pub fn notes_of<'a>(alloc: Global, snapshot: &'a Snapshot) -> Result<Vec<Note<'a
     Ok(notes)
 }
 
-/// Tells a note on the standard error.
+/// Prints a note on the standard error.
 fn tell_note(rt: &HostRuntime, note: &Note<'_>) -> io::Result<()> {
     match *note {
         Note::NoRules => eprintln!(rt; "note: the deck has no rules, so nothing is looked at"),
@@ -135,7 +135,7 @@ fn tell_note(rt: &HostRuntime, note: &Note<'_>) -> io::Result<()> {
     }
 }
 
-/// Tells notes on the standard error, a line each.
+/// Prints notes on the standard error, a line each.
 ///
 /// # Errors
 /// That of the standard error.

@@ -1,5 +1,5 @@
 //! A library's text without the elements on the layers that are set aside, and without the structures that the checked one doesn't reach,
-//! where that is asked for. `specs/Sources.antt` has what contracts say of it.
+//! if that is asked for. `specs/Sources.antt` has what contracts say of it.
 ghost use Rattle.std.specs.Prelude.{◌≡◌, option_map, IfOk};
 ghost use Rattle.mpw_sources.specs.Sources.{padded, AreCut, IsCut, IsReachedOf, cut_place, left_place, left_text, reached_of, reached_place_of};
 
@@ -14,7 +14,7 @@ use std::sync::Arc;
 pub struct Reached<'a> {
     layered: Layered<'a>,
     structures: Vec<Cut>,
-    /// The text without these structures: what is left itself where none are cut out.
+    /// The text without these structures: what is left itself if none are cut out.
     reached: Arc<Vec<u8>>,
 }
 
@@ -41,7 +41,7 @@ impl<'a> Model for Reached<'a> {
     ghost invariant = { λ s. IsCut s.structures.items (left_text s.layered.skip s.layered.text) s.reached.value.items };
 }
 
-/// A name as a record has it: with a NUL where its number of bytes is odd.
+/// A name as a record has it: with a NUL if its number of bytes is odd.
 pub(crate) fn padded(alloc: Global, name: &Name) -> Result<Vec<u8>, AllocError>
     ensures { IfOk result (λ bytes. bytes.items ≡ padded name.now) }
 {
@@ -54,7 +54,7 @@ pub(crate) fn padded(alloc: Global, name: &Name) -> Result<Vec<u8>, AllocError>
     Ok(copy)
 }
 
-/// The cuts of the structures that the one of that name doesn't reach; none where no name is given.
+/// The cuts of the structures that the one of that name doesn't reach; none if no name is given.
 fn cuts_for(alloc: Global, above: Option<&Name>, text: &[u8]) -> Result<Vec<Cut>, AllocError>
     ensures { IfOk result (λ cuts. AreCut (option_map (λ name. name.now) above.entry) text.now cuts.items) }
 {
@@ -67,7 +67,7 @@ fn cuts_for(alloc: Global, above: Option<&Name>, text: &[u8]) -> Result<Vec<Cut>
     }
 }
 
-/// A text without cuts: the text itself where there are none.
+/// A text without cuts: the text itself if there are none.
 pub(crate) fn cut_from(
     alloc: Global,
     text: &Arc<Vec<u8>>,
@@ -96,7 +96,7 @@ pub(crate) fn cut_place(cuts: &[Cut], at: usize) -> usize
 
 impl<'a> Reached<'a> {
     /// The text without the elements on these layers, and without the structures that the one of that name doesn't reach.
-    /// Where something is left out, it takes what is left besides.
+    /// If something is left out, it takes what is left besides.
     ///
     /// # Errors
     /// Out of memory.
@@ -161,7 +161,7 @@ impl<'a> Reached<'a> {
         self.layered.place(at)
     }
 
-    /// The elements that are left out, for those who tell of them.
+    /// The elements that are left out, for those who report them.
     pub fn layered(&self) -> &Layered<'a> {
         &self.layered
     }

@@ -15,7 +15,7 @@ use std::io;
 /// The greatest library that a desk takes, in bytes.
 const DESK_BYTES: usize = 1 << 24;
 
-/// What is read of a file, or of the standard input where it is `-`.
+/// What is read of a file, or of the standard input if it is `-`.
 fn read_named(rt: &HostRuntime, file: &str, content: Content) -> io::Result<Front> {
     if file == "-" {
         read_from(rt.alloc(), &mut rt.stdin(), content)
@@ -24,7 +24,7 @@ fn read_named(rt: &HostRuntime, file: &str, content: Content) -> io::Result<Fron
     }
 }
 
-/// The same, where a file that can't be read is told.
+/// The same; if a file can't be read, that is reported.
 fn read_front(rt: &HostRuntime, file: &str, content: Content) -> Result<Front, FirmFault>
     ensures { IfErr result (CannotBeRead file.now) }
 {
@@ -34,10 +34,10 @@ fn read_front(rt: &HostRuntime, file: &str, content: Content) -> Result<Front, F
     }
 }
 
-/// The bytes of a file, or of the standard input where it is `-`: to its end, or as far as is needed to refuse it.
+/// The bytes of a file, or of the standard input if it is `-`: to its end, or as far as is needed to refuse it.
 ///
 /// # Errors
-/// `Device` where it can't be read, and `Memory`.
+/// `Device` if it can't be read, and `Memory`.
 pub fn read_file(rt: &HostRuntime, file: &str, content: Content) -> Result<Vec<u8>, FirmFault>
     ensures { IfErr result (CannotBeRead file.now) }
 {
@@ -48,7 +48,7 @@ pub fn read_file(rt: &HostRuntime, file: &str, content: Content) -> Result<Vec<u
     Ok(bytes)
 }
 
-/// Tells of a library that is too great for a desk.
+/// Reports a library that is too great for a desk.
 fn tell_size(rt: &HostRuntime, file: &str, bytes: usize) -> io::Result<()> {
     if bytes > DESK_BYTES {
         eprintln!(rt;
@@ -58,7 +58,7 @@ fn tell_size(rt: &HostRuntime, file: &str, bytes: usize) -> io::Result<()> {
     Ok(())
 }
 
-/// What is told of a file that is too great to be read.
+/// What is printed about a file that is too great to be read.
 #[tactic(auto, unfolding(mpw_told::specs::Told::great_text))]
 fn too_great(alloc: Global, file: &str) -> FirmFault
     ensures { Refuses (great_text file.now) result }
@@ -68,10 +68,10 @@ fn too_great(alloc: Global, file: &str) -> FirmFault
     ))
 }
 
-/// The bytes of a library's file. One that is too great for a desk is told on the standard error.
+/// The bytes of a library's file. One that is too great for a desk is reported on the standard error.
 ///
 /// # Errors
-/// As [`read_file`]; and `Refused` where it has more than 2^32 - 1 bytes, or goes on for more than 2^28 behind those that were read when its ENDLIB
+/// As [`read_file`]; and `Refused` if it has more than 2^32 - 1 bytes, or goes on for more than 2^28 after those that were read when its ENDLIB
 /// was found.
 pub fn read_library(rt: &HostRuntime, file: &str) -> Result<Vec<u8>, FirmFault>
     ensures bytes { IfOk result (λ bytes. vec_len bytes ≤ 2 ^ 32 - 1) }

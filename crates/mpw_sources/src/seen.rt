@@ -15,16 +15,16 @@ use mpw_report::Fault;
 use mpw_skipping::{ElementSpan, elements_of};
 use std::alloc::{AllocError, Global};
 
-/// A fault as it is told, with its place in the file.
+/// A fault as it is printed, with its place in the file.
 #[derive(Drop)]
 pub struct SeenFault {
     /// The word of its code.
     pub code: String,
     /// The byte in the file.
     pub byte: usize,
-    /// The structure of its element, where it is known.
+    /// The structure of its element, if it is known.
     pub structure: Option<Name>,
-    /// The box of its element's points in the top's coordinates, where it is known.
+    /// The box of its element's points in the top's coordinates, if it is known.
     pub area: Option<Box2>,
 }
 
@@ -123,7 +123,7 @@ fn all_left(
     Ok(faults)
 }
 
-/// The unit of a text, and 1 nm where it isn't read.
+/// The unit of a text, and 1 nm if it isn't read.
 fn unit_or_one(text: &[u8]) -> u16
     ensures unit { result ≡ unwrap_or (unit_of text.now) 1 }
     ensures most { result ≤ 1000 }
@@ -152,11 +152,11 @@ pub(crate) fn lifts_in<'a>(
     Lifts::new(alloc, seen)
 }
 
-/// All faults of a library as it is read, as they are told of a check of that structure: the code, the byte in the file, the structure, and
-/// the box of the element's points in the checked structure's coordinates, where that is known.
+/// All faults of a library as it is read, as they are printed about a check of that structure: the code, the byte in the file, the structure, and
+/// the box of the element's points in the checked structure's coordinates, if that is known.
 ///
 /// # Errors
-/// Want of memory.
+/// Out of memory.
 pub fn faults_seen(
     alloc: Global,
     source: &Source<'_>,
@@ -206,7 +206,7 @@ pub fn left_out_seen(
     }
 }
 
-/// A structure's name, where it is known.
+/// A structure's name, if it is known.
 fn name_of(name: &Option<Name>) -> Option<&Name>
     ensures { option_map (λ n. n.now) result ≡ name.entry.now }
 {
@@ -219,7 +219,7 @@ fn name_of(name: &Option<Name>) -> Option<&Name>
 /// The same faults, for a report.
 ///
 /// # Errors
-/// Want of memory.
+/// Out of memory.
 pub fn report_faults<'a>(alloc: Global, seen: &'a [SeenFault]) -> Result<Vec<Fault<'a>>, AllocError>
     ensures { IfOk result (λ faults. map fault_of faults.items ≡ map told_seen seen.entry.now) }
 {

@@ -22,7 +22,7 @@ pub struct Source<'a> {
     faulty: Vec<FaultFound>,
     /// What is cut out for these faults.
     cuts: Vec<Cut>,
-    /// What is read: what is reached itself where nothing is cut out.
+    /// What is read: what is reached itself if nothing is cut out.
     kept: Arc<Vec<u8>>,
 }
 
@@ -51,7 +51,7 @@ impl<'a> Model for Source<'a> {
     ghost invariant = { λ s. IsKept s.reached s.faulty.items s.cuts.items s.kept.value.items };
 }
 
-/// The faults of a text's elements, where these are to be left out; else none.
+/// The faults of a text's elements, if these are to be left out; else none.
 fn faulty_in(alloc: Global, faultless: bool, text: &[u8]) -> Result<Vec<FaultFound>, AllocError>
     ensures { IfOk result (λ found. found.items ≡ faulty_in faultless text.now) }
 {
@@ -64,7 +64,7 @@ fn faulty_in(alloc: Global, faultless: bool, text: &[u8]) -> Result<Vec<FaultFou
 
 impl<'a> Source<'a> {
     /// The source of a text, without the elements on these layers, without the structures that the one of that name doesn't reach, and,
-    /// where it is to be faultless, without the elements that have a fault of their own. Where something is left out, it takes what is
+    /// if it is to be faultless, without the elements that have a fault of their own. If something is left out, it takes what is
     /// left besides.
     ///
     /// # Errors
@@ -90,7 +90,7 @@ impl<'a> Source<'a> {
         })
     }
 
-    /// The text as it stands in its file.
+    /// The text as it is in its file.
     pub fn text(&self) -> &[u8]
         ensures { result.now ≡ self.now.text }
     {
@@ -170,7 +170,7 @@ impl<'a> Source<'a> {
         }
     }
 
-    /// What keeps the text as it is read from being checked, with its place in the file.
+    /// Why the text as it is read can't be checked, with its place in the file.
     pub fn moved(&self, fault: CheckFault) -> CheckFault
         ensures { result ≡ moved self.now fault }
     {
@@ -180,7 +180,7 @@ impl<'a> Source<'a> {
         }
     }
 
-    /// The elements that are left out on skipped layers, for those who tell of them.
+    /// The elements that are left out on skipped layers, for those who report them.
     pub fn layered(&self) -> &Layered<'a> {
         self.reached.layered()
     }

@@ -1,8 +1,8 @@
-//! What something is told of.
+//! What a message is about.
 
 use mpw_geom::Name;
 
-/// What is told of where something is refused: the library's file, and the structure.
+/// What a refusal is about: the library's file, and the structure.
 #[derive(Clone, Copy, Drop)]
 pub struct Target<'a> {
     /// The name of the library's file.

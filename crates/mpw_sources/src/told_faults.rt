@@ -195,7 +195,7 @@ pub fn left_out_lines(
     left_lines(alloc, file, source, &mut below, source.faulty())
 }
 
-/// Prints these lines on the standard error; nothing where no element is left out for a fault.
+/// Prints these lines on the standard error; nothing if no element is left out for a fault.
 ///
 /// # Errors
 /// Out of memory, or that of the standard error.

@@ -3,7 +3,7 @@
 use mpw_choices::unplaced_structures;
 use std::io;
 
-/// How many of them are told.
+/// How many of them are printed.
 const MAX_TOPS: usize = 10;
 
 /// A name without the NUL that makes its bytes even, as text.
@@ -14,7 +14,7 @@ fn text_of(name: &[u8]) -> Option<&str> {
     }
 }
 
-/// Tells these names.
+/// Prints these names.
 fn tell_names(rt: &HostRuntime, file: &str, names: &[&[u8]]) -> io::Result<()> {
     eprint!(rt; "note: {file}: structures that nothing places:")?;
     for name in names {
@@ -25,10 +25,10 @@ fn tell_names(rt: &HostRuntime, file: &str, names: &[&[u8]]) -> io::Result<()> {
     eprintln!(rt; "")
 }
 
-/// Tells on the standard error which structures of a library nothing places, the first ten of [`unplaced_structures`].
+/// Prints on the standard error which structures of a library nothing places, the first ten of [`unplaced_structures`].
 ///
 /// # Errors
-/// Want of memory, or that of the standard error.
+/// Out of memory, or the fault of the standard error.
 pub fn tell_tops(rt: &HostRuntime, file: &str, text: &[u8]) -> io::Result<()> {
     let names = unplaced_structures(rt.alloc(), text, MAX_TOPS)?;
     if names.is_empty() {

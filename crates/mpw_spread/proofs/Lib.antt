@@ -1,3 +1,4 @@
+-- The files of this crate's lemmas.
 mod Listed
 mod Made
 mod Reach

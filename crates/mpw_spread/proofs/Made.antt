@@ -33,7 +33,7 @@ same_snapshot texts s t a b x y =
     ∙ ap (λ l. drawn x.rules texts.top l) libraries
     ∙ sym x.drawn.drawn.snapshot_is
 
--- Texts of which the same is told are the same, where the libraries are.
+-- Texts of which the same is said are the same, if the libraries are.
 same_texts : (texts others : Texts) (x y : Option Box2) (n m : ℕ)
     → subject_of others y m ≡ subject_of texts x n
     → (sha256 others.library ≡ sha256 texts.library → others.library ≡ texts.library)
@@ -46,7 +46,7 @@ same_texts texts others x y n m e one =
     ∙ ap (λ l. record { deck = texts.deck; top = texts.top; library = l })
     (one (ap (λ (c : Checked). c.library) e))
 
--- A part that is told the same as the first has lists of the first one's layout.
+-- A part of which the same is said as of the first has lists of the first one's layout.
 own_lists : (texts : Texts) (first part : Found) (made : IsPartOf texts first)
     → IsPartBeside texts part → part.subject ≡ first.subject
     → AllZip (IsColumnList made.snapshot) part.columns part.lists

@@ -43,14 +43,14 @@ pub record IsPartOf (texts : Texts) (part : Found) : Type 0 where
   pub made : AreOf texts snapshot part.subject
   pub own : AllZip (IsColumnList snapshot) part.columns part.lists
 
--- A part of the check of some texts, of which the library is this one where it has its SHA-256.
+-- A part of the check of some texts, of which the library is this one if it has its SHA-256.
 pub record IsPartBeside (texts : Texts) (part : Found) : Type 0 where
   pub others : Texts
   pub of_others : IsPartOf others part
   pub one : sha256 others.library ≡ sha256 texts.library → others.library ≡ texts.library
 
 -- Of parts that are stitched, each made of files anywhere, the book has just the markers of the flat layout of the files that the first
--- was made of, where no other library has the SHA-256 of theirs.
+-- was made of, if no other library has the SHA-256 of theirs.
 abbrev pub PartsMakeTheLayout : Type 0
 PartsMakeTheLayout =
     (texts : Texts) (first : Found) (parts : List Found) (book : List Marker)

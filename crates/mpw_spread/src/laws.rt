@@ -5,7 +5,7 @@ ghost use Rattle.mpw_spread.specs.Spread.{PartsMakeTheLayout};
 use mpw_columns::lists_make_the_layout;
 use mpw_parts::each_column_has_its_list;
 
-/// Parts that were made anywhere, of any files, have, where they are stitched at all, just the markers of the flat layout of the
+/// Parts that were made anywhere, of any files, have, if they are stitched at all, just the markers of the flat layout of the
 /// files that the first was made of; unless two libraries that differ have one SHA-256.
 pub fn parts_make_the_layout()
     ensures { PartsMakeTheLayout }

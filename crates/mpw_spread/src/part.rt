@@ -46,7 +46,7 @@ fn columns_in(alloc: Global, columns: &[Column], span: Span) -> Result<Vec<Colum
 /// [`lists_of_columns`] does for these columns, and progress is reported as there.
 ///
 /// # Errors
-/// Want of memory.
+/// Out of memory.
 pub fn check_part<P: Progress>(
     rt: &(impl Threads + Sync),
     alloc: Global,

@@ -26,7 +26,7 @@ const SHARED_PLACED: u64 = 512;
 pub struct Plan<'a> {
     /// The layout under a deck.
     pub snapshot: &'a Snapshot,
-    /// Its columns: those of axis `V` from the left, and behind them those of axis `H` from below.
+    /// Its columns: those of axis `V` from the left, and after them those of axis `H` from below.
     pub columns: &'a [Column],
 }
 
@@ -65,11 +65,11 @@ fn most_of(snapshot: &Snapshot) -> u32 {
     most as u32
 }
 
-/// The columns of a layout for its shares: those of axis `V` from the left, and behind them those of axis `H` from below; none without
+/// The columns of a layout for its shares: those of axis `V` from the left, and after them those of axis `H` from below; none without
 /// shapes. They are the same on each machine. It costs what [`mpw_columns::columns_of`] does.
 ///
 /// # Errors
-/// Want of memory.
+/// Out of memory.
 pub fn columns_for_shares(alloc: Global, snapshot: &Snapshot) -> Result<Vec<Column>, AllocError>
     ensures columns { IfOk result (λ v. AreColumnsOfLayout snapshot.now v.items) }
     ensures few { IfOk result (λ v. length v.items ≤ 2 ^ 22) }

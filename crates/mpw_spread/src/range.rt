@@ -25,7 +25,7 @@ pub enum ColumnRange {
 pub struct Span {
     /// The first of them, counted from 0.
     pub first: u32,
-    /// The one behind the last.
+    /// The one after the last.
     pub end: u32,
 }
 

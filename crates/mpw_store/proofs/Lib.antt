@@ -1,3 +1,4 @@
+-- The files of this crate's lemmas.
 pub mod RunLemmas
 pub mod AppendLemmas
 pub mod CreateLemmas

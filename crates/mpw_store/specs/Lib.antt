@@ -1,3 +1,4 @@
+-- The files of this crate's definitions.
 pub mod Changes
 pub mod Faults
 pub mod Reading

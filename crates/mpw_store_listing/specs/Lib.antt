@@ -1,3 +1,4 @@
+-- The files of this crate's definitions.
 pub mod Listing
 pub mod Part
 pub mod Checking

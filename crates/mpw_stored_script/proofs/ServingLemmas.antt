@@ -1,4 +1,4 @@
--- What a keeper begins with over a store that was reopened.
+-- What a store writer begins with over a store that was reopened.
 use Rattle.std.proofs.Common.{◌≡◌, ◌∙◌, arith, ℕ, ◌+◌, List, [], ◌∷◌, ◌++◌, length, map, Option, None, Some, option_map, true, false, inl, inr, refl, sym, ap, subst, length-append}
 use Rattle.std.specs.Prelude.{◌==◌, IfSome}
 use Rattle.std.proofs.lemmas.Bool.{cases_Bool}

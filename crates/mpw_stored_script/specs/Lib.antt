@@ -1,3 +1,4 @@
+-- The files of this crate's definitions.
 pub mod Ending
 pub mod Opening
 pub mod Serving

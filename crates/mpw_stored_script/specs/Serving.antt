@@ -21,7 +21,7 @@ use Rattle.mpw_stored_script.specs.declared.fault.StoredFault.{StoredFault}
 use Rattle.mpw_stored_script.specs.declared.fault.StoredFault.TheVariants.{File, Stranger, Full, Wire, Closed}
 
 -- the store's rows lead to this desk. These rows, with the ends of the sessions that they left, are just the rows of the changes that are
--- kept, and each tells its change
+-- stored, and each gives its change
 pub record BeginsWith (officer : Officer) (s : State) (desk : Desk) (kept : List KeptChange) :
     Type 0 where
   pub found : List Entry
@@ -46,7 +46,7 @@ pub record ServesOver (connection : ℕ) (d : KeptDesk)
   pub stored : HasCleanDisk s' → IsTrue s'.is_open → IsKeptIn s' left.kept
   pub is_open : HasCleanDisk s' → fault ≡ None → IsTrue s'.is_open
 
--- a connection, whose number is above each before, is served over the store, from that desk on; and where the keeper's list is known it
+-- a connection, whose number is above each before, is served over the store, from that desk on; and if the store writer's list is known it
 -- begins so
 pub record ServesStore (officer : Officer) (s s' : State)
     (input input' output output' : Option (List ℕ)) (served : Served) (fault : Option StoreFault) :

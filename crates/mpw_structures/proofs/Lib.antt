@@ -1,2 +1,3 @@
+-- The files of this crate's lemmas.
 pub mod Indexed
 pub mod TextPoints

@@ -1,3 +1,4 @@
+-- The files of this crate's definitions.
 pub mod Element
 pub mod Places
 pub mod Library

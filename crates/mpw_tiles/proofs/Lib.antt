@@ -1,3 +1,4 @@
+-- The files of this crate's lemmas.
 pub mod Intervals
 pub mod Cells
 pub mod Cores

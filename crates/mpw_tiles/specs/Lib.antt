@@ -1,3 +1,4 @@
+-- The files of this crate's definitions.
 pub mod Grid
 pub mod GridLaws
 pub mod Plan

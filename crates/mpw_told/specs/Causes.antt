@@ -1,4 +1,4 @@
--- What led to a library's fault, by the record that has it and those before and behind it.
+-- What caused a library's fault, by the record that has it and those before and after it.
 use Rattle.std.specs.Prelude.{ℕ, ◌+◌, ◌*◌, ◌==◌, ◌&&◌, ◌||◌, Bool, false, List, ◌∷◌, drop, slice_get, Option, None, Some, if◌then◌else◌}
 use Rattle.mpw_records.specs.declared.fault.Code.{Code}
 use Rattle.mpw_records.specs.declared.fault.Code.TheVariants.{NotManhattan, PointPath, Unexpected}
@@ -21,7 +21,7 @@ is_kind kind (Some k) = k == kind
 abbrev pub begins_with : ℕ → List ℕ → Bool
 begins_with kind text = is_kind kind (slice_get text 2)
 
--- the text behind it
+-- the text after it
 abbrev pub behind_first : List ℕ → List ℕ
 behind_first text = drop (first_length text) text
 
@@ -29,7 +29,7 @@ behind_first text = drop (first_length text) text
 abbrev pub is_behind : ℕ → List ℕ → ℕ → Bool
 is_behind kind text at = is_kind kind (kind_before text at)
 
--- Of the record with that code at a byte: an XY before or behind another, a property where none may stand, or what the code says.
+-- Of the record with that code at a byte: an XY before or after another, a property at a place where none may be, or what the code says.
 unfoldable pub cause_at : Code → List ℕ → ℕ → Cause
 cause_at NotManhattan text at =
     if begins_with XY (behind_first (drop at text)) then cause.Split else cause.Code

@@ -14,7 +14,7 @@ is_check word =
     || name_eq word (codes "separation")
     || name_eq word (codes "enclosing")
 
--- The name behind it has a colon.
+-- The name after it has a colon.
 abbrev pub has_colon : List (List ℕ) → Bool
 has_colon [] = false
 has_colon (word ∷ []) = false

@@ -1,3 +1,4 @@
+-- The files of this crate's definitions.
 pub mod Causes
 pub mod Colons
 pub mod Places

@@ -1,11 +1,11 @@
--- The structure that a record of a library's text stands in.
+-- The structure that a record of a library's text is in.
 use Rattle.std.specs.Prelude.{ℕ, List, Option, Some, None, option_and_then, Result, Ok, Err}
 use Rattle.mpw_elements.specs.Values.{name_of}
 use Rattle.mpw_records.specs.Records.{RecordOutcome, front}
 use Rattle.mpw_records.specs.declared.fault.ReadFault.{ReadFault}
 use Rattle.mpw_skipping.specs.Before.{structure_before}
 
--- The name that is read of a record, where it is one.
+-- The name that is read of a record, if it is one.
 abbrev pub read_name : Result (List ℕ) ReadFault → Option (List ℕ)
 read_name (Ok name) = Some name
 read_name (Err fault) = None

@@ -54,7 +54,7 @@ record_sentence code.Pitch =
 record_sentence code.DoubleName = codes "two structures have one name: rename one of them"
 record_sentence code.Absolute = codes "an angle is absolute: export it relative to the reference"
 
--- The same, where the code says what led to it; else by what did.
+-- The same, if the code says what caused it; else by the cause.
 unfoldable pub cause_sentence : Code → Cause → List ℕ
 cause_sentence told cause.Code = record_sentence told
 cause_sentence told cause.Split =

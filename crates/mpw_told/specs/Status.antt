@@ -5,7 +5,7 @@ use Rattle.std.specs.declared.io.ErrorKind.TheVariants.{OutOfMemory, StorageFull
 use Rattle.mpw_told.specs.declared.fault.FirmFault.{FirmFault}
 use Rattle.mpw_told.specs.declared.fault.FirmFault.TheVariants.{Usage, Device, Refused, Memory}
 
--- 2 if the command line isn't one, 3 if a file or a device failed, 4 if the library or the deck has a fault, 5 if out of memory
+-- 2 if the command line is wrong, 3 if a file or a device failed, 4 if the library or the deck has a fault, 5 if memory runs out
 abbrev pub status_of : FirmFault → ℕ
 status_of (Usage text) = 2
 status_of (Device text) = 3

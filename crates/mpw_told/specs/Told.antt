@@ -1,4 +1,4 @@
--- What a fault tells.
+-- What a fault says.
 use Rattle.std.specs.Prelude.{◌≡◌, ℕ, Bool, true, false, List, ◌++◌, codes, Option, None, Some}
 use Rattle.std.specs.String.{string_bytes}
 use Rattle.mpw_told.specs.declared.fault.FirmFault.{FirmFault}
@@ -6,7 +6,7 @@ use Rattle.mpw_told.specs.declared.fault.FirmFault.TheVariants.{Usage, Device, R
 
 -- ---- by its kind
 
--- A command line isn't one; or there is no room.
+-- A command line is wrong; or memory runs out.
 abbrev pub IsMisuse : FirmFault → Type 0
 IsMisuse (Usage told) = Unit {0}
 IsMisuse (Device told) = ⊥
@@ -15,26 +15,26 @@ IsMisuse Memory = Unit {0}
 
 -- ---- by its text
 
--- A library, a deck or parts are refused with that text; or there is no room for it.
+-- A library, a deck or parts are refused with that text; or memory runs out.
 abbrev pub Refuses : List ℕ → FirmFault → Type 0
 Refuses text (Refused told) = string_bytes told ≡ text
 Refuses text (Usage told) = ⊥
 Refuses text (Device told) = ⊥
 Refuses text Memory = Unit {0}
 
--- The same, where want of memory has no text of its own.
+-- The same, in which out of memory has no text of its own.
 abbrev pub Tells : Option (List ℕ) → FirmFault → Type 0
 Tells None fault = fault ≡ Memory
 Tells (Some text) fault = Refuses text fault
 
--- A file or a device failed, with that text; or there is no room for it.
+-- A file or a device failed, with that text; or memory runs out.
 abbrev pub Fails : List ℕ → FirmFault → Type 0
 Fails text (Device told) = string_bytes told ≡ text
 Fails text (Usage told) = ⊥
 Fails text (Refused told) = ⊥
 Fails text Memory = Unit {0}
 
--- A command line isn't one, with that text; or there is no room for it.
+-- A command line is wrong, with that text; or memory runs out.
 abbrev pub Misuses : List ℕ → FirmFault → Type 0
 Misuses text (Usage told) = string_bytes told ≡ text
 Misuses text (Refused told) = ⊥

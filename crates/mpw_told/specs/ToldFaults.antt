@@ -1,4 +1,4 @@
--- What is told of a deck's fault, and of what keeps a library from being checked.
+-- What is printed about a deck's fault, and about a library that can't be checked.
 use Rattle.std.specs.Prelude.{◌≡◌, ◌⊎◌, ℕ, Err, List, ◌++◌, codes, Option, None, Some, if◌then◌else◌}
 use Rattle.std.specs.List.{flat_map}
 use Rattle.mpw_check.specs.declared.fault.CheckFault.{CheckFault}
@@ -30,7 +30,7 @@ abbrev pub line_sentence : DeckFault → List ℕ → List ℕ
 line_sentence fault text =
     if is_of_colon fault text then colon_sentence else deck_sentence fault.kind
 
--- Want of memory has no text of its own.
+-- Out of memory has no text of its own.
 abbrev pub unless_memory : DeckKind → List ℕ → Option (List ℕ)
 unless_memory deck.Memory text = None
 unless_memory kind text = Some text
@@ -50,7 +50,7 @@ named_text file told structure sentence =
     file
     ++ (codes ": " ++ (told ++ (codes " in " ++ (structure ++ (codes ": " ++ sentence)))))
 
--- The structure that the record stands in is told where there is one.
+-- The structure that the record is in is printed, if there is one.
 abbrev pub placed_text : (file told : List ℕ) → Option (List ℕ) → (sentence : List ℕ) → List ℕ
 placed_text file told None sentence = record_text file told sentence
 placed_text file told (Some structure) sentence = named_text file told structure sentence
@@ -78,7 +78,7 @@ structure_text file top fault =
     ++ (codes ": "
     ++ (top ++ (codes ": " ++ (hier_word fault ++ (codes ": " ++ structure_sentence fault)))))
 
--- ---- of what keeps a library of that text from being checked
+-- ---- about a library of that text that can't be checked
 
 abbrev pub check_told : (file top : List ℕ) → CheckFault → (text : List ℕ) → Option (List ℕ)
 check_told file top kinds.Memory text = None
@@ -86,7 +86,7 @@ check_told file top (kinds.Library fault) text = Some (library_text file fault t
 check_told file top (kinds.Outside names) text = Some (outside_text file (spaced names))
 check_told file top (kinds.Structure fault) text = Some (structure_text file top fault)
 
--- A deck's text is refused that has a fault, and that is told of the file; or there is no room.
+-- A deck's text is refused that has a fault, and that is reported of the file; or memory runs out.
 abbrev pub IsOfDeck : (file text : List ℕ) → FirmFault → Type 0
 IsOfDeck file text fault =
     (fault ≡ Memory)

@@ -1,4 +1,4 @@
--- What is told of parts, and of columns that a layout hasn't.
+-- What is printed about parts, and about columns that a layout hasn't.
 use Rattle.std.specs.Prelude.{◌+◌, ◌&&◌, ℕ, Bool, nat_le, nat_lt, List, [], ◌++◌, codes, length, slice_get, Option, None, Some, if◌then◌else◌}
 use Rattle.std.specs.List.{flat_map}
 use Rattle.std.specs.Fmt.{decimal}
@@ -8,7 +8,7 @@ use Rattle.mpw_parts.specs.declared.fault.Difference.{Difference}
 use Rattle.mpw_parts.specs.declared.fault.PartsFault.{PartsFault}
 use Rattle.mpw_parts.specs.declared.fault.PartsFault.TheVariants.{Memory, NoPart, Other, NoRule, Missing, Doubled, Apart, NoBook}
 
--- A part's file, by its name, with the part's first column and the one behind its last.
+-- A part's file, by its name, with the part's first column and the one after its last.
 pub record Holder : Type 0 where
   pub name : List ℕ
   pub first : ℕ
@@ -85,7 +85,7 @@ unfoldable pub apart_text : List ℕ
 apart_text =
     codes "the columns of the parts don't follow on one another: print them again with one mpw"
 
--- Why parts aren't stitched, of these files and a layout with so many columns; want of memory has no text of its own.
+-- Why parts aren't stitched, of these files and a layout with so many columns; out of memory has no text of its own.
 abbrev pub fault_text : List Holder → ℕ → PartsFault → Option (List ℕ)
 fault_text holders columns Memory = None
 fault_text holders columns NoPart = Some nothing_text

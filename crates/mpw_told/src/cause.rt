@@ -1,4 +1,4 @@
-//! What led to a library's fault, where its code alone doesn't tell it.
+//! What caused a library's fault, if its code alone doesn't say it.
 ghost use Rattle.std.specs.Prelude.{◌≡◌, drop};
 ghost use Rattle.mpw_told.specs.Causes.{begins_with, behind_first, cause_at, cause_of, first_length, is_behind};
 
@@ -6,14 +6,14 @@ use mpw_records::kind::{PROPATTR, PROPVALUE, XY};
 use mpw_records::{Code, ReadFault};
 use mpw_skipping::kind_before;
 
-/// What led to a fault.
+/// The cause of a fault.
 #[derive(Clone, Copy)]
 pub enum Cause {
     /// What the code says.
     Code,
-    /// The points of an element stand in several XY records.
+    /// The points of an element are in several XY records.
     Split,
-    /// A property stands where the format has none, as behind UNITS.
+    /// A property is where the format has none, as after UNITS.
     Property,
     /// The text isn't GDSII at all.
     Foreign,
@@ -29,7 +29,7 @@ fn begins_with(kind: u8, text: &[u8]) -> bool
     }
 }
 
-/// The length of the first record, 0 where it isn't there.
+/// The length of the first record, 0 if it isn't there.
 fn first_length(text: &[u8]) -> usize
     ensures { result ≡ first_length text.now }
 {
@@ -39,7 +39,7 @@ fn first_length(text: &[u8]) -> usize
     }
 }
 
-/// The text from a place on; nothing behind its end.
+/// The text from a place on; nothing after its end.
 fn rest(text: &[u8], from: usize) -> &[u8]
     ensures { result.now ≡ drop from text.now }
 {
@@ -50,7 +50,7 @@ fn rest(text: &[u8], from: usize) -> &[u8]
     }
 }
 
-/// The text behind the first record.
+/// The text after the first record.
 fn behind_first(text: &[u8]) -> &[u8]
     ensures { result.now ≡ behind_first text.now }
 {
@@ -67,7 +67,7 @@ fn is_behind(kind: u8, text: &[u8], at: usize) -> bool
     }
 }
 
-/// What led to a fault of that code at a place, which has this rest of the text.
+/// The cause of a fault of that code at a place, which has this rest of the text.
 #[tactic(auto, unfolding(crate::specs::Causes::cause_at))]
 fn cause_at(fault: ReadFault, text: &[u8], here: &[u8]) -> Cause
     requires { here.now ≡ drop fault.offset text.now }
@@ -85,7 +85,7 @@ fn cause_at(fault: ReadFault, text: &[u8], here: &[u8]) -> Cause
     }
 }
 
-/// What led to a fault of a text. Constant time, but for an XY that is unexpected, for which it costs a look at each record before it.
+/// The cause of a fault of a text. Constant time, but for an XY that is unexpected, for which it costs a look at each record before it.
 #[tactic(auto, unfolding(crate::specs::Causes::cause_of))]
 pub fn cause_of(fault: ReadFault, text: &[u8]) -> Cause
     ensures { result ≡ cause_of fault text.now }

@@ -39,7 +39,7 @@ fn has_colon(words: &[&[u8]]) -> bool
     }
 }
 
-/// The line at a place, where there is one.
+/// The line at a place, if there is one.
 fn line_at<'a>(lines: &[&'a [u8]], at: usize) -> Option<&'a [u8]>
     ensures { option_map (λ l. l.now) result ≡ slice_get (map (λ l. l.now) lines.now) at }
 {
@@ -49,7 +49,7 @@ fn line_at<'a>(lines: &[&'a [u8]], at: usize) -> Option<&'a [u8]>
     }
 }
 
-/// The same of a line, where there is one.
+/// The same of a line, if there is one.
 fn colon_in(alloc: Global, line: Option<&[u8]>) -> Result<bool, AllocError>
     ensures { IfOk result (λ colon. colon ≡ colon_in (option_map (λ l. l.now) line.entry)) }
 {
@@ -65,7 +65,7 @@ fn colon_in(alloc: Global, line: Option<&[u8]>) -> Result<bool, AllocError>
 /// Whether a fault of a deck's text is one of a rule whose name has a colon. It costs what [`lines`] does.
 ///
 /// # Errors
-/// Want of memory.
+/// Out of memory.
 pub fn is_of_colon(alloc: Global, fault: DeckFault, text: &[u8]) -> Result<bool, AllocError>
     ensures { IfOk result (λ colon. colon ≡ is_of_colon fault text.now) }
 {

@@ -12,7 +12,7 @@ use std::io::ErrorKind;
 /// Why a check ends without a listing, with its text. Its `Display` is the line that is printed.
 #[derive(Debug, Drop)]
 pub enum FirmFault {
-    /// The command line isn't one.
+    /// The command line is wrong.
     Usage(String),
     /// A file or a device failed.
     Device(String),

@@ -1,8 +1,8 @@
-//! What `mpw check` and `mpw stitch` tell of what goes wrong, and their exit status.
+//! What `mpw check` and `mpw stitch` print about what goes wrong, and their exit status.
 //!
 //! A [`FirmFault`] is what ends a command, with its text; [`exit_status`] is the status that it gives. [`check_fault`] and [`deck_fault`]
-//! tell what keeps a library or a deck from being checked: its place, and a sentence on what it means and what to do.
-//! [`parts_fault`] tells what keeps parts from being stitched. `specs/` has each text, word for word.
+//! say why a library or a deck can't be checked: its place, and a sentence on what it means and what to do.
+//! [`parts_fault`] says why parts can't be stitched. `specs/` has each text, word for word.
 #![tactic(auto)]
 
 mod cause;

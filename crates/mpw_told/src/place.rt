@@ -1,4 +1,4 @@
-//! The structure that a record of a library's text stands in. `specs/Places.antt` has what contracts say of it.
+//! The structure that a record of a library's text is in. `specs/Places.antt` has what contracts say of it.
 ghost use Rattle.std.specs.Prelude.{◌≡◌, IfOk, IfErr};
 ghost use Rattle.mpw_records.specs.Records.{seen};
 ghost use Rattle.mpw_told.specs.Places.{name_in, structure_at};
@@ -11,7 +11,7 @@ use mpw_records::{ReadFault, Record};
 use mpw_skipping::{record_at, structure_before};
 use std::alloc::Global;
 
-/// The name that the record at a place has, where one stands there and has one.
+/// The name that the record at a place has, if one is there and has one.
 fn name_in(alloc: Global, found: Result<Record<'_>, ReadFault>) -> Result<Option<Name>, FirmFault>
     ensures name { IfOk result (λ name. name ≡ name_in (seen found.entry)) }
     ensures memory { IfErr result (λ fault. fault ≡ Memory) }
@@ -26,12 +26,12 @@ fn name_in(alloc: Global, found: Result<Record<'_>, ReadFault>) -> Result<Option
     }
 }
 
-/// The name of the structure that the record at a place stands in, in bytes from the text's front; `None` where it stands in
+/// The name of the structure that the record at a place is in, in bytes from the text's front; `None` if it is in
 /// none, or the name isn't one. Faults of records' data before it, and names in texts and nodes, change nothing. It costs a look at
 /// each record before that place.
 ///
 /// # Errors
-/// Want of memory.
+/// Out of memory.
 pub fn structure_at(alloc: Global, text: &[u8], offset: usize) -> Result<Option<Name>, FirmFault>
     ensures name { IfOk result (λ name. name ≡ structure_at text.now offset) }
     ensures memory { IfErr result (λ fault. fault ≡ Memory) }

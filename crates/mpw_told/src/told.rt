@@ -1,4 +1,4 @@
-//! What is told on the standard error. `specs/Told.antt` and `specs/ToldFaults.antt` have what contracts say of it.
+//! What is printed on the standard error. `specs/Told.antt` and `specs/ToldFaults.antt` have what contracts say of it.
 ghost use Rattle.std.specs.Prelude.{◌≡◌, ℕ, List, true, false, IfOk};
 ghost use Rattle.std.specs.IoError.{error_kind};
 ghost use Rattle.std.specs.String.{string_bytes};
@@ -20,7 +20,7 @@ use mpw_records::ReadFault;
 use std::alloc::{AllocError, Global};
 use std::io;
 
-/// A fault of a library, a deck or parts that was told, or want of memory.
+/// A fault of a library, a deck or parts that was printed, or out of memory.
 pub fn refusal(text: Result<String, AllocError>) -> FirmFault
     ensures { (bytes : List ℕ) → IfOk text (λ t. string_bytes t ≡ bytes) → Refuses bytes result }
 {
@@ -30,7 +30,7 @@ pub fn refusal(text: Result<String, AllocError>) -> FirmFault
     }
 }
 
-/// A fault of the command line that was told, or want of memory.
+/// A fault of the command line that was printed, or out of memory.
 pub fn misuse(text: Result<String, AllocError>) -> FirmFault
     ensures { (bytes : List ℕ) → IfOk text (λ t. string_bytes t ≡ bytes) → Misuses bytes result }
 {
@@ -40,7 +40,7 @@ pub fn misuse(text: Result<String, AllocError>) -> FirmFault
     }
 }
 
-/// The failure of a file or a device that was told, or want of memory.
+/// The failure of a file or a device that was printed, or out of memory.
 pub fn failure(text: Result<String, AllocError>) -> FirmFault
     ensures { (bytes : List ℕ) → IfOk text (λ t. string_bytes t ≡ bytes) → Fails bytes result }
 {
@@ -62,7 +62,7 @@ fn list_of_names(alloc: Global, names: &Names) -> Result<String, AllocError>
     Ok(text)
 }
 
-/// What is told of a deck's line.
+/// What is printed about a deck's line.
 #[tactic(auto, unfolding(crate::specs::ToldFaults::deck_text))]
 fn line_fault(alloc: Global, file: &str, fault: DeckFault, sentence: &str) -> FirmFault
     ensures { Refuses (deck_text file.now fault sentence.now) result }
@@ -81,7 +81,7 @@ fn line_sentence(alloc: Global, fault: DeckFault, text: &[u8]) -> Result<&'stati
     }
 }
 
-/// What is told of a fault of a deck's text.
+/// What is printed about a fault of a deck's text.
 pub fn deck_fault(alloc: Global, file: &str, fault: DeckFault, text: &[u8]) -> FirmFault
     ensures { Tells (deck_told file.now fault text.now) result }
 {
@@ -94,7 +94,7 @@ pub fn deck_fault(alloc: Global, file: &str, fault: DeckFault, text: &[u8]) -> F
     }
 }
 
-/// What is told where names stand outside the library.
+/// What is printed if names are outside the library.
 #[tactic(auto, unfolding(crate::specs::ToldFaults::outside_text))]
 fn outside(alloc: Global, file: &str, names: &Names) -> FirmFault
     ensures { Refuses (outside_text file.now (spaced names.now)) result }
@@ -108,7 +108,7 @@ fn outside(alloc: Global, file: &str, names: &Names) -> FirmFault
     }
 }
 
-/// What is told of a fault of records in a structure of that name.
+/// What is printed about a fault of records in a structure of that name.
 #[tactic(auto, unfolding(crate::specs::ToldFaults::named_text))]
 fn named_fault(
     alloc: Global,
@@ -122,7 +122,7 @@ fn named_fault(
     refusal(format!(in alloc; "{file}: {fault} in {name}: {sentence}"))
 }
 
-/// What is told of a fault of records in no structure.
+/// What is printed about a fault of records in no structure.
 #[tactic(auto, unfolding(crate::specs::ToldFaults::record_text))]
 fn record_fault(alloc: Global, file: &str, fault: ReadFault, sentence: &str) -> FirmFault
     ensures { Refuses (record_text file.now (fault_text fault) sentence.now) result }
@@ -130,7 +130,7 @@ fn record_fault(alloc: Global, file: &str, fault: ReadFault, sentence: &str) -> 
     refusal(format!(in alloc; "{file}: {fault}: {sentence}"))
 }
 
-/// What is told of a fault of a library's records: the code and the byte, the structure, and what it means.
+/// What is printed about a fault of a library's records: the code and the byte, the structure, and what it means.
 pub fn library_fault(alloc: Global, file: &str, fault: ReadFault, text: &[u8]) -> FirmFault
     ensures { Refuses (library_text file.now fault text.now) result }
 {
@@ -142,7 +142,7 @@ pub fn library_fault(alloc: Global, file: &str, fault: ReadFault, text: &[u8]) -
     }
 }
 
-/// What is told of a fault of the structures below a top.
+/// What is printed about a fault of the structures below a top.
 #[tactic(auto, unfolding(crate::specs::ToldFaults::structure_text))]
 fn structure_fault(alloc: Global, file: &str, top: &str, fault: HierFault) -> FirmFault
     ensures { Refuses (structure_text file.now top.now fault) result }
@@ -151,7 +151,7 @@ fn structure_fault(alloc: Global, file: &str, top: &str, fault: HierFault) -> Fi
     refusal(format!(in alloc; "{file}: {top}: {fault}: {sentence}"))
 }
 
-/// What is told of what keeps a library of that text from being checked.
+/// What is printed about a library of that text that can't be checked.
 pub fn check_fault(
     alloc: Global,
     file: &str,
@@ -169,7 +169,7 @@ pub fn check_fault(
     }
 }
 
-/// What is told of a file or a device that can't be read, for that reason.
+/// What is printed about a file or a device that can't be read, for that reason.
 #[tactic(auto, unfolding(crate::specs::Told::unread_text))]
 fn unread(alloc: Global, file: &str, reason: &str) -> FirmFault
     ensures { Fails (unread_text file.now reason.now) result }
@@ -197,7 +197,7 @@ pub fn write_reason(is_full: bool) -> &'static str
     }
 }
 
-/// What is told of a file that can't be written, for that reason.
+/// What is printed about a file that can't be written, for that reason.
 #[tactic(auto, unfolding(crate::specs::Told::unwritten_text))]
 pub fn unwritten(alloc: Global, file: &str, reason: &str) -> FirmFault
     ensures { Fails (unwritten_text file.now reason.now) result }

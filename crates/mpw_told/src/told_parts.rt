@@ -1,4 +1,4 @@
-//! What is told on the standard error of parts. `specs/ToldParts.antt` has the texts.
+//! What is printed on the standard error about parts. `specs/ToldParts.antt` has the texts.
 ghost use Rattle.std.specs.Prelude.{◌≡◌, ℕ, List, slice_get, IfOk};
 ghost use Rattle.std.specs.String.{string_bytes};
 ghost use Rattle.mpw_told.specs.Told.{Refuses, Tells, Misuses};
@@ -10,7 +10,7 @@ use mpw_parts::{Difference, Part, PartsFault};
 use std::alloc::{AllocError, Global};
 use std::marker::Model;
 
-/// The file of a part, with the part's first column and the one behind its last. Contracts see these.
+/// The file of a part, with the part's first column and the one after its last. Contracts see these.
 #[derive(Drop)]
 pub struct PartFile<'a> {
     name: &'a str,
@@ -54,7 +54,7 @@ impl<'a> PartFile<'a> {
     }
 }
 
-/// What is told where columns are asked for that a layout hasn't.
+/// What is printed if columns are asked for that a layout hasn't.
 #[tactic(auto, unfolding(crate::specs::ToldParts::beyond_text, crate::specs::ToldParts::no_columns_text))]
 pub fn beyond_plan(alloc: Global, columns: u32) -> FirmFault
     ensures { Misuses (range_text columns) result }
@@ -72,7 +72,7 @@ pub fn beyond_plan(alloc: Global, columns: u32) -> FirmFault
     }
 }
 
-/// What is told of a file that is no part.
+/// What is printed about a file that is no part.
 #[tactic(auto, unfolding(crate::specs::ToldParts::no_part_text))]
 pub fn no_part(alloc: Global, file: &str) -> FirmFault
     ensures { Refuses (no_part_text file.now) result }
@@ -82,7 +82,7 @@ pub fn no_part(alloc: Global, file: &str) -> FirmFault
     ))
 }
 
-/// What is told of a file that is a part of an older form.
+/// What is printed about a file that is a part of an older form.
 #[tactic(auto, unfolding(crate::specs::ToldParts::older_text))]
 pub fn older_part(alloc: Global, file: &str) -> FirmFault
     ensures { Refuses (older_text file.now) result }
@@ -98,7 +98,7 @@ pub fn damaged_part(alloc: Global, file: &str) -> FirmFault
     refusal(format!(in alloc; "{file}: the part was changed or cut off: run that part again"))
 }
 
-/// What is told of parts whose markers no check prints.
+/// What is printed about parts whose markers no check prints.
 #[tactic(auto, unfolding(crate::specs::ToldParts::no_markers_text))]
 pub fn no_markers(alloc: Global) -> FirmFault
     ensures { Refuses no_markers_text result }
@@ -109,7 +109,7 @@ pub fn no_markers(alloc: Global) -> FirmFault
     ))
 }
 
-/// What is told of a part of another check than that of the first.
+/// What is printed about a part of another check than that of the first.
 #[tactic(auto, unfolding(crate::specs::ToldParts::other_text))]
 fn other_part(alloc: Global, part: &str, what: &str, first: &str) -> FirmFault
     ensures { Refuses (other_text part.now what.now first.now) result }
@@ -117,7 +117,7 @@ fn other_part(alloc: Global, part: &str, what: &str, first: &str) -> FirmFault
     refusal(format!(in alloc; "{part}: a part of another {what} than {first}"))
 }
 
-/// The same where the files have no such place.
+/// The same if the files have no such place.
 #[tactic(auto, unfolding(crate::specs::ToldParts::unnamed_text))]
 fn unnamed_part(alloc: Global, what: &str) -> FirmFault
     ensures { Refuses (unnamed_text what.now) result }
@@ -125,7 +125,7 @@ fn unnamed_part(alloc: Global, what: &str) -> FirmFault
     refusal(format!(in alloc; "a part is of another {what}"))
 }
 
-/// What is told of the part at a place, which is of another check than that of the first.
+/// What is printed about the part at a place, which is of another check than that of the first.
 fn other(alloc: Global, files: &[PartFile<'_>], place: usize, what: Difference) -> FirmFault
     ensures { Refuses (other_of (slice_get files.now 0) (slice_get files.now place) what) result }
 {
@@ -139,7 +139,7 @@ fn other(alloc: Global, files: &[PartFile<'_>], place: usize, what: Difference) 
     }
 }
 
-/// What is told of a part that has a marker of a rule that the deck hasn't.
+/// What is printed about a part that has a marker of a rule that the deck hasn't.
 #[tactic(auto, unfolding(crate::specs::ToldParts::unruled_text))]
 fn unruled_part(alloc: Global, part: &str) -> FirmFault
     ensures { Refuses (unruled_text part.now) result }
@@ -147,7 +147,7 @@ fn unruled_part(alloc: Global, part: &str) -> FirmFault
     refusal(format!(in alloc; "{part}: a marker of a rule that its deck hasn't: print it again"))
 }
 
-/// What is told of the part at a place, which has a marker of a rule that the deck hasn't.
+/// What is printed about the part at a place, which has a marker of a rule that the deck hasn't.
 fn unruled(alloc: Global, files: &[PartFile<'_>], place: usize) -> FirmFault
     ensures { Refuses (unruled_of (slice_get files.now place)) result }
 {
@@ -171,7 +171,7 @@ fn holders(alloc: Global, files: &[PartFile<'_>], column: usize) -> Result<Strin
     Ok(names)
 }
 
-/// What is told of a column that no part has.
+/// What is printed about a column that no part has.
 #[tactic(auto, unfolding(crate::specs::ToldParts::missing_text))]
 fn missing_column(alloc: Global, columns: u32, column: usize) -> FirmFault
     ensures { Refuses (missing_text column columns) result }
@@ -181,7 +181,7 @@ fn missing_column(alloc: Global, columns: u32, column: usize) -> FirmFault
     ))
 }
 
-/// What is told of a column that more than one part has.
+/// What is printed about a column that more than one part has.
 #[tactic(auto, unfolding(crate::specs::ToldParts::doubled_text))]
 fn doubled_column(alloc: Global, files: &[PartFile<'_>], column: usize) -> FirmFault
     ensures { Refuses (doubled_text column (names_with column files.now)) result }
@@ -192,7 +192,7 @@ fn doubled_column(alloc: Global, files: &[PartFile<'_>], column: usize) -> FirmF
     }
 }
 
-/// What is told where there is no part.
+/// What is printed if there is no part.
 #[tactic(auto, unfolding(crate::specs::ToldParts::nothing_text))]
 fn nothing(alloc: Global) -> FirmFault
     ensures { Refuses nothing_text result }
@@ -200,7 +200,7 @@ fn nothing(alloc: Global) -> FirmFault
     refusal(String::from_str(alloc, "there is no part"))
 }
 
-/// What is told of parts whose columns don't follow on one another.
+/// What is printed about parts whose columns don't follow on one another.
 #[tactic(auto, unfolding(crate::specs::ToldParts::apart_text))]
 fn apart(alloc: Global) -> FirmFault
     ensures { Refuses apart_text result }
@@ -211,7 +211,7 @@ fn apart(alloc: Global) -> FirmFault
     ))
 }
 
-/// What is told of parts that aren't stitched, of these files and a layout with so many columns.
+/// What is printed about parts that aren't stitched, of these files and a layout with so many columns.
 pub fn parts_fault(
     alloc: Global,
     files: &[PartFile<'_>],

@@ -1,4 +1,4 @@
-//! One waiver.
+//! One waiver: who asked for it, and who signed it.
 
 ghost use Rattle.std.specs.Prelude.{◌≡◌, is_some};
 

@@ -1,3 +1,4 @@
+-- The files of this crate's lemmas.
 pub mod Examples
 pub mod Placings
 pub mod Related

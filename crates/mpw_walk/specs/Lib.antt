@@ -1,3 +1,4 @@
+-- The files of this crate's definitions.
 pub mod Turns
 pub mod Window
 pub mod Frames

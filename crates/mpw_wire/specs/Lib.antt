@@ -1,3 +1,4 @@
+-- The files of this crate's definitions.
 pub mod Keys
 pub mod Names
 pub mod Placement

@@ -1,3 +1,4 @@
+-- The files of this crate's lemmas.
 pub mod ByLayer
 pub mod Meeting
 pub mod Adding

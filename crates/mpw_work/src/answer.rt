@@ -12,7 +12,7 @@ use std::alloc::{AllocError, Global};
 /// The bytes of the block that [`keep_freed`] allocates.
 const KEPT: usize = 4 << 20;
 
-/// Allocates a block and frees it untouched. The C library's heap then keeps twice as much freed memory. Until a large block
+/// Allocates a block and frees it untouched. The C library's heap then holds twice as much freed memory. Until a large block
 /// was freed, the heap returns its end to the system whenever 128 KiB of it are free, as after each tile, and each page that
 /// is allocated again costs a fault. Later blocks come from the thread's own heap, which then grows by one system call
 /// instead of page by page. If there is no memory, nothing changes.

@@ -83,7 +83,7 @@ pub fn first_differ<T: Threads + Sync>(
     Ok(false)
 }
 
-/// Prints the first markers of each rule that columns find, behind how many each has and how many there are.
+/// Prints the first markers of each rule that columns find, after how many each has and how many there are.
 pub fn print_first<T: Threads + Sync>(
     rt: &HostRuntime,
     threads: &T,

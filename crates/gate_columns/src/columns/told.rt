@@ -6,7 +6,7 @@ use mpw_columns::Progress;
 use mpw_tiles::Snapshot;
 use std::thread::Threads;
 
-/// What a check told, first and last, and for how many markers it has room.
+/// What a check reported, first and last, and for how many markers it has room.
 #[derive(Clone, Copy)]
 struct Told {
     first: Option<usize>,

@@ -187,7 +187,7 @@ fn take_apart(rt: &HostRuntime, policy: &mut Policy) -> io::Result<()> {
     unlink(rt, policy, "a", "c")
 }
 
-/// A diamond keeps its foot while one path is left.
+/// A diamond still has its foot while one path is left.
 fn diamond(rt: &HostRuntime, policy: &mut Policy) -> io::Result<()> {
     println!(rt; "officer: {}", log_in_officer(rt.alloc(), policy)?)?;
     link_all(rt, policy)?;
@@ -240,7 +240,7 @@ fn end_all(rt: &HostRuntime, policy: &mut Policy) -> io::Result<()> {
 /// The parts about sessions.
 #[derive(Clone, Copy)]
 enum Part {
-    /// A diamond keeps its foot while one path is left.
+    /// A diamond still has its foot while one path is left.
     Diamond,
     /// 512 roles and no more, including the officer's.
     Limit,

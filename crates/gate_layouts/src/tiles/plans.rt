@@ -1,4 +1,4 @@
-//! Plans.
+//! Prints plans of tiles and their limits.
 
 use anyhow::{Result, bail};
 use gate_plain::deck_of;

@@ -1,4 +1,4 @@
-//! Decks.
+//! Reads decks, and prints their rules or their first fault.
 
 use anyhow::{Result, bail};
 use mpw_deck::{Check, Deck, Rule, read_deck};

@@ -51,11 +51,11 @@ pub enum Outcome {
 pub struct After {
     /// What the stop came to.
     pub outcome: Outcome,
-    /// How many rows were told as stored.
+    /// How many rows were reported as stored.
     pub committed: usize,
-    /// How many rows it has where the process died.
+    /// How many rows it has if the process died.
     pub killed: usize,
-    /// How many rows it has where the power failed.
+    /// How many rows it has if the power failed.
     pub cut_off: usize,
 }
 
@@ -83,7 +83,7 @@ fn rows_in(alloc: Global, files: Files<Memory>) -> Result<usize>
     }
 }
 
-/// How many rows the files have where the process died, and where the power failed.
+/// How many rows the files have if the process died, and if the power failed.
 pub fn look(alloc: Global, files: Files<Fuse<Memory>>) -> Result<(usize, usize)> {
     let mut files = files;
     let killed = Files {

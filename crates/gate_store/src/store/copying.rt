@@ -12,7 +12,7 @@ use std::alloc::{AllocError, Global};
 pub struct OwnRow {
     /// Which connection asked or ended.
     pub connection: u32,
-    /// What it is kept of.
+    /// What it is stored of.
     pub kind: Kind,
     /// Its line.
     pub line: String,

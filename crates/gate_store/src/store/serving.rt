@@ -14,10 +14,10 @@ use sqlite::Alter;
 use std::alloc::Global;
 use std::thread::Threads;
 
-/// What came of a connection: the store, where its desk wasn't closed, what was answered, and how it ended.
+/// What came of a connection: the store, if its desk wasn't closed, what was answered, and how it ended.
 #[derive(Drop)]
 pub struct Came<S: Alter> {
-    /// The store, none where the desk was closed.
+    /// The store, none if the desk was closed.
     pub store: Option<Store<S>>,
     /// What was answered.
     pub text: Vec<u8>,

@@ -66,7 +66,7 @@ pub fn add_row<S: Alter + Drop>(store: Store<S>, row: &StoredRow<'_>) -> Result<
     Ok(Store::over(conn))
 }
 
-/// Hands the rows of a store to a taker, and tells how many there are.
+/// Hands the rows of a store to a taker, and returns how many there are.
 pub fn hand_rows<S: Alter + Drop, T: TakesRows>(
     store: Store<S>,
     taker: &mut T,

@@ -17,7 +17,7 @@ struct Seen {
     area: Option<Box2>,
 }
 
-/// What is told of what a check looks at.
+/// What is reported of what a check looks at.
 #[derive(Drop)]
 enum Noted {
     NoRules,
@@ -113,7 +113,7 @@ impl Given {
         }
     }
 
-    /// Takes what a line behind the name gives.
+    /// Takes what a line gives after the name.
     fn take_line(&mut self, alloc: Global, line: &str) -> Result<()> {
         let mut words = Words::of(line);
         match words.next() {

@@ -39,7 +39,7 @@ abbrev pub fault_of : PolicyFault → Fault Ending
 fault_of (policy_fault.Refused refusal) = fault.Told (ending_of refusal)
 fault_of policy_fault.Memory = fault.Memory
 
--- what a group of requests made of its decision table gives the outcome, if what ended it is told as `ending`
+-- what a group of requests made of its decision table gives the outcome, if what ended it is reported as `ending`
 -- says, its changed part goes where `over` says, and the part fits
 abbrev pub ComesTo : {E P : Type 0} → (E → Ending) → (P → State) → (P → Type 0) → State
     → Result (Done P) (Fault E) → Outcome → Type 0

@@ -1,3 +1,4 @@
+-- Answers to the goals of `done_of` in `src/main.rt`.
 use Rattle.std.proofs.lemmas.Result.{IfOk-weaker}
 use Rattle.mpw_firm.proofs.done_of.Goals as goal
 

@@ -1,4 +1,4 @@
--- What private functions and proofs need of this: parts in order, and what keeps them from being put together.
+-- What private functions and proofs need of this: parts in order, and why they can't be put together.
 use Rattle.std.specs.Prelude.{◌≡◌, ◌≤◌, ℕ, zero, suc, List, [], ◌∷◌, ◌++◌, map, nat_lt, Option, if◌then◌else◌}
 use Rattle.std.specs.List.{AllPairs}
 use Rattle.std.specs.List.Sorted.{IsPermutation}
@@ -15,7 +15,7 @@ use Rattle.mpw_parts.specs.Stitching.{FollowOn, CoverExtent, AreOfBoth, IsOfColu
 use Rattle.mpw_parts.specs.declared.fault.PartsFault.{PartsFault}
 use Rattle.mpw_parts.specs.declared.fault.PartsFault.TheVariants as faults
 
--- Each part begins no later than those behind it.
+-- Each part begins no later than those after it.
 abbrev pub AreInOrder : List Found → Type 0
 AreInOrder parts = AllPairs (λ (a b : Found). a.first ≤ b.first) parts
 
@@ -28,7 +28,7 @@ abbrev pub upright_count : List Column → ℕ
 upright_count [] = zero
 upright_count (c ∷ cs) = count_on c.axis (upright_count cs)
 
--- What keeps a part with columns, which begins at `first`, from following on at the column.
+-- Why a part with columns, which begins at `first`, doesn't follow on at the column.
 abbrev pub fault_at : ℕ → ℕ → PartsFault
 fault_at column first = if nat_lt first column then faults.Doubled first else faults.Missing column
 

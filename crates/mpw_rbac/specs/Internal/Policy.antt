@@ -12,7 +12,7 @@ abbrev pub users_and_roles : List (Name × User) → Hierarchy → Policy
 users_and_roles users roles =
     record { users = users; roles = roles; granted = []; ssd = []; dsd = []; sessions = [] }
 
--- the session keeps the active roles that its user is authorized for, and its mask is that of its roles; the
+-- of the session's active roles those stay that its user is authorized for, and its mask is that of its roles; the
 -- result is whether the user exists
 abbrev pub IsTrimmed : Hierarchy → KeptUsers → Active → Active → Bool → Type 0
 IsTrimmed hierarchy kept old new there =

@@ -1,3 +1,4 @@
+-- The invariants of the loops of `events_of` in `src/responses.rt`.
 use Rattle.std.proofs.Common.{◌≡◌, map, take}
 use Rattle.gate_events.specs.Responses.{event_in}
 use Rattle.gate_events.proofs.responses.events_of.Given as goal

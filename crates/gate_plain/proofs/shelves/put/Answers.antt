@@ -1,3 +1,4 @@
+-- Answers to the goals of `put` in `src/shelves.rt`.
 use Rattle.std.proofs.Common.{sym, ap, ◌∙◌}
 use Rattle.mpw_hier.specs.Shelf.{bound_to}
 use Rattle.gate_plain.proofs.shelves.put.Goals as goal

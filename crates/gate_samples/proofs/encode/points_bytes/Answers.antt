@@ -1,3 +1,4 @@
+-- Answers to the goals of `points_bytes` in `src/encode.rt`.
 use Rattle.std.proofs.Common.{append_assoc}
 use Rattle.gate_samples.proofs.Texts.{points_more}
 use Rattle.gate_samples.proofs.encode.points_bytes.Goals as goal

@@ -1,3 +1,4 @@
+-- The invariants of the loops of `points_bytes` in `src/encode.rt`.
 use Rattle.std.proofs.Common.{◌≡◌, ◌++◌, drop}
 use Rattle.gate_samples.specs.Text.{points_bytes}
 use Rattle.gate_samples.proofs.encode.points_bytes.Given as goal

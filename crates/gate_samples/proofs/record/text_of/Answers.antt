@@ -1,3 +1,4 @@
+-- Answers to the goals of `text_of` in `src/record.rt`.
 use Rattle.std.proofs.Common.{ℕ, ◌+◌, Vec, Global, ◌||◌, [], map, drop, sym, ap, ◌∙◌, append_assoc, append-nil}
 use Rattle.std.proofs.lemmas.List.{at_drop_all}
 use Rattle.std.proofs.lemmas.Result.{err_from_is_err_and}

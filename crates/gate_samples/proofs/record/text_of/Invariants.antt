@@ -1,3 +1,4 @@
+-- The invariants of the loops of `text_of` in `src/record.rt`.
 use Rattle.std.proofs.Common.{◌≡◌, ◌++◌, drop, map}
 use Rattle.gate_samples.specs.Text.{raw, text_of, has_too_long}
 use Rattle.gate_samples.proofs.record.text_of.Given as goal

@@ -1,3 +1,4 @@
+-- Answers to the goals of `entering_is_by_the_need` in `src/guard.rt`.
 use Rattle.mpw_access.proofs.GuardLemmas.{denied_is_lacked, entered_has, holders_enter}
 use Rattle.mpw_access.proofs.guard.entering_is_by_the_need.Goals as goal
 

@@ -1,3 +1,4 @@
+-- The invariants of the loops of `seen_by` in `src/seen.rt`.
 use Rattle.std.proofs.Common.{◌≡◌, take}
 use Rattle.mpw_access.specs.Seen.{seen_by}
 use Rattle.mpw_access.proofs.seen.seen_by.Given as goal

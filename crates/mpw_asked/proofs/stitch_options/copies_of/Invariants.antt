@@ -1,3 +1,4 @@
+-- The invariants of the loops of `copies_of` in `src/stitch_options.rt`.
 use Rattle.std.proofs.Common.{◌≡◌, map, take}
 use Rattle.std.specs.String.{string_bytes}
 use Rattle.mpw_asked.proofs.stitch_options.copies_of.Given as goal

@@ -1,3 +1,4 @@
+-- Answers to the goals of `list` in `src/answering.rt`.
 use Rattle.std.proofs.Common.{Err, ap, sym, subst}
 use Rattle.sqlite.specs.Held.{state}
 use Rattle.mpw_store_listing.specs.Failing.{AcceptsAll}

@@ -1,3 +1,4 @@
+-- Answers to the goals of `list_rows` in `src/answering.rt`.
 use Rattle.sqlite.specs.Held.{state}
 use Rattle.mpw_auditor.proofs.AnsweringLemmas.{of_err, unprinted}
 use Rattle.mpw_auditor.proofs.answering.list_rows.Goals as goal

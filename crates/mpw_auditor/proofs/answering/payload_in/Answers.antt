@@ -1,3 +1,4 @@
+-- Answers to the goals of `payload_in` in `src/answering.rt`.
 use Rattle.std.proofs.Common.{Err, ap, sym, subst, rules}
 use Rattle.sqlite.specs.Held.{state}
 use Rattle.mpw_store.specs.Changes.{IsReady}

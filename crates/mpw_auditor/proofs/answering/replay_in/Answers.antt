@@ -1,3 +1,4 @@
+-- Answers to the goals of `replay_in` in `src/answering.rt`.
 use Rattle.sqlite.specs.Held.{state}
 use Rattle.mpw_auditor.proofs.AnsweringLemmas.{full, sound, uncounted}
 use Rattle.mpw_auditor.proofs.answering.replay_in.Goals as goal

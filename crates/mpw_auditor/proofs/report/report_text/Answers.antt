@@ -1,3 +1,4 @@
+-- Answers to the goals of `report_text` in `src/report.rt`.
 use Rattle.mpw_auditor.proofs.ReportLemmas.{four}
 use Rattle.mpw_auditor.proofs.report.report_text.Goals as goal
 

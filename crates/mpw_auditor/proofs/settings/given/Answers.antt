@@ -1,3 +1,4 @@
+-- Answers to the goals of `given` in `src/settings.rt`.
 use Rattle.std.proofs.Common.{◌∙◌, sym}
 use Rattle.clap.specs.Words.{found_of}
 use Rattle.mpw_auditor.proofs.SettingsLemmas.{first_is_value}

@@ -1,3 +1,4 @@
+-- Answers to the goals of `program_command` in `src/settings.rt`.
 use Rattle.std.proofs.Common.{ap, ◌∙◌}
 use Rattle.std.proofs.lemmas.Result.{IfOk-weaker}
 use Rattle.clap.specs.Words.{App, with_subcommand}

@@ -1,3 +1,4 @@
+-- Answers to the goals of `read_settings` in `src/settings.rt`.
 use Rattle.std.proofs.Common.{◌≡◌, ◌∙◌, sym, ap, refl, map, subst, true}
 use Rattle.std.proofs.lemmas.Result.{IfOk-weaker}
 use Rattle.clap.specs.Words.{App, HasKind, fault_of, is_simple, is_simple_and_free, subcommand_of}

@@ -1,3 +1,4 @@
+-- Answers to the goals of `top_command` in `src/settings.rt`.
 use Rattle.std.proofs.Common.{ap, ◌∙◌, ◌≡◌, codes, true}
 use Rattle.clap.specs.Words.{App, app_of, new_app}
 use Rattle.clap.specs.Simple.{app_of_fields}

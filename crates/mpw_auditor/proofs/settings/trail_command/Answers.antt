@@ -1,3 +1,4 @@
+-- Answers to the goals of `trail_command` in `src/settings.rt`.
 use Rattle.std.proofs.Common.{codes}
 use Rattle.std.proofs.lemmas.Result.{IfOk-weaker}
 use Rattle.clap.specs.Words.{new_app, with_rule}

@@ -1,3 +1,4 @@
+-- Answers to the goals of `trail_of` in `src/settings.rt`.
 use Rattle.std.proofs.Common.{List, Some, None}
 use Rattle.clap.specs.Words.{Row, found_of, rows_of}
 use Rattle.mpw_auditor.specs.declared.settings.Asked.TheVariants.{Rows, Payload, Check, Help}

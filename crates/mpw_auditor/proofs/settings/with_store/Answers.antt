@@ -1,3 +1,4 @@
+-- Answers to the goals of `with_store` in `src/settings.rt`.
 use Rattle.std.proofs.Common.{ap, ◌∙◌}
 use Rattle.std.proofs.lemmas.Result.{IfOk-weaker}
 use Rattle.clap.specs.Words.{App, app_of, with_subcommand}

@@ -1,3 +1,4 @@
+-- Answers to the goals of `are_answered` in `src/check.rt`.
 use Rattle.std.proofs.Common.{List, subst}
 use Rattle.std.specs.Prelude.{All}
 use Rattle.std.proofs.lemmas.List.{take_all}

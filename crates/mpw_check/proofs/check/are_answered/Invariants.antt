@@ -1,3 +1,4 @@
+-- The invariants of the loops of `are_answered` in `src/check.rt`.
 use Rattle.std.proofs.Common.{take}
 use Rattle.std.specs.Prelude.{All}
 use Rattle.mpw_check.specs.Internal.Tiled.{IsAnswered}

@@ -1,3 +1,4 @@
+-- Answers to the goals of `check_all` in `src/check.rt`.
 use Rattle.mpw_check.proofs.ListLemmas.{of_stitched}
 use Rattle.mpw_check.proofs.check.check_all.Goals as goal
 

@@ -1,3 +1,4 @@
+-- The invariants of the loops of `tile_jobs` in `src/check.rt`.
 use Rattle.std.proofs.Common.{◌≡◌, ◌≤◌, ◌-◌}
 use Rattle.std.specs.Prelude.{map}
 use Rattle.std.specs.List.{range_with_len}

@@ -1,3 +1,4 @@
+-- Answers to the goals of `tile_lists` in `src/check.rt`.
 use Rattle.std.proofs.Common.{rules}
 use Rattle.mpw_check.proofs.ListLemmas.{follow_on, no_lists}
 use Rattle.mpw_check.proofs.check.tile_lists.Goals as goal

@@ -1,3 +1,4 @@
+-- The invariants of the loops of `tile_lists` in `src/check.rt`.
 use Rattle.std.proofs.Common.{◌-◌, ◌≤◌}
 use Rattle.mpw_check.specs.Lists.{AreOfTiles}
 use Rattle.mpw_check.proofs.check.tile_lists.Given as goal

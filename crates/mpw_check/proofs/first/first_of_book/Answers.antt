@@ -1,3 +1,4 @@
+-- Answers to the goals of `first_of_book` in `src/first.rt`.
 use Rattle.std.proofs.Common.{length, ap, ◌∙◌, arith}
 use Rattle.std.proofs.lemmas.List.{length-replicate}
 use Rattle.mpw_check.proofs.FirstLemmas.{none_seen, rule_counted, count_few, one_more, whole_seen}

@@ -1,3 +1,4 @@
+-- The invariants of the loops of `first_of_book` in `src/first.rt`.
 use Rattle.std.proofs.Common.{◌≡◌, length, take}
 use Rattle.mpw_check.specs.Internal.First.{AreFirstSeen}
 use Rattle.mpw_check.proofs.first.first_of_book.Given as goal

@@ -1,3 +1,4 @@
+-- Answers to the goals of `first_of_tiles` in `src/first.rt`.
 use Rattle.mpw_check.proofs.FirstLemmas.{rules_there, is_first_of}
 use Rattle.mpw_check.proofs.first.first_of_tiles.Goals as goal
 

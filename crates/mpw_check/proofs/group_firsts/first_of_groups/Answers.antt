@@ -1,3 +1,4 @@
+-- Answers to the goals of `first_of_groups` in `src/group_firsts.rt`.
 use Rattle.std.proofs.Common.{◌∙◌, List, length, ap, subst}
 use Rattle.std.specs.Prelude.{IfSome}
 use Rattle.std.specs.List.{AllZip}

@@ -1,3 +1,4 @@
+-- Answers to the goals of `firsts_of` in `src/group_firsts.rt`.
 use Rattle.std.proofs.Common.{subst}
 use Rattle.std.specs.Prelude.{IfSome}
 use Rattle.mpw_check.specs.Internal.Groups.{AreGroupFirsts}

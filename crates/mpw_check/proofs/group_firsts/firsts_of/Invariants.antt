@@ -1,3 +1,4 @@
+-- The invariants of the loops of `firsts_of` in `src/group_firsts.rt`.
 use Rattle.std.proofs.Common.{take}
 use Rattle.std.specs.List.{AllZip}
 use Rattle.mpw_check.specs.Internal.Groups.{AreGroupFirsts}

@@ -1,3 +1,4 @@
+-- The invariants of the loops of `joined_firsts` in `src/group_firsts.rt`.
 use Rattle.mpw_check.proofs.GroupFirsts.{JoinedUpto}
 use Rattle.mpw_check.proofs.group_firsts.joined_firsts.Given as goal
 

@@ -1,3 +1,4 @@
+-- Answers to the goals of `books_of` in `src/groups.rt`.
 use Rattle.std.proofs.Common.{subst}
 use Rattle.std.specs.Prelude.{IfSome}
 use Rattle.mpw_groups.specs.Joined.{AreGroupMarkers}

@@ -1,3 +1,4 @@
+-- The invariants of the loops of `books_of` in `src/groups.rt`.
 use Rattle.std.proofs.Common.{take}
 use Rattle.std.specs.List.{AllZip}
 use Rattle.mpw_groups.specs.Joined.{AreGroupMarkers}

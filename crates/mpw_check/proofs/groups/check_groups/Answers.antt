@@ -1,3 +1,4 @@
+-- Answers to the goals of `check_groups` in `src/groups.rt`.
 use Rattle.std.proofs.Common.{◌∙◌, List, length, ap, sym, subst}
 use Rattle.std.specs.Prelude.{IfSome}
 use Rattle.std.specs.List.{AllZip}

@@ -1,3 +1,4 @@
+-- Answers to the goals of `tiles_make_the_layout` in `src/laws.rt`.
 use Rattle.mpw_check.proofs.ListLemmas.{make_the_layout}
 use Rattle.mpw_check.proofs.laws.tiles_make_the_layout.Goals as goal
 

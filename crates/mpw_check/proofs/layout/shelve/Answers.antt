@@ -1,3 +1,4 @@
+-- Answers to the goals of `shelve` in `src/layout.rt`.
 use Rattle.std.proofs.Common.{[], refl, subst}
 use Rattle.mpw_hier.specs.Outside.{AreExternals}
 use Rattle.mpw_check.proofs.AloneLemmas.{none-bound, refused-from-empty}

@@ -1,3 +1,4 @@
+-- Answers to the goals of `add_across` in `src/across.rt`.
 use Rattle.std.proofs.Common.{subst, sym, take, List, ◌+◌}
 use Rattle.mpw_geom.specs.declared.plane.Box2.{Box2}
 use Rattle.mpw_checks.proofs.Rows.{HasAdded, HasAdded-none, HasAdded-push, HasAdded-end}

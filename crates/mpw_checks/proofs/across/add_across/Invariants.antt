@@ -1,3 +1,4 @@
+-- The invariants of the loops of `add_across` in `src/across.rt`.
 use Rattle.std.proofs.Common.{take}
 use Rattle.mpw_checks.proofs.Rows.{HasAdded}
 use Rattle.mpw_checks.proofs.across.add_across.Given as goal

@@ -1,3 +1,4 @@
+-- Answers to the goals of `merge_across` in `src/across.rt`.
 use Rattle.std.proofs.Common.{List, subst, ◌⊎◌, ℤ}
 use Rattle.std.specs.Prelude.{◌↔◌}
 use Rattle.mpw_region.specs.declared.runs.Run.{Run}

@@ -1,3 +1,4 @@
+-- Answers to the goals of `separate` in `src/across.rt`.
 use Rattle.std.proofs.Common.{get_or}
 use Rattle.mpw_geom.proofs.Squares.{no_box}
 use Rattle.mpw_checks.proofs.Rows.{filled_rows, IsApart-none, IsApart-within, IsApart-across, IsApart-end}

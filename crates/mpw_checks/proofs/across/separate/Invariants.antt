@@ -1,3 +1,4 @@
+-- The invariants of the loops of `separate` in `src/across.rt`.
 use Rattle.std.proofs.Common.{take}
 use Rattle.mpw_checks.proofs.Rows.{IsApart}
 use Rattle.mpw_checks.proofs.across.separate.Given as goal

@@ -1,3 +1,4 @@
+-- Answers to the goals of `add_core` in `src/cells.rt`.
 use Rattle.std.proofs.Common.{arith}
 use Rattle.std.proofs.lemmas.Result.{on_ok_weaker}
 use Rattle.mpw_edges.specs.declared.run.Axis.TheVariants.{V}

@@ -1,3 +1,4 @@
+-- Answers to the goals of `add_strip` in `src/cells.rt`.
 use Rattle.std.proofs.Common.{◌≡◌, ◌∙◌, ap}
 use mathlib.Core.Path.{fun_ext}
 use Rattle.mpw_region.specs.Squares.{covers}

@@ -1,3 +1,4 @@
+-- Answers to the goals of `along_columns` in `src/cells.rt`.
 use Rattle.std.proofs.Common.{◌≡◌, ◌∙◌, List, ap, map, subst}
 use mathlib.Core.Path.{fun_ext}
 use Rattle.std.specs.Prelude.{◌↔◌}

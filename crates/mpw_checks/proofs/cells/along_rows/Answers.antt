@@ -1,3 +1,4 @@
+-- Answers to the goals of `along_rows` in `src/cells.rt`.
 use Rattle.std.proofs.Common.{List, subst}
 use Rattle.std.proofs.lemmas.List.Elements.{All-nil}
 use Rattle.mpw_edges.specs.declared.run.Axis.TheVariants.{V}

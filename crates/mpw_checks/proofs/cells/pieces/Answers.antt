@@ -1,3 +1,4 @@
+-- Answers to the goals of `pieces` in `src/cells.rt`.
 use Rattle.std.proofs.Common.{arith}
 use Rattle.mpw_region.specs.Squares.{covers}
 use Rattle.mpw_checks.proofs.cells.pieces.Goals as goal

@@ -1,3 +1,4 @@
+-- Answers to the goals of `strips_of` in `src/cells.rt`.
 use Rattle.mpw_checks.proofs.cells.strips_of.Goals as goal
 
 pub returns : goal.returns

@@ -1,3 +1,4 @@
+-- Answers to the goals of `halves` in `src/halves.rt`.
 use Rattle.std.proofs.Common.{sym, subst}
 use Rattle.mpw_geom.specs.declared.plane.Box2.{Box2}
 use Rattle.mpw_geom.specs.Plane.{IsBoxInPlane}

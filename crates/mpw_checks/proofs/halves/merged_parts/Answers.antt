@@ -1,3 +1,4 @@
+-- Answers to the goals of `merged_parts` in `src/halves.rt`.
 use Rattle.std.proofs.Common.{◌≡◌, ◌∙◌, List, subst, sym}
 use Rattle.std.specs.Prelude.{ℤ}
 use Rattle.mpw_geom.specs.declared.plane.Box2.{Box2}

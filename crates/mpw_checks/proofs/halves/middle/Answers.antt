@@ -1,3 +1,4 @@
+-- Answers to the goals of `middle` in `src/halves.rt`.
 use Rattle.std.proofs.Common.{arith}
 use Rattle.std.proofs.lemmas.Int.{ints, clamps}
 use Rattle.mpw_checks.proofs.halves.middle.Goals as goal

@@ -1,3 +1,4 @@
+-- Answers to the goals of `parts` in `src/halves.rt`.
 use Rattle.std.proofs.lemmas.Bool.Decides.{when_false}
 use Rattle.mpw_checks.proofs.Parts.{ArePartsOf-none, ArePartsOf-push, ArePartsOf-skip, same_in_window, part_is}
 use Rattle.mpw_checks.proofs.halves.parts.Goals as goal

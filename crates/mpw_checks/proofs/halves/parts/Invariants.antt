@@ -1,3 +1,4 @@
+-- The invariants of the loops of `parts` in `src/halves.rt`.
 use Rattle.std.proofs.Common.{take}
 use Rattle.mpw_checks.proofs.Parts.{ArePartsOf}
 use Rattle.mpw_checks.proofs.halves.parts.Given as goal

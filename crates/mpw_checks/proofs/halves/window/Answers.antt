@@ -1,3 +1,4 @@
+-- Answers to the goals of `window` in `src/halves.rt`.
 use Rattle.std.proofs.Common.{arith}
 use Rattle.std.proofs.lemmas.Int.{ints}
 use Rattle.mpw_geom.proofs.Boxes.{same_box}

@@ -1,3 +1,4 @@
+-- Answers to the goals of `add_runs` in `src/strips.rt`.
 use Rattle.std.proofs.Common.{◌∙◌, ◌++◌, List, ap}
 use Rattle.mpw_region.specs.declared.runs.Run.{Run}
 use Rattle.mpw_checks.specs.Strips.{HasStepIn}

@@ -1,3 +1,4 @@
+-- Answers to the goals of `pieces_in` in `src/strips.rt`.
 use Rattle.std.proofs.Common.{sym, subst}
 use Rattle.std.specs.Prelude.{All}
 use Rattle.std.proofs.lemmas.Result.{IfOk-weaker}

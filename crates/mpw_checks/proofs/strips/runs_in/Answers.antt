@@ -1,3 +1,4 @@
+-- Answers to the goals of `runs_in` in `src/strips.rt`.
 use Rattle.std.proofs.Common.{[], subst, sym}
 use Rattle.std.proofs.lemmas.List.Elements.{All-nil}
 use Rattle.std.proofs.lemmas.Result.{IfOk-weaker}

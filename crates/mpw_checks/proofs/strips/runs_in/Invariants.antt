@@ -1,3 +1,4 @@
+-- The invariants of the loops of `runs_in` in `src/strips.rt`.
 use Rattle.std.proofs.Common.{take, []}
 use Rattle.mpw_region.specs.Internal.Runs.{Adds}
 use Rattle.mpw_checks.specs.Strips.{FindsIn}

@@ -1,3 +1,4 @@
+-- The invariants of the loops of `layers_in` in `src/layers.rt`.
 use Rattle.std.proofs.Common.{◌≡◌, ◌++◌, drop, map, option_map}
 use Rattle.mpw_choices.specs.Layers.{layers_in}
 use Rattle.mpw_choices.proofs.layers.layers_in.Given as goal

@@ -1,3 +1,4 @@
+-- Answers to the goals of `only_among` in `src/top.rt`.
 use Rattle.std.proofs.Common.{◌∙◌, ap, sym}
 use Rattle.std.proofs.lemmas.Result.{IfOk-weaker}
 use Rattle.mpw_choices.specs.Tops.{only_of}

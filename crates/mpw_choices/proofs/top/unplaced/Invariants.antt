@@ -1,3 +1,4 @@
+-- The invariants of the loops of `unplaced` in `src/top.rt`.
 use Rattle.std.proofs.Common.{◌≡◌, take}
 use Rattle.mpw_choices.specs.Tops.{unplaced}
 use Rattle.mpw_choices.proofs.top.unplaced.Given as goal

@@ -1,3 +1,4 @@
+-- Answers to the goals of `unplaced_among` in `src/top.rt`.
 use Rattle.std.proofs.Common.{◌∙◌, ap, sym, map}
 use Rattle.std.proofs.lemmas.Result.{IfOk-weaker}
 use Rattle.mpw_choices.proofs.Names.{unplaced_long, unplaced_short}

@@ -1,3 +1,4 @@
+-- Answers to the goals of `unplaced_structures` in `src/top.rt`.
 use Rattle.std.proofs.Common.{◌∙◌, ap, sym, map, take}
 use Rattle.std.proofs.lemmas.List.{take-map}
 use Rattle.mpw_choices.specs.Tops.{unplaced_in}

@@ -1,3 +1,4 @@
+-- Answers to the goals of `are_counterparts` in `src/block.rt`.
 use Rattle.std.proofs.Common.{◌+◌, pos, ◌-ℤ◌, arith}
 use Rattle.mpw_edges.specs.declared.run.Axis.TheVariants.{V}
 use Rattle.mpw_keys.specs.declared.column.Column.{Column}

@@ -1,3 +1,4 @@
+-- The invariants of the loops of `are_counterparts` in `src/block.rt`.
 use Rattle.std.proofs.Common.{◌-ℤ◌}
 use Rattle.mpw_columns.specs.Internal.Blocks.{AreCounterparts}
 use Rattle.mpw_columns.proofs.block.are_counterparts.Given as goal

@@ -1,3 +1,4 @@
+-- Answers to the goals of `is_counterpart` in `src/block.rt`.
 use Rattle.std.proofs.Common.{◌≡◌, ◌-ℤ◌, ℤ, subst, arith}
 use Rattle.std.proofs.lemmas.Int.{ints}
 use Rattle.mpw_columns.specs.Displaced.{IsDisplaced}

@@ -1,3 +1,4 @@
+-- Answers to the goals of `all_lists` in `src/check.rt`.
 use Rattle.std.proofs.Common.{◌∙◌, ◌+◌, ◌++◌, ℕ, List, length, take, drop, take-add, sym, subst, arith}
 use Rattle.std.specs.List.{AllZip}
 use Rattle.mpw_keys.specs.declared.column.Column.{Column}

@@ -1,3 +1,4 @@
+-- The invariants of the loops of `all_lists` in `src/check.rt`.
 use Rattle.std.proofs.Common.{◌≤◌, ◌-◌, length, take}
 use Rattle.std.specs.List.{AllZip}
 use Rattle.mpw_columns.specs.Lists.{IsColumnList}

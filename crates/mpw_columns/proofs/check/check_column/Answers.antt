@@ -1,3 +1,4 @@
+-- Answers to the goals of `check_column` in `src/check.rt`.
 use Rattle.mpw_columns.proofs.Telling.{runs_within, one_place}
 use Rattle.mpw_columns.proofs.check.check_column.Goals as goal
 

@@ -1,3 +1,4 @@
+-- Answers to the goals of `check_columns` in `src/check.rt`.
 use Rattle.std.proofs.Common.{sym, subst}
 use Rattle.std.specs.Prelude.{All}
 use Rattle.mpw_columns.specs.Plan.{IsColumnWithin}

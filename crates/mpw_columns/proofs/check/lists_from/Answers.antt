@@ -1,3 +1,4 @@
+-- Answers to the goals of `lists_from` in `src/check.rt`.
 use Rattle.std.proofs.Common.{◌≡◌, ◌∙◌, ◌≤◌, ℕ, List, length, length-drop, length-take-le, take, drop, ap, sym, subst, arith}
 use Rattle.std.specs.List.{AllZip}
 use Rattle.std.proofs.lemmas.Result.{IfOk-weaker}

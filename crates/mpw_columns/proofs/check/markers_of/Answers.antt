@@ -1,3 +1,4 @@
+-- Answers to the goals of `markers_of` in `src/check.rt`.
 use Rattle.std.proofs.Common.{◌∙◌, ℕ, List, length, length-append, take, drop, map, ap, sym, subst, arith}
 use Rattle.std.specs.List.{AllZip}
 use Rattle.std.proofs.lemmas.Result.{IfOk-weaker}

@@ -1,3 +1,4 @@
+-- Answers to the goals of `add_columns` in `src/columns.rt`.
 use Rattle.std.proofs.Common.{rules, length, sym, ◌∙◌}
 use Rattle.std.proofs.lemmas.Result.{on_ok_weaker}
 use Rattle.mpw_columns.proofs.Covering.{moved, few_behind}

@@ -1,3 +1,4 @@
+-- Answers to the goals of `add_one` in `src/columns.rt`.
 use Rattle.std.proofs.Common.{List, refl, sym, subst}
 use Rattle.mpw_keys.specs.declared.column.Column.{Column}
 use Rattle.mpw_keys.specs.Columns.{AreColumns}

@@ -1,3 +1,4 @@
+-- Answers to the goals of `columns_in` in `src/columns.rt`.
 use Rattle.std.proofs.Common.{pos, ◌+ℤ◌, List, length, ap, sym, subst, arith}
 use Rattle.mpw_keys.specs.declared.column.Column.{Column}
 use Rattle.mpw_keys.specs.Columns.{AreColumns}

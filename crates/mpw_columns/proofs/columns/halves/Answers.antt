@@ -1,3 +1,4 @@
+-- Answers to the goals of `halves` in `src/columns.rt`.
 use Rattle.std.proofs.Common.{arith, refl}
 use Rattle.std.proofs.lemmas.Int.{ints}
 use Rattle.mpw_columns.proofs.columns.halves.Goals as goal

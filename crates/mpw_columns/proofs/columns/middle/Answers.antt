@@ -1,3 +1,4 @@
+-- Answers to the goals of `middle` in `src/columns.rt`.
 use Rattle.std.proofs.Common.{arith}
 use Rattle.std.proofs.lemmas.Int.{ints}
 use Rattle.mpw_columns.proofs.columns.middle.Goals as goal

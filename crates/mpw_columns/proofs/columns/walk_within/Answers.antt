@@ -1,3 +1,4 @@
+-- Answers to the goals of `walk_within` in `src/columns.rt`.
 use Rattle.std.proofs.Common.{◌∙◌, ap}
 use Rattle.mpw_geom.specs.declared.plane.Box2.{Box2}
 use Rattle.mpw_walk.specs.Window.{items_met}

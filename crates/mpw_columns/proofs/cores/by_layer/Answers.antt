@@ -1,3 +1,4 @@
+-- Answers to the goals of `by_layer` in `src/cores.rt`.
 use Rattle.std.proofs.Common.{sym}
 use Rattle.mpw_columns.proofs.Sorted.{same_on}
 use Rattle.mpw_columns.proofs.cores.by_layer.Goals as goal

@@ -1,3 +1,4 @@
+-- Answers to the goals of `keys_in` in `src/cores.rt`.
 use Rattle.std.proofs.Common.{◌∙◌, List, refl, ap, sym, subst}
 use Rattle.mpw_deck.specs.declared.rule.Rule.{Rule}
 use Rattle.mpw_tiles.specs.Snapshots.{shown}

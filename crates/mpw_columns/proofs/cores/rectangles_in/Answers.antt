@@ -1,3 +1,4 @@
+-- Answers to the goals of `rectangles_in` in `src/cores.rt`.
 use Rattle.mpw_tiles.specs.Snapshots.{shown}
 use Rattle.mpw_walk.specs.Turns.{given}
 use Rattle.mpw_columns.proofs.Looking.{rectangles_agree}

@@ -1,3 +1,4 @@
+-- Answers to the goals of `list_from` in `src/displaced.rt`.
 use Rattle.std.proofs.Common.{◌∙◌, ℤ, ◌-ℤ◌, map, ap, sym, subst, arith}
 use Rattle.std.proofs.lemmas.Int.{ints}
 use Rattle.std.proofs.lemmas.Result.{IfOk-weaker}

@@ -1,3 +1,4 @@
+-- Answers to the goals of `add_column` in `src/divide.rt`.
 use Rattle.std.proofs.Common.{List, arith, subst}
 use Rattle.std.proofs.lemmas.Result.{on_ok_weaker}
 use Rattle.mpw_geom.specs.declared.plane.Box2.{Box2}

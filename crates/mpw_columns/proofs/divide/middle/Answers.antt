@@ -1,3 +1,4 @@
+-- Answers to the goals of `middle` in `src/divide.rt`.
 use Rattle.std.proofs.Common.{arith}
 use Rattle.std.proofs.lemmas.Int.{ints, clamps}
 use Rattle.mpw_columns.proofs.divide.middle.Goals as goal

@@ -1,3 +1,4 @@
+-- Answers to the goals of `none_of` in `src/earlier.rt`.
 use Rattle.std.proofs.Common.{arith}
 use Rattle.mpw_columns.proofs.Liked.{none_alike}
 use Rattle.mpw_columns.proofs.earlier.none_of.Goals as goal

@@ -1,3 +1,4 @@
+-- Answers to the goals of `contents_of` in `src/equal.rt`.
 use Rattle.std.proofs.Common.{◌+◌, ◌∙◌, List, sym, ap}
 use Rattle.mpw_geom.specs.declared.plane.Box2.{Box2}
 use Rattle.mpw_hier.specs.declared.submission.Submission.{Submission}

@@ -1,3 +1,4 @@
+-- Answers to the goals of `is_displaced` in `src/equal.rt`.
 use Rattle.std.proofs.Common.{sym, arith}
 use Rattle.std.proofs.lemmas.Int.{ints}
 use Rattle.mpw_columns.proofs.equal.is_displaced.Goals as goal

@@ -1,3 +1,4 @@
+-- Answers to the goals of `is_like` in `src/equal.rt`.
 use Rattle.std.proofs.Common.{◌≡◌, ◌∙◌, ◌-ℤ◌, map, subst}
 use Rattle.mpw_geom.specs.declared.plane.Point.{Point}
 use Rattle.mpw_contents.specs.Displaced.{moved}

@@ -1,3 +1,4 @@
+-- Answers to the goals of `add_firsts` in `src/first.rt`.
 use Rattle.std.proofs.Common.{List, [], append-nil, sym, subst}
 use Rattle.std.proofs.lemmas.List.{take_all}
 use Rattle.mpw_markers.specs.declared.marker.Key.{Key}

@@ -1,3 +1,4 @@
+-- The invariants of the loops of `add_firsts` in `src/first.rt`.
 use Rattle.std.proofs.Common.{take}
 use Rattle.mpw_columns.specs.Internal.Firsts.{AddsFirsts}
 use Rattle.mpw_columns.proofs.first.add_firsts.Given as goal

@@ -1,3 +1,4 @@
+-- The invariants of the loops of `all_firsts` in `src/first.rt`.
 use Rattle.std.proofs.Common.{◌≤◌, ◌-◌, ◌*◌, length, take}
 use Rattle.std.specs.List.{AllZip}
 use Rattle.mpw_columns.specs.Internal.Firsts.{HasFirsts}

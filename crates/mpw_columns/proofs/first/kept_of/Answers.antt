@@ -1,3 +1,4 @@
+-- Answers to the goals of `kept_of` in `src/first.rt`.
 use Rattle.std.proofs.Common.{◌∙◌, length, ap}
 use Rattle.mpw_keys.specs.Firsts.{capped}
 use Rattle.mpw_keys.specs.declared.first.First.{First}

@@ -1,3 +1,4 @@
+-- The invariants of the loops of `kept_of` in `src/first.rt`.
 use Rattle.std.proofs.Common.{◌≡◌, length, sum_by, take}
 use Rattle.mpw_keys.specs.Firsts.{capped}
 use Rattle.mpw_keys.specs.declared.first.First.{First}

@@ -1,3 +1,4 @@
+-- Answers to the goals of `listing_in` in `src/first.rt`.
 use Rattle.std.proofs.Common.{◌∙◌, ◌*◌, length, List, ap, sym, subst}
 use Rattle.std.specs.Prelude.{All}
 use Rattle.std.specs.List.{AllZip}

@@ -1,3 +1,4 @@
+-- Answers to the goals of `listing_of` in `src/first.rt`.
 use Rattle.std.proofs.Common.{rules, subst, sym}
 use Rattle.std.specs.Prelude.{All}
 use Rattle.mpw_geom.specs.declared.plane.Box2.{Box2}

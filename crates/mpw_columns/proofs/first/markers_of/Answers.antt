@@ -1,3 +1,4 @@
+-- Answers to the goals of `markers_of` in `src/first.rt`.
 use Rattle.std.proofs.Common.{◌≡◌, ◌∙◌, ◌*◌, ℕ, List, length, length-append, map, sum_by, take, drop, ap, sym, subst, arith}
 use Rattle.std.specs.List.{AllZip, range_with_len}
 use Rattle.mpw_keys.specs.declared.column.Column.{Column}

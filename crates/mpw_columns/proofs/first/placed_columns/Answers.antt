@@ -1,3 +1,4 @@
+-- Answers to the goals of `placed_columns` in `src/first.rt`.
 use Rattle.std.proofs.Common.{ℕ, pos, ◌≡◌, ◌∙◌, ◌+◌, drop, get_or, take, refl, None, List, arith, ap, sym, subst}
 use Rattle.std.specs.List.{AllZip}
 use Rattle.std.proofs.lemmas.List.{take_all}

@@ -1,3 +1,4 @@
+-- The invariants of the loops of `placed_columns` in `src/first.rt`.
 use Rattle.std.proofs.Common.{◌≡◌, ◌≤◌, take, drop}
 use Rattle.std.specs.List.{AllZip}
 use Rattle.mpw_columns.specs.Internal.Firsts.{IsPlacedAt}

@@ -1,3 +1,4 @@
+-- Answers to the goals of `is_moved_box` in `src/kept.rt`.
 use Rattle.std.proofs.Common.{arith}
 use Rattle.std.proofs.lemmas.Int.{ints}
 use Rattle.mpw_columns.proofs.Solving.{box_moved}

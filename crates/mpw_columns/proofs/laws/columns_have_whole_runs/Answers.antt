@@ -1,3 +1,4 @@
+-- Answers to the goals of `columns_have_whole_runs` in `src/laws.rt`.
 use Rattle.mpw_columns.proofs.Making.{whole_runs}
 use Rattle.mpw_columns.proofs.laws.columns_have_whole_runs.Goals as goal
 

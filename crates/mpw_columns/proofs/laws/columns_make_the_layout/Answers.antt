@@ -1,3 +1,4 @@
+-- Answers to the goals of `columns_make_the_layout` in `src/laws.rt`.
 use Rattle.mpw_columns.proofs.BookMade.{make_the_layout}
 use Rattle.mpw_columns.proofs.laws.columns_make_the_layout.Goals as goal
 

@@ -1,3 +1,4 @@
+-- Answers to the goals of `displaced_columns_have_displaced_lists` in `src/laws.rt`.
 use Rattle.mpw_columns.proofs.DisplacedLists.{displaced_lists}
 use Rattle.mpw_columns.proofs.laws.displaced_columns_have_displaced_lists.Goals as goal
 

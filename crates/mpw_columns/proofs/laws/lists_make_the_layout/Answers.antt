@@ -1,3 +1,4 @@
+-- Answers to the goals of `lists_make_the_layout` in `src/laws.rt`.
 use Rattle.mpw_columns.proofs.LayoutMade.{lists_make}
 use Rattle.mpw_columns.proofs.laws.lists_make_the_layout.Goals as goal
 

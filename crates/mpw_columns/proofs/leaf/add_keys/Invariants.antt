@@ -1,3 +1,4 @@
+-- The invariants of the loops of `add_keys` in `src/leaf.rt`.
 use Rattle.std.proofs.Common.{◌≡◌, ◌++◌, map, take}
 use Rattle.mpw_columns.specs.Internal.Found.{key_of_run}
 use Rattle.mpw_columns.proofs.leaf.add_keys.Given as goal

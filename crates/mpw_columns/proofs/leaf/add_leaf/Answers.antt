@@ -1,3 +1,4 @@
+-- Answers to the goals of `add_leaf` in `src/leaf.rt`.
 use Rattle.std.proofs.Common.{List, length, subst}
 use Rattle.std.proofs.lemmas.Result.{on_ok_weaker}
 use Rattle.mpw_job.specs.Answers.{listed_on}

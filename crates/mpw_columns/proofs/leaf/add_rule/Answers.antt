@@ -1,3 +1,4 @@
+-- Answers to the goals of `add_rule` in `src/leaf.rt`.
 use Rattle.std.proofs.Common.{◌≡◌, ◌∙◌, ◌++◌, List, length, get_or, Some, map, ap, subst, refl}
 use Rattle.std.proofs.lemmas.Option.{slice_get_read}
 use Rattle.std.proofs.lemmas.Result.{on_ok_weaker}

@@ -1,3 +1,4 @@
+-- Answers to the goals of `add_rules` in `src/leaf.rt`.
 use Rattle.std.proofs.Common.{arith, subst}
 use Rattle.mpw_columns.specs.Internal.Bands.{banded_on}
 use Rattle.mpw_columns.specs.Internal.Found.{AddsFirst}

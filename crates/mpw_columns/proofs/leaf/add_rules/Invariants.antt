@@ -1,3 +1,4 @@
+-- The invariants of the loops of `add_rules` in `src/leaf.rt`.
 use Rattle.mpw_columns.specs.Internal.Bands.{banded_on}
 use Rattle.mpw_columns.specs.Internal.Found.{AddsFirst}
 use Rattle.mpw_columns.proofs.leaf.add_rules.Given as goal

@@ -1,3 +1,4 @@
+-- Answers to the goals of `areas_of` in `src/leaf.rt`.
 use Rattle.mpw_job.proofs.Areas.{none_yet, one_more, passed_over, all_of}
 use Rattle.std.proofs.Common.{◌∙◌, sym}
 use Rattle.mpw_columns.proofs.leaf.areas_of.Goals as goal

@@ -1,3 +1,4 @@
+-- The invariants of the loops of `areas_of` in `src/leaf.rt`.
 use Rattle.mpw_job.proofs.Areas.{HaveSquares}
 use Rattle.mpw_columns.proofs.leaf.areas_of.Given as goal
 

@@ -1,3 +1,4 @@
+-- Answers to the goals of `bands_of` in `src/leaf.rt`.
 use Rattle.std.proofs.Common.{◌∙◌, List, ap, subst, refl}
 use Rattle.std.proofs.lemmas.List.{take_all}
 use Rattle.mpw_geom.specs.declared.plane.Box2.{Box2}

@@ -1,3 +1,4 @@
+-- The invariants of the loops of `bands_of` in `src/leaf.rt`.
 use Rattle.std.proofs.Common.{take}
 use Rattle.mpw_job.specs.Answers.{listed_on}
 use Rattle.mpw_columns.specs.Internal.Bands.{AreBandsOf}

@@ -1,3 +1,4 @@
+-- Answers to the goals of `bands_on` in `src/leaf.rt`.
 use Rattle.std.proofs.Common.{◌∙◌, ap, subst, sym}
 use Rattle.std.proofs.lemmas.List.{at_drop_all}
 use Rattle.mpw_geom.specs.Plane.{any_has_square}

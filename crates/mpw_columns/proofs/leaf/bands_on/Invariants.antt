@@ -1,3 +1,4 @@
+-- The invariants of the loops of `bands_on` in `src/leaf.rt`.
 use Rattle.std.proofs.Common.{◌≡◌, drop}
 use Rattle.mpw_columns.specs.Internal.Bands.{banded_on}
 use Rattle.mpw_columns.proofs.leaf.bands_on.Given as goal

@@ -1,3 +1,4 @@
+-- Answers to the goals of `lists_with` in `src/like.rt`.
 use Rattle.std.proofs.Common.{pos, ◌∙◌, ◌+◌, drop, get_or, ◌++◌, None, List, arith, sym, subst, ap}
 use Rattle.std.specs.List.{AllZip}
 use Rattle.std.specs.Option.{option_to_list}

@@ -1,3 +1,4 @@
+-- The invariants of the loops of `lists_with` in `src/like.rt`.
 use Rattle.std.proofs.Common.{take, drop}
 use Rattle.std.specs.List.{AllZip}
 use Rattle.std.specs.Vec.Iter.{into_iter_items}

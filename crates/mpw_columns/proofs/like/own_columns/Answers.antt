@@ -1,3 +1,4 @@
+-- Answers to the goals of `own_columns` in `src/like.rt`.
 use Rattle.std.proofs.Common.{◌≡◌, ◌++◌, ◌+◌, List, None, pos, drop, sym, subst, ap}
 use Rattle.mpw_edges.specs.declared.run.Axis.TheVariants.{V}
 use Rattle.mpw_keys.specs.declared.column.Column.{Column}

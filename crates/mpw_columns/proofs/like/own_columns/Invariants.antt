@@ -1,3 +1,4 @@
+-- The invariants of the loops of `own_columns` in `src/like.rt`.
 use Rattle.std.proofs.Common.{◌≡◌, ◌++◌, drop}
 use Rattle.mpw_columns.specs.Internal.Like.{own_columns}
 use Rattle.mpw_columns.proofs.like.own_columns.Given as goal

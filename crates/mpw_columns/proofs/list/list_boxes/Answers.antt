@@ -1,3 +1,4 @@
+-- Answers to the goals of `list_boxes` in `src/list.rt`.
 use Rattle.std.proofs.Common.{arith}
 use Rattle.std.proofs.lemmas.Int.{ints}
 use Rattle.mpw_geom.proofs.Squares.{no_box}

@@ -1,3 +1,4 @@
+-- The invariants of the loops of `list_boxes` in `src/list.rt`.
 use Rattle.std.proofs.Common.{take}
 use Rattle.mpw_tiles.specs.Internal.Listing.{HasPlacedSquare}
 use Rattle.mpw_columns.specs.Internal.Listed.{AddsSeen}

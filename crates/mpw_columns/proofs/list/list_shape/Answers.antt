@@ -1,3 +1,4 @@
+-- Answers to the goals of `list_shape` in `src/list.rt`.
 use Rattle.mpw_walk.specs.Way.{item_of}
 use Rattle.mpw_columns.proofs.Showing.{shape_shown}
 use Rattle.mpw_columns.proofs.list.list_shape.Goals as goal

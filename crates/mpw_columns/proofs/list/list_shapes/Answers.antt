@@ -1,3 +1,4 @@
+-- Answers to the goals of `list_shapes` in `src/list.rt`.
 use Rattle.std.proofs.Common.{◌≡◌, ◌∙◌, List, [], ◌∷◌, ◌++◌, refl, sym, subst, ap, rules}
 use Rattle.std.proofs.lemmas.List.{append-nil}
 use Rattle.mpw_hier.specs.Items.{Item}

@@ -1,3 +1,4 @@
+-- The invariants of the loops of `has_layer` in `src/look.rt`.
 use Rattle.std.proofs.Common.{◌≡◌, take}
 use Rattle.std.specs.Prelude.{All}
 use Rattle.mpw_columns.proofs.look.has_layer.Given as goal

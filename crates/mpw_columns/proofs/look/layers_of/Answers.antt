@@ -1,3 +1,4 @@
+-- Answers to the goals of `layers_of` in `src/look.rt`.
 use Rattle.mpw_columns.proofs.LayersHad.{rule_more, all_rules}
 use Rattle.mpw_columns.proofs.look.layers_of.Goals as goal
 

@@ -1,3 +1,4 @@
+-- The invariants of the loops of `layers_of` in `src/look.rt`.
 use Rattle.std.proofs.Common.{take}
 use Rattle.std.specs.Prelude.{All}
 use Rattle.mpw_columns.specs.Found.{HasLayers}

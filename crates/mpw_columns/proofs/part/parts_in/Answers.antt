@@ -1,3 +1,4 @@
+-- Answers to the goals of `parts_in` in `src/part.rt`.
 use Rattle.std.proofs.Common.{refl}
 use Rattle.std.proofs.lemmas.Bool.Decides.{when_false}
 use Rattle.mpw_columns.proofs.Parted.{none_parted, one_parted, none_left, all_parted}

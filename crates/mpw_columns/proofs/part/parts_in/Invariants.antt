@@ -1,3 +1,4 @@
+-- The invariants of the loops of `parts_in` in `src/part.rt`.
 use Rattle.mpw_columns.proofs.Parted.{HaveParts}
 use Rattle.mpw_columns.proofs.part.parts_in.Given as goal
 

@@ -1,3 +1,4 @@
+-- Answers to the goals of `columns_along` in `src/plan.rt`.
 use Rattle.std.proofs.Common.{pos, ◌+ℤ◌, sym, subst}
 use Rattle.std.proofs.lemmas.Result.{IfOk-weaker}
 use Rattle.mpw_geom.specs.declared.plane.Box2.{Box2}

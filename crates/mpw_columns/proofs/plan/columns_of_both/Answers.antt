@@ -1,3 +1,4 @@
+-- Answers to the goals of `columns_of_both` in `src/plan.rt`.
 use Rattle.std.proofs.Common.{rules, ap, length, length-append, ◌∙◌, arith, sym, subst}
 use Rattle.mpw_columns.specs.Plan.{Cover}
 use Rattle.mpw_columns.proofs.plan.columns_of_both.Goals as goal

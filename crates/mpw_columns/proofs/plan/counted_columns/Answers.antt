@@ -1,3 +1,4 @@
+-- Answers to the goals of `counted_columns` in `src/plan.rt`.
 use Rattle.std.proofs.Common.{rules}
 use Rattle.mpw_columns.proofs.Planned.{none_counted}
 use Rattle.mpw_columns.proofs.plan.counted_columns.Goals as goal

@@ -1,3 +1,4 @@
+-- Answers to the goals of `rectangles_of` in `src/shared.rt`.
 use Rattle.std.proofs.Common.{◌∙◌, ◌+◌, List, ap, subst, IfSome}
 use Rattle.std.proofs.lemmas.Result.{IfOk-weaker}
 use Rattle.mpw_geom.specs.declared.plane.Box2.{Box2}

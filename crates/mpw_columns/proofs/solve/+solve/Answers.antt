@@ -1,3 +1,4 @@
+-- Answers to the goals of `solve` in `src/solve.rt`.
 use Rattle.std.proofs.Common.{◌∙◌, List, sym, subst, arith}
 use Rattle.std.specs.Prelude.{All}
 use Rattle.std.proofs.lemmas.Result.{on_ok_weaker}

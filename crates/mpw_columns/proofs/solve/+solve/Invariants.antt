@@ -1,3 +1,4 @@
+-- The invariants of the loops of `solve` in `src/solve.rt`.
 use Rattle.mpw_columns.proofs.solve.+solve.Given as goal
 
 abbrev pub decreases-solve : goal.decreases-solve

@@ -1,3 +1,4 @@
+-- Answers to the goals of `add_leaf` in `src/solve.rt`.
 use Rattle.mpw_columns.proofs.Pieced.{found_pieces}
 use Rattle.mpw_columns.proofs.Solving.{behind_others}
 use Rattle.mpw_columns.specs.Internal.Pieces.{seen_layout}

@@ -1,3 +1,4 @@
+-- Answers to the goals of `cut` in `src/solve.rt`.
 use Rattle.std.proofs.Common.{inl, inr}
 use Rattle.mpw_columns.proofs.Solving.{some_weaker}
 use Rattle.mpw_columns.proofs.solve.cut.Goals as goal

@@ -1,3 +1,4 @@
+-- Answers to the goals of `runs_in` in `src/solve.rt`.
 use Rattle.std.proofs.lemmas.Result.{IfOk-weaker}
 use Rattle.mpw_columns.specs.Internal.Pieces.{seen_layout}
 use Rattle.mpw_columns.proofs.Pieced.{pieces_axis, pieces_sides, pieces_found}

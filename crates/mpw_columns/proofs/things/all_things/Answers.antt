@@ -1,3 +1,4 @@
+-- Answers to the goals of `all_things` in `src/things.rt`.
 use Rattle.std.proofs.Common.{List, ◌≡◌, ◌∙◌, ap, sym, subst, IfSome}
 use Rattle.std.specs.Prelude.{All}
 use Rattle.mpw_geom.specs.declared.plane.Box2.{Box2}

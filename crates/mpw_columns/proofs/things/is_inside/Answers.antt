@@ -1,3 +1,4 @@
+-- Answers to the goals of `is_inside` in `src/things.rt`.
 use Rattle.std.proofs.Common.{arith}
 use Rattle.std.proofs.lemmas.Int.{ints}
 use Rattle.mpw_columns.proofs.things.is_inside.Goals as goal

@@ -1,3 +1,4 @@
+-- Answers to the goals of `list_thing` in `src/things.rt`.
 use Rattle.std.proofs.Common.{◌∙◌, List, ap}
 use Rattle.std.proofs.lemmas.Result.{on_ok_weaker}
 use Rattle.mpw_hier.specs.declared.submission.Submission.{Submission}

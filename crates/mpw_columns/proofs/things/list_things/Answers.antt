@@ -1,3 +1,4 @@
+-- Answers to the goals of `list_things` in `src/things.rt`.
 use Rattle.std.proofs.Common.{List, ◌++◌, take, subst, sym}
 use Rattle.std.proofs.lemmas.List.{take_all}
 use Rattle.mpw_hier.specs.Items.{Item}

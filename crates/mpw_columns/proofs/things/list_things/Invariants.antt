@@ -1,3 +1,4 @@
+-- The invariants of the loops of `list_things` in `src/things.rt`.
 use Rattle.std.proofs.Common.{take}
 use Rattle.mpw_contents.specs.Things.{things_items}
 use Rattle.mpw_columns.specs.Internal.Listed.{ShowSeen}

@@ -1,3 +1,4 @@
+-- Answers to the goals of `rectangles_of_things` in `src/things.rt`.
 use Rattle.std.proofs.Common.{List, subst, IfSome}
 use Rattle.mpw_contents.specs.declared.thing.Thing.{Thing}
 use Rattle.mpw_contents.specs.Things.{things_items}

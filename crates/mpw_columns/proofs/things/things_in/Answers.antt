@@ -1,3 +1,4 @@
+-- Answers to the goals of `things_in` in `src/things.rt`.
 use Rattle.mpw_columns.proofs.ThingsListed.{part_told}
 use Rattle.mpw_columns.proofs.things.things_in.Goals as goal
 

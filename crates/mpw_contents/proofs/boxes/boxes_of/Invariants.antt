@@ -1,3 +1,4 @@
+-- The invariants of the loops of `boxes_of` in `src/boxes.rt`.
 use Rattle.std.proofs.Common.{◌≡◌, map, take}
 use Rattle.mpw_hier.specs.Boxes.{element_box}
 use Rattle.mpw_contents.proofs.boxes.boxes_of.Given as goal

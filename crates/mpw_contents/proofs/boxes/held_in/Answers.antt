@@ -1,3 +1,4 @@
+-- Answers to the goals of `held_in` in `src/boxes.rt`.
 use Rattle.std.proofs.Common.{subst}
 use Rattle.mpw_structures.specs.declared.structures.Structure.{Structure}
 use Rattle.mpw_contents.specs.Internal.Held.{HoldsBoxes}

@@ -1,3 +1,4 @@
+-- The invariants of the loops of `held_in` in `src/boxes.rt`.
 use Rattle.std.proofs.Common.{take}
 use Rattle.std.specs.List.{AllZip}
 use Rattle.mpw_contents.specs.Internal.Held.{HoldsBoxes}

@@ -1,3 +1,4 @@
+-- The invariants of the loops of `code` in `src/codes.rt`.
 use Rattle.std.proofs.Common.{◌≡◌, take}
 use Rattle.std.specs.Prelude.{fold}
 use Rattle.mpw_contents.specs.Codes.{thing_code}

@@ -1,3 +1,4 @@
+-- Answers to the goals of `are_moved` in `src/displaced.rt`.
 use Rattle.std.proofs.Common.{subst}
 use Rattle.std.specs.Prelude.{IsTrue}
 use Rattle.std.proofs.lemmas.Bool.{false≢true}

@@ -1,3 +1,4 @@
+-- The invariants of the loops of `are_moved` in `src/displaced.rt`.
 use Rattle.std.proofs.Common.{◌≡◌, map, take}
 use Rattle.mpw_contents.specs.Displaced.{bare, moved_thing}
 use Rattle.mpw_contents.proofs.displaced.are_moved.Given as goal

@@ -1,3 +1,4 @@
+-- Answers to the goals of `displacement` in `src/displaced.rt`.
 use Rattle.std.proofs.Common.{◌≡◌, ◌<◌, Bool, false, pos, List, length, map, ap, sym, subst, ◌∙◌, arith, rules}
 use Rattle.std.proofs.lemmas.List.{nil_from_length}
 use Rattle.mpw_geom.specs.declared.plane.Point.{Point}

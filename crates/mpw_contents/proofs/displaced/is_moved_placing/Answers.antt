@@ -1,3 +1,4 @@
+-- Answers to the goals of `is_moved_placing` in `src/displaced.rt`.
 use Rattle.std.proofs.Common.{◌≡◌, Bool, ap, ◌∙◌, sym, rules}
 use Rattle.std.specs.Prelude.{◌↔◌, IsTrue}
 use Rattle.mpw_geom.specs.Placing.{moved_point}

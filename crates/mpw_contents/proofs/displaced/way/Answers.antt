@@ -1,3 +1,4 @@
+-- Answers to the goals of `way` in `src/displaced.rt`.
 use Rattle.std.proofs.Common.{◌-ℤ◌, w64, FitsSigned, arith, rules}
 use Rattle.std.proofs.lemmas.Int.{ints, to_z-of_z}
 use Rattle.mpw_contents.proofs.displaced.way.Goals as goal

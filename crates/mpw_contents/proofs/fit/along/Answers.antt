@@ -1,3 +1,4 @@
+-- Answers to the goals of `along` in `src/fit.rt`.
 use Rattle.std.proofs.Common.{◌≡◌, pos, w64, SFits, arith, rules}
 use Rattle.std.proofs.lemmas.Int.{ints}
 use Rattle.mpw_contents.proofs.Spans.{along_from}

@@ -1,3 +1,4 @@
+-- Answers to the goals of `columns_met` in `src/fit.rt`.
 use Rattle.mpw_contents.proofs.Spans.{along_same, x_of, y_of, columns_missed}
 use Rattle.mpw_contents.proofs.fit.columns_met.Goals as goal
 

@@ -1,3 +1,4 @@
+-- Answers to the goals of `cut` in `src/fit.rt`.
 use Rattle.std.proofs.Common.{refl}
 use Rattle.mpw_walk.proofs.Placings.{same_placing}
 use Rattle.mpw_contents.proofs.Instances.{cut_instance}

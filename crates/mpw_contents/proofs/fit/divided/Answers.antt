@@ -1,3 +1,4 @@
+-- Answers to the goals of `divided` in `src/fit.rt`.
 use Rattle.mpw_contents.proofs.Instances.{no_columns, no_rows, cut_fitted, whole_fitted}
 use Rattle.mpw_contents.proofs.fit.divided.Goals as goal
 use Rattle.mpw_contents.proofs.fit.divided.Goals.{then-columns-via-then-columns, then-columns-via-else-columns+then-rows}

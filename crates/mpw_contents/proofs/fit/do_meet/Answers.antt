@@ -1,3 +1,4 @@
+-- Answers to the goals of `do_meet` in `src/fit.rt`.
 use Rattle.mpw_walk.proofs.Taken.{told_meeting}
 use Rattle.mpw_contents.proofs.fit.do_meet.Goals as goal
 

@@ -1,3 +1,4 @@
+-- Answers to the goals of `downwards` in `src/fit.rt`.
 use Rattle.mpw_contents.proofs.Spans.{downwards_missed}
 use Rattle.mpw_contents.proofs.fit.downwards.Goals as goal
 

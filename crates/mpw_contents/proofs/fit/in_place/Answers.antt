@@ -1,3 +1,4 @@
+-- Answers to the goals of `in_place` in `src/fit.rt`.
 use Rattle.std.proofs.Common.{◌<ℤ◌, arith, refl, ap, ◌∙◌, pos}
 use Rattle.std.specs.Int.{int_min, int_max}
 use Rattle.std.proofs.lemmas.Int.{ints, clamps}

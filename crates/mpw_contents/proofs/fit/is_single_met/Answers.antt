@@ -1,3 +1,4 @@
+-- Answers to the goals of `is_single_met` in `src/fit.rt`.
 use Rattle.std.proofs.Common.{sym, ◌∙◌}
 use Rattle.mpw_contents.specs.Internal.Fitting.{IsAway, IsFitted}
 use Rattle.mpw_contents.proofs.Instances.{single_away, whole_fitted}

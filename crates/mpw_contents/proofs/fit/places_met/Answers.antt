@@ -1,3 +1,4 @@
+-- Answers to the goals of `places_met` in `src/fit.rt`.
 use Rattle.std.proofs.Common.{◌≡◌, pos, negsuc, ℤ, neg_ℤ, ◌<ℤ◌, w64, SFits, arith, rules, refl, ap, subst, ◌∙◌}
 use Rattle.std.specs.Prelude.{unsigned_abs}
 use Rattle.std.proofs.lemmas.Int.{ints, to_z-of_z}

@@ -1,3 +1,4 @@
+-- Answers to the goals of `rows_met` in `src/fit.rt`.
 use Rattle.mpw_contents.proofs.Spans.{along_same, x_of, y_of, rows_missed}
 use Rattle.mpw_contents.proofs.fit.rows_met.Goals as goal
 

@@ -1,3 +1,4 @@
+-- Answers to the goals of `is_among` in `src/layers.rt`.
 use Rattle.std.proofs.Common.{◌≡◌, ◌∙◌, sym, refl, subst}
 use Rattle.std.specs.Prelude.{All}
 use Rattle.std.proofs.lemmas.Bool.{false≢true}

@@ -1,3 +1,4 @@
+-- The invariants of the loops of `is_among` in `src/layers.rt`.
 use Rattle.std.proofs.Common.{◌≡◌, take}
 use Rattle.std.specs.Prelude.{All}
 use Rattle.mpw_contents.proofs.layers.is_among.Given as goal

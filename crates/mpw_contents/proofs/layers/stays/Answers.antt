@@ -1,3 +1,4 @@
+-- Answers to the goals of `stays` in `src/layers.rt`.
 use Rattle.mpw_contents.proofs.Layered.{stays_some, stays_none}
 use Rattle.mpw_contents.proofs.Read.{copied_none, copied_some}
 use Rattle.mpw_contents.proofs.layers.stays.Goals as goal

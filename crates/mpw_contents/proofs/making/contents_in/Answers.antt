@@ -1,3 +1,4 @@
+-- Answers to the goals of `contents_in` in `src/making.rt`.
 use Rattle.std.proofs.Common.{subst}
 use Rattle.mpw_hier.specs.Values.{flat}
 use Rattle.mpw_contents.specs.Contents.{AreSound}

@@ -1,3 +1,4 @@
+-- Answers to the goals of `element_of` in `src/opening.rt`.
 use Rattle.std.proofs.Common.{◌∙◌, sym, ap}
 use Rattle.mpw_contents.specs.Things.{element_in}
 use Rattle.mpw_contents.proofs.Layouts.{shape_is}

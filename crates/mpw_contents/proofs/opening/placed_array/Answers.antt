@@ -1,3 +1,4 @@
+-- Answers to the goals of `placed_array` in `src/opening.rt`.
 use Rattle.std.proofs.Common.{refl, sym}
 use Rattle.mpw_walk.proofs.Placings.{then_is}
 use Rattle.mpw_contents.proofs.opening.placed_array.Goals as goal

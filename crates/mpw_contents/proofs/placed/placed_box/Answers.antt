@@ -1,3 +1,4 @@
+-- Answers to the goals of `placed_box` in `src/placed.rt`.
 use Rattle.std.proofs.Common.{rules, w64, refl}
 use Rattle.std.proofs.lemmas.Int.{to_z-of_z}
 use Rattle.mpw_hier.specs.Boxes.{placed_box}

@@ -1,3 +1,4 @@
+-- Answers to the goals of `answer_row` in `src/answer.rt`.
 use Rattle.std.proofs.Common.{subst}
 use Rattle.mpw_core.proofs.AnswerLemmas.{comes_ended}
 use Rattle.mpw_core.proofs.answer.answer_row.Goals as goal

@@ -1,3 +1,4 @@
+-- Answers to the goals of `ask` in `src/answer.rt`.
 use Rattle.std.proofs.Common.{◌≡◌, ◌∙◌, Err, ap, subst, sym}
 use Rattle.mpw_access.specs.Guard.{entered}
 use Rattle.mpw_requests.specs.Needs.{need_of}

@@ -1,3 +1,4 @@
+-- Answers to the goals of `prepare` in `src/answer.rt`.
 use Rattle.std.proofs.Common.{refl, subst}
 use Rattle.mpw_job.specs.Jobs.{CutWindows, FoundMarkers}
 use Rattle.mpw_run.specs.Prepared.{IsPrepared}

@@ -1,3 +1,4 @@
+-- Answers to the goals of `every_state_counts_its_hand_outs` in `src/laws.rt`.
 use Rattle.mpw_core.proofs.CountLemmas.{few-history}
 use Rattle.mpw_core.proofs.laws.every_state_counts_its_hand_outs.Goals as goal
 

@@ -1,3 +1,4 @@
+-- Answers to the goals of `every_state_keeps_its_placings` in `src/laws.rt`.
 use Rattle.mpw_core.proofs.PlacingLemmas.{placed-history}
 use Rattle.mpw_core.proofs.laws.every_state_keeps_its_placings.Goals as goal
 

@@ -1,3 +1,4 @@
+-- The invariants of the loops of `identity_lines` in `src/policy.rt`.
 use Rattle.std.proofs.Common.{◌≡◌, ◌∷◌, ◌++◌, map, take}
 use Rattle.mpw_replies.specs.declared.reply.Line.TheVariants.{User, Active, Authorized}
 use Rattle.mpw_core.proofs.policy.identity_lines.Given as goal

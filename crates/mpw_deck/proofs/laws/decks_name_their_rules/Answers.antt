@@ -1,3 +1,4 @@
+-- Answers to the goals of `decks_name_their_rules` in `src/laws.rt`.
 use Rattle.mpw_deck.proofs.Named.{text_named, text_faulty}
 use Rattle.mpw_deck.proofs.laws.decks_name_their_rules.Goals as goal
 

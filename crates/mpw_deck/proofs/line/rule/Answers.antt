@@ -1,3 +1,4 @@
+-- Answers to the goals of `rule` in `src/line.rt`.
 use Rattle.std.proofs.Common.{Some, None, subst, sym}
 use Rattle.mpw_deck.specs.Internal.Reads.{Reads}
 use Rattle.mpw_deck.proofs.Words.{by_one, by_two}

@@ -1,3 +1,4 @@
+-- Answers to the goals of `read_deck` in `src/read.rt`.
 use Rattle.std.proofs.Common.{map, ◌∙◌, sym, ap, Bor, List, ℕ, [], arith}
 use Rattle.std.proofs.lemmas.Result.{err_from_is_err_and}
 use Rattle.std.proofs.lemmas.List.{nil_from_length}

@@ -1,3 +1,4 @@
+-- Answers to the goals of `rules` in `src/read.rt`.
 use Rattle.std.proofs.Common.{get_or, map, ◌∙◌, sym, Bor, List, ℕ, [], arith}
 use Rattle.std.proofs.lemmas.List.{length-append}
 use Rattle.std.proofs.lemmas.List.Elements.{All-push}

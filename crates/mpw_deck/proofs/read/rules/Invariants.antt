@@ -1,3 +1,4 @@
+-- The invariants of the loops of `rules` in `src/read.rt`.
 use Rattle.std.proofs.Common.{◌≡◌, ◌+◌, ◌≤◌, [], map, drop, length}
 use Rattle.std.specs.Prelude.{All}
 use Rattle.mpw_deck.specs.Decks.{IsRule}

@@ -1,3 +1,4 @@
+-- The invariants of the loops of `write_again` in `src/device.rt`.
 use Rattle.std.specs.Io.KnownBytes.{Keeps}
 use Rattle.mpw_devices.proofs.device.write_again.Given as goal
 

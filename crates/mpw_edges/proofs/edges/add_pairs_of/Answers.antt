@@ -1,3 +1,4 @@
+-- Answers to the goals of `add_pairs_of` in `src/edges.rt`.
 use Rattle.std.proofs.Common.{List, subst, sym, ◌∙◌}
 use Rattle.mpw_edges.specs.declared.pair.Edge.{Edge}
 use Rattle.mpw_edges.specs.Internal.Pairs.{AreEdges}

@@ -1,3 +1,4 @@
+-- Answers to the goals of `add_widths` in `src/edges.rt`.
 use Rattle.std.proofs.Common.{get_or, subst}
 use Rattle.mpw_geom.proofs.Squares.{no_box}
 use Rattle.mpw_edges.specs.declared.pair.Edge.{Edge}

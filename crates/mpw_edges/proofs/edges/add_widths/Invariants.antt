@@ -1,3 +1,4 @@
+-- The invariants of the loops of `add_widths` in `src/edges.rt`.
 use Rattle.std.proofs.Common.{take}
 use Rattle.mpw_region.specs.Internal.Runs.{Adds}
 use Rattle.mpw_edges.specs.Internal.Pairs.{IsWidthOf}

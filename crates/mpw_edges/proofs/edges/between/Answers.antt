@@ -1,3 +1,4 @@
+-- Answers to the goals of `between` in `src/edges.rt`.
 use Rattle.mpw_edges.proofs.Found.{finds_between, adds_to_none}
 use Rattle.mpw_edges.proofs.edges.between.Goals as goal
 

@@ -1,3 +1,4 @@
+-- Answers to the goals of `runs` in `src/edges.rt`.
 use Rattle.std.proofs.Common.{sym, subst, List, ℤ, ◌≡◌}
 use Rattle.std.specs.Prelude.{IfOk, Result}
 use Rattle.mpw_geom.specs.declared.plane.Box2.{Box2}

@@ -1,3 +1,4 @@
+-- Answers to the goals of `spaces` in `src/edges.rt`.
 use Rattle.std.proofs.Common.{[], map, subst}
 use Rattle.mpw_region.specs.Internal.Runs.{Adds}
 use Rattle.mpw_edges.specs.Internal.Pairs.{IsPairOf, fall_of, rise_of}

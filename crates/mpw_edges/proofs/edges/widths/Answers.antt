@@ -1,3 +1,4 @@
+-- Answers to the goals of `widths` in `src/edges.rt`.
 use Rattle.std.proofs.Common.{[], subst}
 use Rattle.mpw_region.specs.Internal.Runs.{Adds}
 use Rattle.mpw_edges.specs.Internal.Pairs.{IsWidthOf}

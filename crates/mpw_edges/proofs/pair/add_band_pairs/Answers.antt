@@ -1,3 +1,4 @@
+-- Answers to the goals of `add_band_pairs` in `src/pair.rt`.
 use Rattle.std.proofs.Common.{arith}
 use Rattle.mpw_edges.specs.Internal.Pairs.{IsPairFrom}
 use Rattle.mpw_region.proofs.Adding.{Adds-start, Adds-more, Adds-all}

@@ -1,3 +1,4 @@
+-- The invariants of the loops of `add_band_pairs` in `src/pair.rt`.
 use Rattle.std.proofs.Common.{ℕ, ◌<◌, ◌≤◌, ◌<ℤ◌, length, get_or, take}
 use Rattle.std.specs.Prelude.{All}
 use Rattle.mpw_region.specs.Internal.Runs.{Adds}

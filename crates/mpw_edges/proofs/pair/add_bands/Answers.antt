@@ -1,3 +1,4 @@
+-- Answers to the goals of `add_bands` in `src/pair.rt`.
 use Rattle.mpw_edges.proofs.Pairing.{Passes, past, past_low_from, past_low_to}
 use Rattle.mpw_edges.proofs.pair.add_bands.Goals as goal
 use Rattle.mpw_edges.proofs.pair.add_bands.Goals.{In_ok-add_band_pairs}

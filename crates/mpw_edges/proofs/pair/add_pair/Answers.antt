@@ -1,3 +1,4 @@
+-- Answers to the goals of `add_pair` in `src/pair.rt`.
 use Rattle.mpw_region.proofs.Adding.{Adds-none, Adds-push}
 use Rattle.mpw_edges.specs.Internal.Pairs.{IsPairPlace}
 use Rattle.mpw_edges.proofs.pair.add_pair.Goals as goal

@@ -1,3 +1,4 @@
+-- Answers to the goals of `add_pairs` in `src/pair.rt`.
 use Rattle.std.proofs.Common.{inl, inr, arith, length-drop}
 use Rattle.std.proofs.lemmas.List.{take_rest, length-take}
 use Rattle.mpw_edges.specs.declared.pair.Edge.{Edge}

@@ -1,3 +1,4 @@
+-- The invariants of the loops of `add_pairs` in `src/pair.rt`.
 use Rattle.std.proofs.Common.{◌+◌, ◌-◌, ◌≤◌, length, drop}
 use Rattle.mpw_edges.specs.Internal.Pairs.{IsPairOf, Moves}
 use Rattle.mpw_edges.proofs.pair.add_pairs.Given as goal

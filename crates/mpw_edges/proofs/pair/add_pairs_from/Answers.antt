@@ -1,3 +1,4 @@
+-- Answers to the goals of `add_pairs_from` in `src/pair.rt`.
 use Rattle.mpw_edges.specs.Internal.Pairs.{IsPairPlace}
 use Rattle.mpw_region.proofs.Adding.{Adds-more, Adds-all}
 use Rattle.mpw_edges.proofs.Region.{no_edge}

@@ -1,3 +1,4 @@
+-- The invariants of the loops of `add_pairs_from` in `src/pair.rt`.
 use Rattle.std.proofs.Common.{take}
 use Rattle.mpw_region.specs.Internal.Runs.{Adds}
 use Rattle.mpw_edges.specs.Internal.Pairs.{IsPairFrom}

@@ -1,3 +1,4 @@
+-- The invariants of the loops of `band_length` in `src/pair.rt`.
 use Rattle.std.proofs.Common.{◌≤ℤ◌, get_or, take}
 use Rattle.std.specs.Prelude.{All}
 use Rattle.mpw_edges.proofs.Region.{no_edge}

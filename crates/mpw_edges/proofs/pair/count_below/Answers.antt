@@ -1,3 +1,4 @@
+-- Answers to the goals of `count_below` in `src/pair.rt`.
 use Rattle.std.proofs.Common.{rules, get_or, ◌≤ℤ◌, arith, w64}
 use mir.Val.{SFits}
 use Rattle.std.proofs.lemmas.Int.{to_z-of_z}

@@ -1,3 +1,4 @@
+-- The invariants of the loops of `count_below` in `src/pair.rt`.
 use Rattle.std.proofs.Common.{◌≤ℤ◌, take}
 use Rattle.std.specs.Prelude.{All}
 use Rattle.mpw_edges.proofs.pair.count_below.Given as goal

@@ -1,3 +1,4 @@
+-- Answers to the goals of `least` in `src/pair.rt`.
 use Rattle.std.proofs.Common.{arith}
 use Rattle.std.proofs.lemmas.Int.{ints, clamps}
 use Rattle.mpw_edges.proofs.pair.least.Goals as goal

@@ -1,3 +1,4 @@
+-- Answers to the goals of `place_of` in `src/pair.rt`.
 use Rattle.std.proofs.Common.{rules, get_or, ◌<ℤ◌, arith, w64}
 use Rattle.std.specs.Prelude.{int_lt}
 use mir.Val.{SFits}

@@ -1,3 +1,4 @@
+-- The invariants of the loops of `place_of` in `src/pair.rt`.
 use Rattle.std.proofs.Common.{◌<ℤ◌, take}
 use Rattle.std.specs.Prelude.{All}
 use Rattle.mpw_edges.proofs.pair.place_of.Given as goal

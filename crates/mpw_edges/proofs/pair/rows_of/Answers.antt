@@ -1,3 +1,4 @@
+-- Answers to the goals of `rows_of` in `src/pair.rt`.
 use Rattle.std.proofs.Common.{ℤ, ◌≤ℤ◌, ◌<ℤ◌, arith, rules, w64}
 use Rattle.std.specs.Prelude.{◌↔◌}
 use mir.Val.{SFits}

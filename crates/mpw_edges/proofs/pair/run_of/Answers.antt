@@ -1,3 +1,4 @@
+-- Answers to the goals of `run_of` in `src/pair.rt`.
 use Rattle.std.proofs.Common.{rules, sym, w64}
 use mir.Val.{SFits}
 use Rattle.std.proofs.lemmas.Int.{to_z-of_z}

@@ -1,3 +1,4 @@
+-- Answers to the goals of `pieces` in `src/search.rt`.
 use Rattle.std.proofs.lemmas.Result.{IfOk-weaker}
 use Rattle.mpw_region.specs.Squares.{covers}
 use Rattle.mpw_edges.proofs.Maximal.{exact_list, ordered_list}

@@ -1,3 +1,4 @@
+-- Answers to the goals of `steps` in `src/search.rt`.
 use Rattle.std.proofs.Common.{◌≡◌, List, ℤ, sym, subst}
 use mathlib.Core.Path.{fun_ext}
 use Rattle.std.specs.Prelude.{◌↔◌}

@@ -1,3 +1,4 @@
+-- Answers to the goals of `vertical_steps` in `src/search.rt`.
 use Rattle.std.proofs.lemmas.Result.{IfOk-weaker}
 use Rattle.mpw_edges.proofs.search.vertical_steps.Goals as goal
 

@@ -1,3 +1,4 @@
+-- Answers to the goals of `read_boundary` in `src/boundary.rt`.
 use Rattle.mpw_records.specs.Format.{least_size}
 use Rattle.mpw_records.specs.Records.{raw}
 use Rattle.mpw_elements.proofs.Shapes.{corners_ring}

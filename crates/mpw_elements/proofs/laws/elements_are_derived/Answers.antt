@@ -1,3 +1,4 @@
+-- Answers to the goals of `elements_are_derived` in `src/laws.rt`.
 use Rattle.mpw_elements.proofs.DerivedElements as derived
 use Rattle.mpw_elements.proofs.laws.elements_are_derived.Goals as goal
 

@@ -1,3 +1,4 @@
+-- Answers to the goals of `optional_width` in `src/path.rt`.
 use Rattle.mpw_elements.proofs.Shapes.{no_width}
 use Rattle.mpw_elements.proofs.path.optional_width.Goals as goal
 

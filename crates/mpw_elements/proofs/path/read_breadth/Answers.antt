@@ -1,3 +1,4 @@
+-- Answers to the goals of `read_breadth` in `src/path.rt`.
 use Rattle.mpw_structures.specs.Element.{IsWithinReach}
 use Rattle.mpw_elements.specs.Internal.Element.{IsWidth}
 use Rattle.mpw_elements.proofs.Shapes.{kept}

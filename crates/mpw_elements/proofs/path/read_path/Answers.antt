@@ -1,3 +1,4 @@
+-- Answers to the goals of `read_path` in `src/path.rt`.
 use Rattle.std.proofs.Common.{subst, sym}
 use Rattle.mpw_structures.specs.Element.{IsWithinReach, IsPath}
 use Rattle.mpw_records.specs.Records.{raw}

@@ -1,3 +1,4 @@
+-- Answers to the goals of `read_element` in `src/read.rt`.
 use Rattle.std.proofs.Common.{rules}
 use Rattle.mpw_records.specs.Records.{raw}
 use Rattle.mpw_elements.proofs.Sequences.{element_is}

@@ -1,3 +1,4 @@
+-- Answers to the goals of `skip` in `src/read.rt`.
 use Rattle.std.proofs.Common.{◌∷◌, Err, sym, ap, ◌∙◌, length, arith}
 use Rattle.std.proofs.lemmas.Result.{err_from_is_err_and}
 use Rattle.mpw_records.specs.Records.{raw, seen}

@@ -1,3 +1,4 @@
+-- The invariants of the loops of `skip` in `src/read.rt`.
 use Rattle.std.proofs.Common.{◌≡◌, ◌≤◌, length}
 use Rattle.mpw_elements.specs.Grammar.{ignored}
 use Rattle.mpw_elements.proofs.read.skip.Given as goal

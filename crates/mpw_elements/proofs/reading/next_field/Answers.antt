@@ -1,3 +1,4 @@
+-- Answers to the goals of `next_field` in `src/reading.rt`.
 use Rattle.std.proofs.Common.{◌∷◌, sym, ap, ◌∙◌, length, arith}
 use Rattle.std.proofs.lemmas.Result.{err_from_is_err_and}
 use Rattle.mpw_records.specs.Records.{raw, seen}

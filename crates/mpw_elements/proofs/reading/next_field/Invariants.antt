@@ -1,3 +1,4 @@
+-- The invariants of the loops of `next_field` in `src/reading.rt`.
 use Rattle.std.proofs.Common.{◌≡◌, ◌≤◌, length}
 use Rattle.mpw_elements.specs.Reading.{field}
 use Rattle.mpw_elements.proofs.reading.next_field.Given as goal

@@ -1,3 +1,4 @@
+-- Answers to the goals of `all_points` in `src/shape.rt`.
 use Rattle.std.proofs.Common.{◌∷◌, [], ◌++◌, ap, arith}
 use Rattle.std.proofs.lemmas.List.FromFn.{map-range_with_len_more}
 use Rattle.mpw_elements.specs.Values.{point_at}

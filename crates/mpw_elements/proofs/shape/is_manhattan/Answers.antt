@@ -1,3 +1,4 @@
+-- Answers to the goals of `is_manhattan` in `src/shape.rt`.
 use Rattle.std.proofs.Common.{◌-◌, drop, sym, ◌∙◌, arith, length-drop}
 use Rattle.mpw_structures.specs.Element.{is_manhattan_step}
 use Rattle.mpw_structures.specs.Coordinates.{no_point}

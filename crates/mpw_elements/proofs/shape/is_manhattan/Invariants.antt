@@ -1,3 +1,4 @@
+-- The invariants of the loops of `is_manhattan` in `src/shape.rt`.
 use Rattle.std.proofs.Common.{◌≡◌, ◌-◌, drop}
 use Rattle.mpw_structures.specs.Element.{is_manhattan_step, each_step}
 use Rattle.mpw_elements.proofs.shape.is_manhattan.Given as goal

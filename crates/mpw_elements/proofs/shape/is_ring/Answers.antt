@@ -1,3 +1,4 @@
+-- Answers to the goals of `is_ring` in `src/shape.rt`.
 use Rattle.std.proofs.Common.{◌-◌, length, refl, sym}
 use Rattle.mpw_structures.specs.Element.{is_manhattan_step}
 use Rattle.mpw_structures.specs.Coordinates.{no_point}

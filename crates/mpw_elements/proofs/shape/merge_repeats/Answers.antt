@@ -1,3 +1,4 @@
+-- Answers to the goals of `merge_repeats` in `src/shape.rt`.
 use Rattle.std.proofs.lemmas.List.Filters.{dedup_is}
 use Rattle.mpw_structures.specs.Element.{same_point}
 use Rattle.mpw_elements.proofs.shape.merge_repeats.Goals as goal

@@ -1,3 +1,4 @@
+-- Answers to the goals of `magnification` in `src/values.rt`.
 use Rattle.std.proofs.Common.{Bool, Result, Ok, Err, pos, sym, ap, ◌∙◌, if◌then◌else◌}
 use Rattle.mpw_records.specs.declared.fault.Code.TheVariants.{Magnification}
 use Rattle.mpw_records.specs.declared.fault.ReadFault.{ReadFault}

@@ -1,3 +1,4 @@
+-- Answers to the goals of `part` in `src/values.rt`.
 use Rattle.std.proofs.Common.{rules}
 use Rattle.mpw_elements.proofs.values.part.Goals as goal
 

@@ -1,3 +1,4 @@
+-- Answers to the goals of `place` in `src/values.rt`.
 use Rattle.mpw_elements.proofs.Shapes.{near_point}
 use Rattle.mpw_elements.proofs.values.place.Goals as goal
 

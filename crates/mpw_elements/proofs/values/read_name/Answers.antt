@@ -1,3 +1,4 @@
+-- Answers to the goals of `read_name` in `src/values.rt`.
 use Rattle.std.proofs.Common.{Ok, sym, ap, subst, ◌∙◌}
 use Rattle.mpw_geom.specs.Name.{IsName}
 use Rattle.mpw_records.specs.Records.{raw}

@@ -1,3 +1,4 @@
+-- Answers to the goals of `step` in `src/values.rt`.
 use Rattle.std.proofs.Common.{rules}
 use Rattle.mpw_elements.proofs.values.step.Goals as goal
 

@@ -1,3 +1,4 @@
+-- Answers to the goals of `trim_nuls` in `src/values.rt`.
 use Rattle.std.proofs.Common.{◌≡◌, take, sym, ◌∙◌, arith}
 use Rattle.mpw_elements.specs.Values.{without_nuls}
 use Rattle.mpw_elements.proofs.Numbers.{trim_zero, trim_done, none_left}

@@ -1,3 +1,4 @@
+-- The invariants of the loops of `trim_nuls` in `src/values.rt`.
 use Rattle.std.proofs.Common.{◌≡◌, ◌≤◌, length, take}
 use Rattle.mpw_elements.specs.Values.{without_nuls}
 use Rattle.mpw_elements.proofs.values.trim_nuls.Given as goal

@@ -1,3 +1,4 @@
+-- Answers to the goals of `width` in `src/values.rt`.
 use Rattle.std.proofs.Common.{sym, rules}
 use Rattle.mpw_records.specs.Records.{raw}
 use Rattle.mpw_elements.specs.Values.{width_of}

@@ -1,3 +1,4 @@
+-- Answers to the goals of `box_of` in `src/area.rt`.
 use Rattle.std.proofs.Common.{◌∙◌, sym, ap, map, arith, [], ◌∷◌}
 use Rattle.std.specs.Prelude.{fold, None}
 use Rattle.std.specs.List.{range_with_len}

@@ -1,3 +1,4 @@
+-- The invariants of the loops of `box_of` in `src/area.rt`.
 use Rattle.std.proofs.Common.{◌≡◌, map}
 use Rattle.std.specs.Prelude.{fold, None}
 use Rattle.std.specs.List.{range_with_len}

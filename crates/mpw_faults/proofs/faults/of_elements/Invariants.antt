@@ -1,3 +1,4 @@
+-- The invariants of the loops of `of_elements` in `src/faults.rt`.
 use Rattle.std.proofs.Common.{◌≡◌, take}
 use Rattle.std.specs.List.{flat_map}
 use Rattle.mpw_faults.specs.Faults.{own_fault, told}

@@ -1,3 +1,4 @@
+-- Answers to the goals of `faulty_elements_are_left_out` in `src/laws.rt`.
 use Rattle.mpw_faults.proofs.LeftOut.{are_left_out, are_listed}
 use Rattle.mpw_faults.proofs.laws.faulty_elements_are_left_out.Goals as goal
 

@@ -1,3 +1,4 @@
+-- The invariants of the loops of `cuts_of_faults` in `src/leaving_out.rt`.
 use Rattle.std.proofs.Common.{◌≡◌, take}
 use Rattle.mpw_faults.specs.LeavingOut.{cuts_of_faults}
 use Rattle.mpw_faults.proofs.leaving_out.cuts_of_faults.Given as goal

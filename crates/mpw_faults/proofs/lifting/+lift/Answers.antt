@@ -1,3 +1,4 @@
+-- Answers to the goals of `lift` in `src/lifting.rt`.
 use Rattle.std.proofs.Common.{◌∙◌, ◌≡◌, ◌<◌, Some, None, sym, arith}
 use Rattle.std.proofs.lemmas.Result.{IfOk-weaker}
 use Rattle.mpw_faults.proofs.Levels.{lifted_end, lifted_on, lifted_there}

@@ -1,3 +1,4 @@
+-- Answers to the goals of `way_to` in `src/lifting.rt`.
 use Rattle.std.proofs.Common.{All, subst, sym}
 use Rattle.std.proofs.lemmas.List.Elements.{All-push}
 use Rattle.mpw_faults.specs.Lifting.{IsKnown, read_of}

@@ -1,3 +1,4 @@
+-- The invariants of the loops of `unit_of` in `src/unit.rt`.
 use Rattle.std.proofs.Common.{◌≡◌, length}
 use Rattle.mpw_faults.specs.Faults.{unit_in, unit_of}
 use Rattle.mpw_faults.proofs.unit.unit_of.Given as goal

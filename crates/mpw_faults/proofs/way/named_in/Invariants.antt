@@ -1,3 +1,4 @@
+-- The invariants of the loops of `named_in` in `src/way.rt`.
 use Rattle.std.proofs.Common.{◌≡◌, drop, length}
 use Rattle.mpw_records.specs.Records.{outcomes_of}
 use Rattle.mpw_faults.specs.Lifting.{named_in}

@@ -1,3 +1,4 @@
+-- The invariants of the loops of `only_reference` in `src/way.rt`.
 use Rattle.std.proofs.Common.{◌≡◌, ◌++◌, drop, filter}
 use Rattle.mpw_faults.specs.Lifting.{refers}
 use Rattle.mpw_faults.proofs.Ways.{listed}

@@ -1,3 +1,4 @@
+-- The invariants of the loops of `parts_of` in `src/apart.rt`.
 use Rattle.std.proofs.Common.{◌≡◌, map, take}
 use Rattle.std.specs.String.{string_bytes}
 use Rattle.mpw_firm.specs.Uses.{input_name}

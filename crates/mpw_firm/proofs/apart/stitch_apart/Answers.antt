@@ -1,3 +1,4 @@
+-- Answers to the goals of `stitch_apart` in `src/apart.rt`.
 use Rattle.std.proofs.Common.{◌≡◌, ◌∙◌, map, ap, subst}
 use Rattle.std.specs.Prelude.{IfOk}
 use Rattle.std.specs.String.{string_bytes}

@@ -1,3 +1,4 @@
+-- Answers to the goals of `write_all` in `src/asked.rt`.
 use Rattle.std.proofs.Common.{List, length, map, option_map, subst}
 use Rattle.std.proofs.lemmas.Result.{IfOk-weaker}
 use Rattle.std.specs.String.{string_bytes}

@@ -1,3 +1,4 @@
+-- Answers to the goals of `put_for` in `src/faulty.rt`.
 use Rattle.std.proofs.Common.{ℕ, List, Option, inr, subst}
 use Rattle.std.specs.Prelude.{IfOk}
 use Rattle.std.proofs.lemmas.Result.{IfErr-weaker}

@@ -1,3 +1,4 @@
+-- The invariants of the loops of `find_marker` in `src/key.rt`.
 use Rattle.std.proofs.Common.{◌≡◌, drop}
 use Rattle.mpw_firm.specs.Keys.{marker_named}
 use Rattle.mpw_firm.proofs.key.find_marker.Given as goal

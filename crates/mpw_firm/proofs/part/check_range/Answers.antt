@@ -1,3 +1,4 @@
+-- Answers to the goals of `check_range` in `src/part.rt`.
 use Rattle.std.proofs.Common.{◌∙◌, List, ℕ, None, refl, subst, rules}
 use Rattle.mpw_spread.specs.Spread.{IsPartOf}
 use Rattle.mpw_firm.specs.Drawings.{IsDrawnOf}

@@ -1,3 +1,4 @@
+-- Answers to the goals of `part_of` in `src/part.rt`.
 use Rattle.std.proofs.Common.{◌≡◌, ◌∙◌, ◌+◌, ◌-◌, ℕ, List, length, take, drop, Option, Some, ap, sym, subst, arith}
 use Rattle.mpw_keys.specs.declared.column.Column.{Column}
 use Rattle.mpw_spread.specs.Ranges.{IsSpanOf}

@@ -1,3 +1,4 @@
+-- Answers to the goals of `drawn_in` in `src/picture.rt`.
 use Rattle.std.proofs.Common.{◌∙◌, ℕ, List, length, map, subst, sym}
 use Rattle.std.specs.Prelude.{IfOk}
 use Rattle.std.proofs.lemmas.List.{length-map}

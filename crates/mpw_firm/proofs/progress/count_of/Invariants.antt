@@ -1,3 +1,4 @@
+-- The invariants of the loops of `count_of` in `src/progress.rt`.
 use Rattle.std.proofs.Common.{◌≡◌, ◌||◌, ltb, drop, take}
 use Rattle.std.specs.List.{list_any}
 use Rattle.mpw_firm.specs.Counts.{count_of, has_some}

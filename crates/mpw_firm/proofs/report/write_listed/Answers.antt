@@ -1,3 +1,4 @@
+-- Answers to the goals of `write_listed` in `src/report.rt`.
 use Rattle.std.proofs.Common.{List, option_map, subst}
 use Rattle.std.proofs.lemmas.Result.{IfOk-weaker}
 use Rattle.std.specs.String.{string_bytes}

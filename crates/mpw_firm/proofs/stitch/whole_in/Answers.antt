@@ -1,3 +1,4 @@
+-- Answers to the goals of `whole_in` in `src/stitch.rt`.
 use Rattle.std.proofs.lemmas.Result.{IfOk-weaker}
 use Rattle.mpw_firm.proofs.stitch.whole_in.Goals as goal
 

@@ -1,3 +1,4 @@
+-- Answers to the goals of `whole_of` in `src/whole.rt`.
 use Rattle.mpw_firm.proofs.ListedWholes.{listed_if}
 use Rattle.mpw_firm.proofs.whole.whole_of.Goals as goal
 

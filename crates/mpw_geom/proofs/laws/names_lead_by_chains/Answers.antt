@@ -1,3 +1,4 @@
+-- Answers to the goals of `names_lead_by_chains` in `src/laws.rt`.
 use Rattle.mpw_geom.specs.Links.{same}
 use Rattle.mpw_geom.proofs.Linked.{leads-sound, leads-complete, leads-trans}
 use Rattle.mpw_geom.proofs.laws.names_lead_by_chains.Goals as goal

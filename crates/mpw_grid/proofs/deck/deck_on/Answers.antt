@@ -1,3 +1,4 @@
+-- Answers to the goals of `deck_on` in `src/deck.rt`.
 use Rattle.std.proofs.Common.{◌∙◌, List, length, map, sym, ap, subst, arith}
 use Rattle.std.specs.Prelude.{All}
 use Rattle.std.proofs.lemmas.List.{length-map}

@@ -1,3 +1,4 @@
+-- The invariants of the loops of `first_beyond` in `src/deck.rt`.
 use Rattle.std.proofs.Common.{◌≡◌, false, drop, take}
 use Rattle.std.specs.List.{list_any}
 use Rattle.mpw_grid.specs.Decks.{first_beyond, is_beyond}

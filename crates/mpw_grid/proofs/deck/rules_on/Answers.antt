@@ -1,3 +1,4 @@
+-- Answers to the goals of `rules_on` in `src/deck.rt`.
 use Rattle.std.proofs.Common.{sym, ap}
 use Rattle.mpw_deck.specs.declared.rule.Rule.{Rule}
 use Rattle.mpw_grid.proofs.Rules.{is_within}

@@ -1,3 +1,4 @@
+-- The invariants of the loops of `rules_on` in `src/deck.rt`.
 use Rattle.std.proofs.Common.{◌≡◌, map, take}
 use Rattle.mpw_grid.specs.Decks.{rule_on}
 use Rattle.mpw_grid.proofs.deck.rules_on.Given as goal

@@ -1,3 +1,4 @@
+-- The invariants of the loops of `first_units` in `src/grid.rt`.
 use Rattle.std.proofs.Common.{◌≡◌, length}
 use Rattle.mpw_grid.specs.Texts.{first_units}
 use Rattle.mpw_records.specs.Records.{outcomes_of}

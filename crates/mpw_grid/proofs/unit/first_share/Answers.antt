@@ -1,3 +1,4 @@
+-- Answers to the goals of `first_share` in `src/unit.rt`.
 use Rattle.std.proofs.Common.{◌+◌, ◌*◌, ◌^◌, ◌-◌, sym, ◌∙◌, arith}
 use Rattle.mpw_grid.proofs.Shares.{found, goes_on, none_left}
 use Rattle.mpw_grid.proofs.unit.first_share.Goals as goal

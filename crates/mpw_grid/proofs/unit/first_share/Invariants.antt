@@ -1,3 +1,4 @@
+-- The invariants of the loops of `first_share` in `src/unit.rt`.
 use Rattle.std.proofs.Common.{◌≡◌, ◌*◌, ◌^◌, ◌-◌}
 use Rattle.mpw_grid.specs.Units.{first_share}
 use Rattle.mpw_grid.proofs.unit.first_share.Given as goal

@@ -1,3 +1,4 @@
+-- Answers to the goals of `is_share` in `src/unit.rt`.
 use Rattle.std.proofs.Common.{◌-◌, ◌^◌, arith}
 use Rattle.std.proofs.lemmas.Nat.{mul-le}
 use Rattle.mpw_grid.proofs.Shares.{share_above, share_below, share_far}

@@ -1,3 +1,4 @@
+-- The invariants of the loops of `elements_on` in `src/elements.rt`.
 use Rattle.std.proofs.Common.{◌≡◌, take}
 use Rattle.std.specs.Prelude.{filter}
 use Rattle.mpw_groups.specs.Layers.{is_among, stays}

@@ -1,3 +1,4 @@
+-- The invariants of the loops of `structures_on` in `src/elements.rt`.
 use Rattle.std.proofs.Common.{◌≡◌, take}
 use Rattle.mpw_groups.specs.Layers.{is_among, library_on}
 use Rattle.mpw_groups.proofs.elements.structures_on.Given as goal

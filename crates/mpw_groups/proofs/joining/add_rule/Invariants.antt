@@ -1,3 +1,4 @@
+-- The invariants of the loops of `add_rule` in `src/joining.rt`.
 use Rattle.std.proofs.Common.{◌≡◌, ◌++◌, take}
 use Rattle.mpw_groups.specs.Joined.{taken}
 use Rattle.mpw_groups.proofs.joining.add_rule.Given as goal

@@ -1,3 +1,4 @@
+-- The invariants of the loops of `joined` in `src/joining.rt`.
 use Rattle.std.proofs.Common.{◌≡◌, ◌++◌, drop}
 use Rattle.mpw_groups.specs.Joined.{joined_from}
 use Rattle.mpw_groups.proofs.joining.joined.Given as goal

@@ -1,3 +1,4 @@
+-- Answers to the goals of `owner_of` in `src/joining.rt`.
 use Rattle.std.proofs.Common.{rules, ◌≡◌, ℕ, List, Some, subst}
 use Rattle.std.specs.Prelude.{slice_get, IfSome}
 use Rattle.mpw_groups.proofs.Owning.{owner_at}

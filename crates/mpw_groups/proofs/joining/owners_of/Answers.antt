@@ -1,3 +1,4 @@
+-- Answers to the goals of `owners_of` in `src/joining.rt`.
 use Rattle.std.proofs.Common.{ℕ, ◌≡◌, subst, arith}
 use Rattle.std.specs.Prelude.{IfSome}
 use Rattle.mpw_groups.specs.Joined.{AreOwners, IsOwner}

@@ -1,3 +1,4 @@
+-- The invariants of the loops of `owners_of` in `src/joining.rt`.
 use Rattle.std.proofs.Common.{◌≤◌}
 use Rattle.mpw_groups.specs.Joined.{AreOwners}
 use Rattle.mpw_groups.proofs.joining.owners_of.Given as goal

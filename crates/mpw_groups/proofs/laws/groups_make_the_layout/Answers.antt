@@ -1,3 +1,4 @@
+-- Answers to the goals of `groups_make_the_layout` in `src/laws.rt`.
 use Rattle.mpw_groups.proofs.Grouped.{groups_make}
 use Rattle.mpw_groups.proofs.laws.groups_make_the_layout.Goals as goal
 

@@ -1,3 +1,4 @@
+-- Answers to the goals of `add_layer` in `src/layers.rt`.
 use Rattle.std.proofs.Common.{List, ap, sym, ◌∙◌}
 use Rattle.mpw_geom.specs.declared.plane.Layer.{Layer}
 use Rattle.mpw_groups.specs.Layers.{is_among}

@@ -1,3 +1,4 @@
+-- Answers to the goals of `is_among` in `src/layers.rt`.
 use Rattle.std.proofs.Common.{◌∙◌, sym}
 use Rattle.mpw_groups.proofs.Named.{found_at, none_left, none_more}
 use Rattle.mpw_groups.proofs.layers.is_among.Goals as goal

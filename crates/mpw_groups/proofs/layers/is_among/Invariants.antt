@@ -1,3 +1,4 @@
+-- The invariants of the loops of `is_among` in `src/layers.rt`.
 use Rattle.std.proofs.Common.{◌≡◌, false, take}
 use Rattle.mpw_groups.specs.Layers.{is_among}
 use Rattle.mpw_groups.proofs.layers.is_among.Given as goal

@@ -1,3 +1,4 @@
+-- Answers to the goals of `layers_of_rules` in `src/layers.rt`.
 use Rattle.mpw_groups.proofs.Named.{named_all, named_more}
 use Rattle.mpw_groups.proofs.layers.layers_of_rules.Goals as goal
 

@@ -1,3 +1,4 @@
+-- The invariants of the loops of `layers_of_rules` in `src/layers.rt`.
 use Rattle.std.proofs.Common.{◌≡◌, take}
 use Rattle.mpw_geom.specs.declared.plane.Layer.{Layer}
 use Rattle.mpw_groups.specs.Layers.{is_among, is_named}

@@ -1,3 +1,4 @@
+-- Answers to the goals of `rules_at` in `src/part.rt`.
 use Rattle.std.proofs.Common.{◌∙◌, Some, ap, sym}
 use Rattle.std.specs.Prelude.{option_copied}
 use Rattle.mpw_groups.proofs.Ruled.{rules_more}

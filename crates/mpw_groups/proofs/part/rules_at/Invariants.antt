@@ -1,3 +1,4 @@
+-- The invariants of the loops of `rules_at` in `src/part.rt`.
 use Rattle.std.proofs.Common.{take}
 use Rattle.std.specs.Prelude.{All}
 use Rattle.mpw_deck.specs.Decks.{IsRule}

@@ -1,3 +1,4 @@
+-- Answers to the goals of `shelf_on` in `src/shelf.rt`.
 use Rattle.std.proofs.Common.{◌≡◌, ◌∙◌, Some, ap, sym, subst}
 use Rattle.std.specs.Prelude.{option_copied, slice_get, IfSome}
 use Rattle.mpw_structures.specs.Library.{IsLibrary}

@@ -1,3 +1,4 @@
+-- Answers to the goals of `shelf_with` in `src/shelf.rt`.
 use Rattle.std.proofs.Common.{◌≡◌, [], subst}
 use Rattle.std.specs.Prelude.{IfSome}
 use Rattle.mpw_groups.proofs.Staying.{none_bound}

@@ -1,3 +1,4 @@
+-- The invariants of the loops of `write_words` in `src/told.rt`.
 use Rattle.std.proofs.Common.{take}
 use Rattle.std.specs.List.{flat_map}
 use Rattle.std.specs.Io.KnownBytes.{Appends}

@@ -1,3 +1,4 @@
+-- Answers to the goals of `nodes_upto` in `src/hierarchy.rt`.
 use Rattle.std.proofs.Common.{◌<◌, ◌≤◌, length, get_or, Err, refl, sym, ap, subst, ◌∙◌, arith}
 use Rattle.mpw_hier.specs.declared.fault.HierFault.{HierFault}
 use Rattle.mpw_hier.specs.declared.submission.Submission.{Submission}

@@ -1,3 +1,4 @@
+-- The invariants of the loops of `nodes_upto` in `src/hierarchy.rt`.
 use Rattle.std.proofs.Common.{◌≡◌, ◌<◌, ℕ, get_or}
 use Rattle.mpw_hier.proofs.Reached.{AreUpTo}
 use Rattle.mpw_hier.proofs.hierarchy.nodes_upto.Given as goal

@@ -1,3 +1,4 @@
+-- The invariants of the loops of `table_of` in `src/hierarchy.rt`.
 use Rattle.std.proofs.Common.{take}
 use Rattle.mpw_hier.specs.Internal.Building.{ShowsBindings}
 use Rattle.mpw_hier.proofs.hierarchy.table_of.Given as goal

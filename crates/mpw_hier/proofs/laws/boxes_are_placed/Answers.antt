@@ -1,3 +1,4 @@
+-- Answers to the goals of `boxes_are_placed` in `src/laws.rt`.
 use Rattle.mpw_hier.proofs.Extents.{own_box}
 use Rattle.mpw_hier.proofs.Placings.{again_box}
 use Rattle.mpw_hier.proofs.laws.boxes_are_placed.Goals as goal

@@ -1,3 +1,4 @@
+-- Answers to the goals of `reaching_is_decided` in `src/laws.rt`.
 use Rattle.mpw_hier.proofs.ReachTests.{cycles_found, outside_found, externals_one, far_found}
 use Rattle.mpw_hier.proofs.laws.reaching_is_decided.Goals as goal
 

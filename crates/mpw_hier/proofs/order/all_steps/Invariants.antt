@@ -1,3 +1,4 @@
+-- The invariants of the loops of `all_steps` in `src/order.rt`.
 use Rattle.std.proofs.Common.{◌≡◌, ◌+◌, length, map, take}
 use Rattle.mpw_hier.proofs.order.all_steps.Given as goal
 

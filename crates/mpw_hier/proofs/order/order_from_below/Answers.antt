@@ -1,3 +1,4 @@
+-- Answers to the goals of `order_from_below` in `src/order.rt`.
 use Rattle.std.proofs.Common.{rules}
 use Rattle.mpw_hier.proofs.order.order_from_below.Goals as goal
 

@@ -1,3 +1,4 @@
+-- The invariants of the loops of `order_from_below` in `src/order.rt`.
 use Rattle.std.proofs.Common.{◌≡◌}
 use Rattle.mpw_hier.specs.Internal.Descent.{IsUnderWay, work}
 use Rattle.mpw_hier.proofs.order.order_from_below.Given as goal

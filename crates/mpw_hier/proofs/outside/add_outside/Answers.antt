@@ -1,3 +1,4 @@
+-- Answers to the goals of `add_outside` in `src/outside.rt`.
 use Rattle.std.proofs.Common.{◌≡◌, [], ◌∷◌, ◌++◌, ap, sym, ◌∙◌, append-nil}
 use Rattle.std.proofs.lemmas.List.{at_drop_all}
 use Rattle.mpw_structures.specs.declared.element.Element.TheVariants as elements

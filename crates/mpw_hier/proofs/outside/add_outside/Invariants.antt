@@ -1,3 +1,4 @@
+-- The invariants of the loops of `add_outside` in `src/outside.rt`.
 use Rattle.std.proofs.Common.{◌≡◌, ◌++◌, drop}
 use Rattle.mpw_hier.specs.Structures.{referenced_names}
 use Rattle.mpw_hier.specs.Outside.{names_outside}

@@ -1,3 +1,4 @@
+-- Answers to the goals of `graph_of` in `src/outside.rt`.
 use Rattle.std.proofs.Common.{◌≡◌, map, take, ap, ◌∙◌, take_all}
 use Rattle.mpw_hier.specs.Outside.{places_from, graph_of}
 use Rattle.mpw_hier.proofs.outside.graph_of.Goals as goal

@@ -1,3 +1,4 @@
+-- The invariants of the loops of `graph_of` in `src/outside.rt`.
 use Rattle.std.proofs.Common.{◌≡◌, map, take}
 use Rattle.mpw_hier.specs.Outside.{places_from}
 use Rattle.mpw_hier.proofs.outside.graph_of.Given as goal

@@ -1,3 +1,4 @@
+-- Answers to the goals of `outside_from` in `src/outside.rt`.
 use Rattle.std.proofs.Common.{get_or, ap, sym, ◌∙◌}
 use Rattle.mpw_structures.specs.declared.structures.Structure.{Structure}
 use Rattle.mpw_hier.specs.Internal.Outside.{outside_from_all}

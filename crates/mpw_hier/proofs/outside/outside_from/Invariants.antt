@@ -1,3 +1,4 @@
+-- The invariants of the loops of `outside_from` in `src/outside.rt`.
 use Rattle.std.proofs.Common.{◌≡◌, take}
 use Rattle.mpw_hier.specs.Internal.Outside.{outside_from_all}
 use Rattle.mpw_hier.proofs.outside.outside_from.Given as goal

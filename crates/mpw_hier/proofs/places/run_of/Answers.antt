@@ -1,3 +1,4 @@
+-- Answers to the goals of `run_of` in `src/places.rt`.
 use Rattle.std.proofs.Common.{arith}
 use Rattle.mpw_hier.proofs.Runs.{numbers_next}
 use Rattle.mpw_hier.proofs.places.run_of.Goals as goal

@@ -1,3 +1,4 @@
+-- The invariants of the loops of `run_of` in `src/places.rt`.
 use Rattle.std.proofs.Common.{◌≡◌, take}
 use Rattle.mpw_hier.specs.Internal.Places.{numbers_from}
 use Rattle.mpw_hier.proofs.places.run_of.Given as goal

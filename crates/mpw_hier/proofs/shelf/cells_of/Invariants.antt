@@ -1,3 +1,4 @@
+-- The invariants of the loops of `cells_of` in `src/shelf.rt`.
 use Rattle.std.proofs.Common.{◌≡◌, map, take}
 use Rattle.mpw_hier.proofs.shelf.cells_of.Given as goal
 

@@ -1,3 +1,4 @@
+-- Answers to the goals of `nodes_within` in `src/shelf.rt`.
 use Rattle.std.proofs.Common.{◌^◌, Err, ap, ◌∙◌}
 use Rattle.mpw_hier.specs.declared.fault.HierFault.{HierFault}
 use Rattle.mpw_hier.proofs.Pushing.{kept_within, nodes_kept, refused, refused_nodes}

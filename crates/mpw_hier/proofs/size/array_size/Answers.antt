@@ -1,3 +1,4 @@
+-- Answers to the goals of `array_size` in `src/size.rt`.
 use Rattle.std.proofs.Common.{◌≡◌, refl, sym, ap, subst, ◌∙◌}
 use Rattle.mpw_hier.specs.Sizes.{IsExtentNear}
 use Rattle.mpw_hier.specs.Internal.SizeParts.{array_extent}

@@ -1,3 +1,4 @@
+-- Answers to the goals of `size_of` in `src/size.rt`.
 use Rattle.std.proofs.Common.{◌≡◌, ◌<◌, length, get_or, ap, subst, ◌∙◌, arith}
 use Rattle.mpw_hier.specs.Structures.{referenced_names}
 use Rattle.mpw_hier.specs.Sizes.{Total, IsToldBy}

@@ -1,3 +1,4 @@
+-- The invariants of the loops of `size_of` in `src/size.rt`.
 use Rattle.mpw_hier.proofs.Sizing.{IsSizedTo}
 use Rattle.mpw_hier.proofs.size.size_of.Given as goal
 

@@ -1,3 +1,4 @@
+-- Answers to the goals of `array_box` in `src/size_array.rt`.
 use Rattle.std.proofs.Common.{sym, ap, ◌∙◌, Some}
 use Rattle.mpw_hier.proofs.Arrays.{array_made}
 use Rattle.mpw_hier.proofs.size_array.array_box.Goals as goal

@@ -1,3 +1,4 @@
+-- Answers to the goals of `corner` in `src/size_array.rt`.
 use Rattle.std.proofs.Common.{rules}
 use Rattle.mpw_hier.proofs.Reaching.{sum_is}
 use Rattle.mpw_hier.proofs.size_array.corner.Goals as goal

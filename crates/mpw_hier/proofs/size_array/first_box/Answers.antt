@@ -1,3 +1,4 @@
+-- Answers to the goals of `first_box` in `src/size_array.rt`.
 use Rattle.std.proofs.Common.{refl, sym, subst, arith}
 use Rattle.std.proofs.lemmas.Int.{ints}
 use Rattle.mpw_geom.specs.Plane.{IsInPlane}

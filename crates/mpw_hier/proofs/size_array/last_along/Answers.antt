@@ -1,3 +1,4 @@
+-- Answers to the goals of `last_along` in `src/size_array.rt`.
 use Rattle.std.proofs.Common.{◌≤◌, ◌-◌, sym, subst, rules, arith}
 use Rattle.mpw_hier.specs.Internal.SizeParts.{IsWide}
 use Rattle.mpw_hier.proofs.Reaching.{product_is, product_wide}

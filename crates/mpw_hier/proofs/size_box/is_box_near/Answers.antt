@@ -1,3 +1,4 @@
+-- Answers to the goals of `is_box_near` in `src/size_box.rt`.
 use Rattle.std.proofs.Common.{◌≡◌, rules, refl, ap, ◌∙◌}
 use Rattle.mpw_hier.specs.Boxes.{is_near, is_box_near}
 use Rattle.mpw_hier.proofs.Reaching.{as_wide}

@@ -1,3 +1,4 @@
+-- Answers to the goals of `path_box` in `src/size_shape.rt`.
 use Rattle.std.proofs.Common.{◌≤◌, ◌∙◌, length, sym, ap, arith}
 use Rattle.mpw_hier.specs.Boxes.{hull_of_points}
 use Rattle.mpw_hier.proofs.ElementBoxes.{boxed_none, boxed_more, boxed_all, boxed_reach}

@@ -1,3 +1,4 @@
+-- The invariants of the loops of `path_box` in `src/size_shape.rt`.
 use Rattle.std.proofs.Common.{length}
 use Rattle.mpw_hier.proofs.ElementBoxes.{IsBoxedTo}
 use Rattle.mpw_hier.proofs.size_shape.path_box.Given as goal

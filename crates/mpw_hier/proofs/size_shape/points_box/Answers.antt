@@ -1,3 +1,4 @@
+-- Answers to the goals of `points_box` in `src/size_shape.rt`.
 use Rattle.std.proofs.Common.{Some, ◌<◌, length, sym, ap, ◌∙◌, arith}
 use Rattle.std.proofs.lemmas.List.{at_drop_all, get_or_default}
 use Rattle.mpw_hier.specs.Boxes.{hull, hull_of_points}

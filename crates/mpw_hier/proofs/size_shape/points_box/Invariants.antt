@@ -1,3 +1,4 @@
+-- The invariants of the loops of `points_box` in `src/size_shape.rt`.
 use Rattle.std.proofs.Common.{◌≡◌, drop}
 use Rattle.mpw_hier.specs.Boxes.{hull, hull_of_points}
 use Rattle.mpw_hier.proofs.size_shape.points_box.Given as goal

@@ -1,3 +1,4 @@
+-- Answers to the goals of `segment_box` in `src/size_shape.rt`.
 use Rattle.std.proofs.Common.{◌≡◌, length, cond, eqb, ℤ, sym, ◌∙◌, arith}
 use Rattle.std.proofs.lemmas.List.{get_or_default}
 use Rattle.mpw_hier.proofs.ElementBoxes.{segment_on, last_end, inner_end}

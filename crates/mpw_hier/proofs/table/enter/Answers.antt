@@ -1,3 +1,4 @@
+-- Answers to the goals of `enter` in `src/table.rt`.
 use Rattle.std.proofs.Common.{◌≡◌, ℕ, List, cond, Some, subst}
 use Rattle.std.specs.BTreeMap as tree
 use Rattle.std.specs.Ordering.{is_eq}

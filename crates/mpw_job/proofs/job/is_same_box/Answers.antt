@@ -1,3 +1,4 @@
+-- Answers to the goals of `is_same_box` in `src/job.rt`.
 use Rattle.mpw_geom.proofs.Boxes.{same_area}
 use Rattle.mpw_job.proofs.job.is_same_box.Goals as goal
 

@@ -1,3 +1,4 @@
+-- Answers to the goals of `answers_make_the_layout` in `src/laws.rt`.
 use Rattle.mpw_job.proofs.Made.{made}
 use Rattle.mpw_job.proofs.laws.answers_make_the_layout.Goals as goal
 

@@ -1,3 +1,4 @@
+-- Answers to the goals of `each_marker_meets_some` in `src/laws.rt`.
 use Rattle.mpw_job.proofs.Edges.{each_meets}
 use Rattle.mpw_job.proofs.laws.each_marker_meets_some.Goals as goal
 

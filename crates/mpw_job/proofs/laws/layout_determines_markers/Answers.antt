@@ -1,3 +1,4 @@
+-- Answers to the goals of `layout_determines_markers` in `src/laws.rt`.
 use Rattle.mpw_job.proofs.Unique.{one_list}
 use Rattle.mpw_job.proofs.laws.layout_determines_markers.Goals as goal
 

@@ -1,3 +1,4 @@
+-- Answers to the goals of `no_shapes_no_markers` in `src/laws.rt`.
 use Rattle.mpw_job.proofs.Edges.{none_without}
 use Rattle.mpw_job.proofs.laws.no_shapes_no_markers.Goals as goal
 

@@ -1,3 +1,4 @@
+-- Answers to the goals of `tile_job` in `src/tiles.rt`.
 use Rattle.std.proofs.Common.{◌≡◌, List, length, sym, subst, ap, ◌∙◌, arith}
 use Rattle.mpw_geom.specs.Plane.{IsBoxInPlane}
 use Rattle.mpw_deck.specs.declared.rule.Rule.{Rule}

@@ -1,3 +1,4 @@
+-- The invariants of the loops of `are_columns` in `src/column.rt`.
 use Rattle.std.proofs.Common.{drop}
 use Rattle.std.specs.Prelude.{◌↔◌}
 use Rattle.mpw_keys.specs.Columns.{AreColumns}

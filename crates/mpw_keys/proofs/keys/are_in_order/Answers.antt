@@ -1,3 +1,4 @@
+-- Answers to the goals of `are_in_order` in `src/keys.rt`.
 use Rattle.std.proofs.Common.{rules}
 use Rattle.mpw_keys.proofs.Ordered.{next_place, all_passed}
 use Rattle.mpw_keys.proofs.keys.are_in_order.Goals as goal

@@ -1,3 +1,4 @@
+-- The invariants of the loops of `are_in_order` in `src/keys.rt`.
 use Rattle.std.proofs.Common.{◌≡◌, ◌-◌, drop}
 use Rattle.mpw_keys.specs.Keys.{are_in_order}
 use Rattle.mpw_keys.proofs.keys.are_in_order.Given as goal

@@ -1,3 +1,4 @@
+-- Answers to the goals of `displaced_key` in `src/keys.rt`.
 use Rattle.std.proofs.Common.{w64, refl, arith, rules}
 use Rattle.std.proofs.lemmas.Int.{ints, to_z-of_z}
 use Rattle.mpw_keys.specs.Keys.{displaced_key}

@@ -1,3 +1,4 @@
+-- The invariants of the loops of `displaced_keys` in `src/keys.rt`.
 use Rattle.std.proofs.Common.{◌≡◌, map, take}
 use Rattle.mpw_keys.specs.Keys.{displaced_key}
 use Rattle.mpw_keys.proofs.keys.displaced_keys.Given as goal

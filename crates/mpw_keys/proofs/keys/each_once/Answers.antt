@@ -1,3 +1,4 @@
+-- Answers to the goals of `each_once` in `src/keys.rt`.
 use Rattle.std.proofs.Common.{◌∙◌, rules}
 use Rattle.std.specs.Ordering.{eq_by_cmp}
 use Rattle.std.proofs.lemmas.Fn.{dedup_same}

@@ -1,3 +1,4 @@
+-- Answers to the goals of `sorted` in `src/keys.rt`.
 use Rattle.std.proofs.Common.{rules}
 use Rattle.mpw_keys.proofs.KeyOrder.{sorted_from_sort}
 use Rattle.mpw_keys.proofs.keys.sorted.Goals as goal

@@ -1,3 +1,4 @@
+-- Answers to the goals of `test_decides_order` in `src/laws.rt`.
 use Rattle.mpw_keys.proofs.Ordered.{decides}
 use Rattle.mpw_keys.proofs.laws.test_decides_order.Goals as goal
 

@@ -1,3 +1,4 @@
+-- Answers to the goals of `add_list` in `src/lists.rt`.
 use Rattle.std.specs.Prelude.{filter}
 use Rattle.mpw_keys.specs.Keys.{is_of_list, list_of}
 use Rattle.mpw_keys.proofs.Added.{next_list, all_added}

@@ -1,3 +1,4 @@
+-- The invariants of the loops of `add_list` in `src/lists.rt`.
 use Rattle.std.proofs.Common.{◌≡◌, ◌++◌, map, take}
 use Rattle.mpw_keys.specs.Keys.{list_of, of_first}
 use Rattle.mpw_keys.proofs.lists.add_list.Given as goal

@@ -1,3 +1,4 @@
+-- Answers to the goals of `add_markers` in `src/lists.rt`.
 use Rattle.std.proofs.Common.{List}
 use Rattle.mpw_markers.specs.declared.marker.Key.{Key}
 use Rattle.mpw_keys.proofs.Added.{next_added, all_added}

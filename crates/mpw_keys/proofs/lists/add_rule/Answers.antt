@@ -1,3 +1,4 @@
+-- Answers to the goals of `add_rule` in `src/lists.rt`.
 use Rattle.std.proofs.lemmas.Result.{on_ok_weaker}
 use Rattle.mpw_keys.specs.Keys.{lists_of_sides}
 use Rattle.mpw_keys.proofs.Added.{added}

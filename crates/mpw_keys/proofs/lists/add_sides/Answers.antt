@@ -1,3 +1,4 @@
+-- Answers to the goals of `add_sides` in `src/lists.rt`.
 use Rattle.std.proofs.Common.{◌≡◌, ◌+◌, ◌*◌, ◌++◌, ℕ, map, subst}
 use Rattle.std.proofs.lemmas.Result.{on_ok_weaker}
 use Rattle.mpw_keys.specs.Keys.{list_of, lists_of_sides, of_first}

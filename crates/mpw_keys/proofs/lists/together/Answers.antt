@@ -1,3 +1,4 @@
+-- Answers to the goals of `together` in `src/lists.rt`.
 use Rattle.std.proofs.Common.{◌≡◌, ℕ, map, ap, ◌∙◌, arith}
 use Rattle.mpw_keys.specs.Keys.{together, of_first}
 use Rattle.mpw_keys.proofs.Added.{next_rule}

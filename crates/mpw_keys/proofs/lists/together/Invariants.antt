@@ -1,3 +1,4 @@
+-- The invariants of the loops of `together` in `src/lists.rt`.
 use Rattle.std.proofs.Common.{◌≡◌, ◌≤◌, map}
 use Rattle.mpw_keys.specs.Keys.{together, of_first}
 use Rattle.mpw_keys.proofs.lists.together.Given as goal

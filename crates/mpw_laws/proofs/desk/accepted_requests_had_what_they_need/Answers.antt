@@ -1,3 +1,4 @@
+-- Answers to the goals of `accepted_requests_had_what_they_need` in `src/desk.rt`.
 use Rattle.mpw_requests.specs.Needs.{need_of}
 use Rattle.mpw_laws.proofs.GuardLemmas.{guarded_ok}
 use Rattle.mpw_laws.proofs.desk.accepted_requests_had_what_they_need.Goals as goal

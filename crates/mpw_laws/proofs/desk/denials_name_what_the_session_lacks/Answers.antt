@@ -1,3 +1,4 @@
+-- Answers to the goals of `denials_name_what_the_session_lacks` in `src/desk.rt`.
 use Rattle.mpw_laws.proofs.DenialLemmas.{lacks-permission, lacks-role}
 use Rattle.mpw_laws.proofs.desk.denials_name_what_the_session_lacks.Goals as goal
 

@@ -1,3 +1,4 @@
+-- Answers to the goals of `denials_to_sign_are_true` in `src/desk.rt`.
 use Rattle.mpw_laws.proofs.WaiverLemmas.{asker-told, submitter-told}
 use Rattle.mpw_laws.proofs.desk.denials_to_sign_are_true.Goals as goal
 

@@ -1,3 +1,4 @@
+-- Answers to the goals of `every_state_keeps_its_tables` in `src/desk.rt`.
 use Rattle.std.proofs.Common.{ℕ}
 use Rattle.mpw_rbac_laws.specs.Existing.{AreTablesSound, KeepsTables}
 use Rattle.mpw_requests.specs.declared.policy.PolicyRequest.{PolicyRequest}

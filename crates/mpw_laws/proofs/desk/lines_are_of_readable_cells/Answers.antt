@@ -1,3 +1,4 @@
+-- Answers to the goals of `lines_are_of_readable_cells` in `src/desk.rt`.
 use Rattle.mpw_laws.proofs.ReadableLemmas.{readable-lines}
 use Rattle.mpw_laws.proofs.desk.lines_are_of_readable_cells.Goals as goal
 

@@ -1,3 +1,4 @@
+-- Answers to the goals of `own_requests_are_never_denied_a_permission` in `src/desk.rt`.
 use Rattle.std.proofs.Common.{◌≡◌, ℕ, false, inl, inr, true≢false}
 use Rattle.mpw_permissions.specs.declared.permission.Object.{Object}
 use Rattle.mpw_permissions.specs.declared.permission.Operation.{Operation}

@@ -1,3 +1,4 @@
+-- Answers to the goals of `sets_are_denied_for_what_was_asked` in `src/desk.rt`.
 use Rattle.std.proofs.Common.{ℕ}
 use Rattle.mpw_requests.specs.declared.policy.PolicyRequest.{PolicyRequest}
 use Rattle.mpw_requests.specs.declared.policy.PolicyRequest.TheVariants.{Open, Close, Activate, DropRole, AddUser, DelUser, AddRole, DelRole, Assign, Deassign, Grant, Revoke, Inherit, Uninherit, Ssd, Dsd, UnSsd, UnDsd}

@@ -1,3 +1,4 @@
+-- Answers to the goals of `waivers_are_signed_apart` in `src/desk.rt`.
 use Rattle.mpw_laws.proofs.WaiverLemmas.{asked-shown, signed-apart}
 use Rattle.mpw_laws.proofs.desk.waivers_are_signed_apart.Goals as goal
 

@@ -1,3 +1,4 @@
+-- Answers to the goals of `lines_of_layouts_are_of_readable_cells` in `src/layouts.rt`.
 use Rattle.mpw_laws.proofs.ReadableLines.{readable_layouts}
 use Rattle.mpw_laws.proofs.layouts.lines_of_layouts_are_of_readable_cells.Goals as goal
 

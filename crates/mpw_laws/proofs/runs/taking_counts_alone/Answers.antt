@@ -1,3 +1,4 @@
+-- Answers to the goals of `taking_counts_alone` in `src/runs.rt`.
 use Rattle.mpw_laws.proofs.Staying.{counts_alone}
 use Rattle.mpw_laws.proofs.runs.taking_counts_alone.Goals as goal
 

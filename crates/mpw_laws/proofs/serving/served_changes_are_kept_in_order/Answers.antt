@@ -1,3 +1,4 @@
+-- Answers to the goals of `served_changes_are_kept_in_order` in `src/serving.rt`.
 use Rattle.mpw_laws.proofs.ServingLemmas.{served_on}
 use Rattle.mpw_laws.proofs.serving.served_changes_are_kept_in_order.Goals as goal
 

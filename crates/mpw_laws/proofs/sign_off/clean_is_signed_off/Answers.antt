@@ -1,3 +1,4 @@
+-- Answers to the goals of `clean_is_signed_off` in `src/sign_off.rt`.
 use Rattle.mpw_laws.proofs.Verdicts.{clean_is_signed}
 use Rattle.mpw_laws.proofs.sign_off.clean_is_signed_off.Goals as goal
 

@@ -1,3 +1,4 @@
+-- Answers to the goals of `denials_of_separation_are_true` in `src/sign_off.rt`.
 use Rattle.mpw_laws.proofs.SignOffDenials.{submitters_told, askers_told}
 use Rattle.mpw_laws.proofs.sign_off.denials_of_separation_are_true.Goals as goal
 

@@ -1,3 +1,4 @@
+-- Answers to the goals of `signed_off_is_clean` in `src/sign_off.rt`.
 use Rattle.mpw_laws.proofs.Verdicts.{signed_is_clean}
 use Rattle.mpw_laws.proofs.sign_off.signed_off_is_clean.Goals as goal
 

@@ -1,3 +1,4 @@
+-- Answers to the goals of `signers_stand_apart` in `src/sign_off.rt`.
 use Rattle.mpw_laws.proofs.Shown.{signers_apart}
 use Rattle.mpw_laws.proofs.sign_off.signers_stand_apart.Goals as goal
 

@@ -1,3 +1,4 @@
+-- Answers to the goals of `waivers_are_of_shown_markers` in `src/sign_off.rt`.
 use Rattle.mpw_laws.proofs.Listed.{told_are_shown}
 use Rattle.mpw_laws.proofs.Shown.{asked_are_shown}
 use Rattle.mpw_laws.proofs.sign_off.waivers_are_of_shown_markers.Goals as goal

@@ -1,3 +1,4 @@
+-- Answers to the goals of `work_goes_on` in `src/work.rt`.
 use Rattle.mpw_laws.proofs.WorkLemmas.{behind_on}
 use Rattle.mpw_laws.proofs.work.work_goes_on.Goals as goal
 

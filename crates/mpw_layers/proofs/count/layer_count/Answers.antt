@@ -1,3 +1,4 @@
+-- Answers to the goals of `layer_count` in `src/count.rt`.
 use Rattle.std.proofs.Common.{ap, ◌∙◌}
 use Rattle.std.specs.List.{sum_by}
 use Rattle.mpw_seen.specs.Internal.Counts.{told}

@@ -1,3 +1,4 @@
+-- Answers to the goals of `many` in `src/count.rt`.
 use Rattle.std.proofs.Common.{◌≤◌, length, subst, sym}
 use Rattle.mpw_hier.proofs.Shelving.{shelf_few}
 use Rattle.mpw_layers.proofs.count.many.Goals as goal

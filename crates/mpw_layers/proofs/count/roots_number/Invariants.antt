@@ -1,3 +1,4 @@
+-- The invariants of the loops of `roots_number` in `src/count.rt`.
 use Rattle.std.proofs.Common.{◌≡◌, take}
 use Rattle.std.specs.List.{sum_by}
 use Rattle.mpw_seen.specs.Internal.Counts.{told}

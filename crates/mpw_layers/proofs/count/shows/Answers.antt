@@ -1,3 +1,4 @@
+-- Answers to the goals of `shows` in `src/count.rt`.
 use Rattle.mpw_layers.proofs.Counted.{shows_some}
 use Rattle.mpw_layers.proofs.count.shows.Goals as goal
 

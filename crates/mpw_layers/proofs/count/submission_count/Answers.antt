@@ -1,3 +1,4 @@
+-- Answers to the goals of `submission_count` in `src/count.rt`.
 use Rattle.std.proofs.Common.{◌-◌, length, ap, ◌∙◌}
 use Rattle.std.specs.Prelude.{slice_index}
 use Rattle.mpw_layers.proofs.Counted.{count_told}

@@ -1,3 +1,4 @@
+-- The invariants of the loops of `submission_counts` in `src/count.rt`.
 use Rattle.mpw_layers.specs.Internal.Counts.{AreCounts}
 use Rattle.mpw_layers.proofs.count.submission_counts.Given as goal
 

@@ -1,3 +1,4 @@
+-- The invariants of the loops of `add_children` in `src/gathered.rt`.
 use Rattle.std.proofs.Common.{◌≡◌, take}
 use Rattle.std.specs.Prelude.{fold}
 use Rattle.mpw_layers.specs.Internal.Gathered.{with_child}

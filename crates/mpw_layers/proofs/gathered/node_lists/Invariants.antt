@@ -1,3 +1,4 @@
+-- The invariants of the loops of `node_lists` in `src/gathered.rt`.
 use Rattle.mpw_layers.specs.Internal.Values.{AreValues}
 use Rattle.mpw_layers.specs.Internal.Gathered.{node_layers}
 use Rattle.mpw_layers.proofs.gathered.node_lists.Given as goal

@@ -1,3 +1,4 @@
+-- The invariants of the loops of `is_there` in `src/layers.rt`.
 use Rattle.std.proofs.Common.{◌≡◌, drop}
 use Rattle.std.specs.List.{list_any}
 use Rattle.mpw_geom.specs.Layers.{same_layer}

@@ -1,3 +1,4 @@
+-- The invariants of the loops of `is_named` in `src/named.rt`.
 use Rattle.std.proofs.Common.{◌≡◌, drop}
 use Rattle.mpw_layers.specs.Unnamed.{is_named}
 use Rattle.mpw_layers.proofs.named.is_named.Given as goal

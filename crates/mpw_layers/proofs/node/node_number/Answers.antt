@@ -1,3 +1,4 @@
+-- Answers to the goals of `node_number` in `src/node.rt`.
 use Rattle.std.specs.List.{sum_by}
 use Rattle.mpw_seen.specs.Internal.Counts.{child_number}
 use Rattle.mpw_seen.proofs.Sums.{told_more}

@@ -1,3 +1,4 @@
+-- The invariants of the loops of `node_number` in `src/node.rt`.
 use Rattle.std.proofs.Common.{◌≡◌, ◌+◌, take}
 use Rattle.std.specs.List.{sum_by}
 use Rattle.mpw_seen.specs.Internal.Counts.{told, child_number}

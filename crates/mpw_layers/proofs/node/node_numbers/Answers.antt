@@ -1,3 +1,4 @@
+-- Answers to the goals of `node_numbers` in `src/node.rt`.
 use Rattle.std.proofs.Common.{refl, ◌∙◌}
 use Rattle.std.proofs.lemmas.Option.{slice_get_read}
 use Rattle.mpw_layers.specs.Internal.Counts.{node_number}

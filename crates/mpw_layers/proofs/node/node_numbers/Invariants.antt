@@ -1,3 +1,4 @@
+-- The invariants of the loops of `node_numbers` in `src/node.rt`.
 use Rattle.mpw_layers.specs.Internal.Values.{AreValues}
 use Rattle.mpw_layers.specs.Internal.Counts.{node_number}
 use Rattle.mpw_layers.proofs.node.node_numbers.Given as goal

@@ -1,3 +1,4 @@
+-- Answers to the goals of `submission_list` in `src/unnamed.rt`.
 use Rattle.std.proofs.Common.{◌≡◌, [], length, rules}
 use Rattle.mpw_layers.specs.Internal.Gathered.{node_layers, gathered}
 use Rattle.mpw_layers.proofs.Adding.{layers_tell, last_taken}

@@ -1,3 +1,4 @@
+-- The invariants of the loops of `submission_lists` in `src/unnamed.rt`.
 use Rattle.mpw_layers.specs.Internal.Gathered.{AreGathered}
 use Rattle.mpw_layers.proofs.unnamed.submission_lists.Given as goal
 

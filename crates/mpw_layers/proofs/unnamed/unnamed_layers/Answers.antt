@@ -1,3 +1,4 @@
+-- Answers to the goals of `unnamed_layers` in `src/unnamed.rt`.
 use Rattle.std.proofs.Common.{◌∙◌}
 use Rattle.mpw_layers.proofs.Adding.{roots_gathered}
 use Rattle.mpw_layers.proofs.unnamed.unnamed_layers.Goals as goal

@@ -1,3 +1,4 @@
+-- The invariants of the loops of `cell_lines` in `src/rows.rt`.
 use Rattle.std.proofs.Common.{◌≡◌, take}
 use Rattle.std.specs.List.{flat_map}
 use Rattle.mpw_layouts.specs.Layouts.{readable_line}

@@ -1,3 +1,4 @@
+-- Answers to the goals of `keep` in `src/rows.rt`.
 use Rattle.std.proofs.Common.{◌≡◌, Some}
 use Rattle.std.specs.Prelude.{slice_get}
 use Rattle.mpw_hier.specs.Limits.{numbered}

@@ -1,3 +1,4 @@
+-- Answers to the goals of `outside` in `src/rows.rt`.
 use Rattle.std.proofs.Common.{sym, subst}
 use Rattle.mpw_replies.specs.Rows.{Told}
 use Rattle.mpw_layouts.specs.Layouts.{outside}

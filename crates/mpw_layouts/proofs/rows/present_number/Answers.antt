@@ -1,3 +1,4 @@
+-- Answers to the goals of `present_number` in `src/rows.rt`.
 use Rattle.std.proofs.Common.{sym, ◌∙◌}
 use Rattle.mpw_layouts.proofs.rows.present_number.Goals as goal
 

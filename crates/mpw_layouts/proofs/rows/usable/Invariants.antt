@@ -1,3 +1,4 @@
+-- The invariants of the loops of `usable` in `src/rows.rt`.
 use Rattle.std.proofs.Common.{◌≡◌, drop}
 use Rattle.mpw_layouts.specs.Layouts.{usable}
 use Rattle.mpw_layouts.proofs.rows.usable.Given as goal

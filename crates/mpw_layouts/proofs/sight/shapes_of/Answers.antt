@@ -1,3 +1,4 @@
+-- Answers to the goals of `shapes_of` in `src/sight.rt`.
 use Rattle.std.proofs.Common.{◌≡◌, ap, ◌∙◌}
 use Rattle.std.proofs.lemmas.Result.{IfOk-weaker}
 use Rattle.mpw_hier.specs.Values.{flat}

@@ -1,3 +1,4 @@
+-- Answers to the goals of `libraries_are_derived` in `src/laws.rt`.
 use Rattle.mpw_library.proofs.DerivedLibrary as library
 use Rattle.mpw_library.proofs.laws.libraries_are_derived.Goals as goal
 

@@ -1,3 +1,4 @@
+-- Answers to the goals of `read_elements` in `src/read.rt`.
 use Rattle.std.proofs.Common.{Ok, sym, ap, subst, ◌∙◌, arith, refl}
 use Rattle.std.proofs.lemmas.List.Elements.{All-push}
 use Rattle.std.proofs.lemmas.Result.{err_from_is_err_and}

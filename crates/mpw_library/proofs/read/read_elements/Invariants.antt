@@ -1,3 +1,4 @@
+-- The invariants of the loops of `read_elements` in `src/read.rt`.
 use Rattle.std.proofs.Common.{◌≤◌, length, All}
 use Rattle.mpw_structures.specs.Element.{IsElement}
 use Rattle.mpw_library.specs.Grammar.{all_elements}

@@ -1,3 +1,4 @@
+-- Answers to the goals of `read_shared` in `src/read.rt`.
 use Rattle.std.proofs.Common.{◌<◌, ◌^◌, length, rules, arith}
 use Rattle.mpw_library.proofs.DerivedLibrary.{text_of_read}
 use Rattle.mpw_library.proofs.FrontLibrary.{first_told}

@@ -1,3 +1,4 @@
+-- Answers to the goals of `read_structures` in `src/read.rt`.
 use Rattle.std.proofs.Common.{Option, Ok, IfSome, ap, subst, ◌∙◌}
 use Rattle.std.proofs.lemmas.List.Elements.{All-push}
 use Rattle.std.proofs.lemmas.Result.{err_from_is_err_and}

@@ -1,3 +1,4 @@
+-- The invariants of the loops of `read_structures` in `src/read.rt`.
 use Rattle.std.proofs.Common.{length}
 use Rattle.mpw_structures.specs.Library.{IsLibrary}
 use Rattle.mpw_library.specs.Grammar.{all_structures}

@@ -1,3 +1,4 @@
+-- Answers to the goals of `unit` in `src/read.rt`.
 use Rattle.std.proofs.Common.{◌≡◌, ℕ, ◌-◌, List, length, take, drop, Err, sym, ap, ◌∙◌, arith}
 use Rattle.std.proofs.lemmas.List.{take_all, length-drop}
 use Rattle.mpw_records.specs.Records.{raw}

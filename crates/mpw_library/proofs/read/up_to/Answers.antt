@@ -1,3 +1,4 @@
+-- Answers to the goals of `up_to` in `src/read.rt`.
 use Rattle.std.proofs.Common.{◌∷◌, Err, sym, ap, ◌∙◌}
 use Rattle.std.proofs.lemmas.Result.{err_from_is_err_and}
 use Rattle.mpw_records.specs.Records.{raw, seen}

@@ -1,3 +1,4 @@
+-- The invariants of the loops of `up_to` in `src/read.rt`.
 use Rattle.std.proofs.Common.{◌≡◌, length}
 use Rattle.mpw_library.specs.Grammar.{up_to}
 use Rattle.mpw_library.proofs.read.up_to.Given as goal

@@ -1,3 +1,4 @@
+-- The invariants of the loops of `count_of_rule` in `src/count.rt`.
 use Rattle.std.proofs.Common.{◌≡◌, ◌≤◌, take}
 use Rattle.mpw_listing.specs.Limited.{count_of}
 use Rattle.mpw_listing.proofs.count.count_of_rule.Given as goal

@@ -1,3 +1,4 @@
+-- Answers to the goals of `listed_count` in `src/limited.rt`.
 use Rattle.std.proofs.Common.{◌≡◌, ◌∙◌, ◌+◌, ◌-◌, ◌^◌, ℕ, take, sym, ap, arith}
 use Rattle.std.specs.Prelude.{min, sum_by}
 use Rattle.std.specs.List.{enumerate_from}

@@ -1,3 +1,4 @@
+-- The invariants of the loops of `listed_count` in `src/limited.rt`.
 use Rattle.std.proofs.Common.{◌≡◌, ◌-◌, ◌^◌, take}
 use Rattle.std.specs.Prelude.{min, sum_by}
 use Rattle.std.specs.List.{enumerate_from}

@@ -1,3 +1,4 @@
+-- Answers to the goals of `put_lines` in `src/limited.rt`.
 use Rattle.std.proofs.Common.{take, subst}
 use Rattle.std.specs.List.{flat_map, enumerate_from}
 use Rattle.std.specs.Io.KnownBytes.{Appends}

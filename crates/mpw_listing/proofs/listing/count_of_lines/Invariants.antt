@@ -1,3 +1,4 @@
+-- The invariants of the loops of `count_of_lines` in `src/listing.rt`.
 use Rattle.std.proofs.Common.{◌≡◌, ◌≤◌, take}
 use Rattle.mpw_listing.specs.Listing.{count_of_lines}
 use Rattle.mpw_listing.proofs.listing.count_of_lines.Given as goal

@@ -1,3 +1,4 @@
+-- Answers to the goals of `one_view_is_answered_alike` in `src/views.rt`.
 use Rattle.mpw_listing_laws.proofs.Alike.{alike}
 use Rattle.mpw_listing_laws.proofs.views.one_view_is_answered_alike.Goals as goal
 

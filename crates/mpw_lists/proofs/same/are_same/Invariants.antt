@@ -1,3 +1,4 @@
+-- The invariants of the loops of `are_same` in `src/same.rt`.
 use Rattle.std.proofs.Common.{◌≡◌, take}
 use Rattle.mpw_lists.proofs.same.are_same.Given as goal
 

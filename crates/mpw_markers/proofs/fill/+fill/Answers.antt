@@ -1,3 +1,4 @@
+-- Answers to the goals of `fill` in `src/fill.rt`.
 use Rattle.mpw_markers.proofs.fill.+fill.Goals as goal
 use Rattle.std.proofs.Common.{List, length, subst, sym, inl, inr, arith, refl}
 use Rattle.std.proofs.lemmas.Result.{on_ok_weaker}

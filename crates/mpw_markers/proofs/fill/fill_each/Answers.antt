@@ -1,3 +1,4 @@
+-- Answers to the goals of `fill_each` in `src/fill.rt`.
 use Rattle.mpw_markers.proofs.fill.fill_each.Goals as goal
 use Rattle.std.proofs.Common.{length}
 use Rattle.mpw_markers.proofs.Filled.{Fills-more, can_at}

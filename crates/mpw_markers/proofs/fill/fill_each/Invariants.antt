@@ -1,3 +1,4 @@
+-- The invariants of the loops of `fill_each` in `src/fill.rt`.
 use Rattle.std.proofs.Common.{take}
 use Rattle.mpw_markers.specs.Internal.Search.{Fills}
 use Rattle.mpw_markers.proofs.fill.fill_each.Given as goal

@@ -1,3 +1,4 @@
+-- Answers to the goals of `fill_one` in `src/fill.rt`.
 use Rattle.mpw_markers.proofs.fill.fill_one.Goals as goal
 use Rattle.std.proofs.Common.{refl}
 use Rattle.mpw_markers.proofs.Filled.{Fills-one}

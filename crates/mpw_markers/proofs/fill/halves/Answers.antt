@@ -1,3 +1,4 @@
+-- Answers to the goals of `halves` in `src/fill.rt`.
 use Rattle.std.proofs.Common.{◌≡◌, List, [], ◌∷◌, ◌++◌, subst, ap, ◌∙◌}
 use Rattle.std.specs.List.Sorted.{IsPermutation}
 use Rattle.mpw_markers.specs.declared.search.Item.{Item}

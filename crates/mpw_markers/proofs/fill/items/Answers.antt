@@ -1,3 +1,4 @@
+-- Answers to the goals of `items` in `src/fill.rt`.
 use Rattle.mpw_markers.proofs.fill.items.Goals as goal
 use Rattle.std.proofs.Common.{arith, get_or, refl}
 use Rattle.std.proofs.lemmas.List.{get_or_default}

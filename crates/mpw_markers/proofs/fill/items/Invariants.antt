@@ -1,3 +1,4 @@
+-- The invariants of the loops of `items` in `src/fill.rt`.
 use Rattle.mpw_markers.proofs.Filled.{AreItemsBefore}
 use Rattle.mpw_markers.proofs.fill.items.Given as goal
 

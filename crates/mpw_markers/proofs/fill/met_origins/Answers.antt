@@ -1,3 +1,4 @@
+-- Answers to the goals of `met_origins` in `src/fill.rt`.
 use Rattle.mpw_markers.proofs.fill.met_origins.Goals as goal
 use Rattle.std.proofs.Common.{length}
 use Rattle.mpw_markers.proofs.Filled.{all_answers, items_can}

@@ -1,3 +1,4 @@
+-- The invariants of the loops of `none` in `src/fill.rt`.
 use Rattle.std.proofs.Common.{◌≡◌, length}
 use Rattle.mpw_markers.proofs.fill.none.Given as goal
 

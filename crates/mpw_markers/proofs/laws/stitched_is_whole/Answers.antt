@@ -1,3 +1,4 @@
+-- Answers to the goals of `stitched_is_whole` in `src/laws.rt`.
 use Rattle.std.proofs.Common.{◌≡◌, true}
 use Rattle.mpw_markers.proofs.Maximal.{stitched}
 use Rattle.mpw_markers.proofs.laws.stitched_is_whole.Goals as goal

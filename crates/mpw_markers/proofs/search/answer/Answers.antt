@@ -1,3 +1,4 @@
+-- Answers to the goals of `answer` in `src/search.rt`.
 use Rattle.mpw_markers.proofs.search.answer.Goals as goal
 use Rattle.mpw_markers.proofs.Shared.{collects_met, collects_passed, collects_end, answered}
 use Rattle.std.proofs.Common.{refl}

@@ -1,3 +1,4 @@
+-- The invariants of the loops of `answer` in `src/search.rt`.
 use Rattle.std.proofs.Common.{take}
 use Rattle.mpw_markers.proofs.Shared.{Collects}
 use Rattle.mpw_markers.proofs.search.answer.Given as goal

@@ -1,3 +1,4 @@
+-- Answers to the goals of `hull` in `src/search.rt`.
 use Rattle.mpw_markers.proofs.search.hull.Goals as goal
 use Rattle.mpw_markers.proofs.Filled.{within_joined, within_all}
 

@@ -1,3 +1,4 @@
+-- The invariants of the loops of `hull` in `src/search.rt`.
 use Rattle.std.proofs.Common.{take}
 use Rattle.std.specs.Prelude.{Contains}
 use Rattle.mpw_markers.specs.declared.search.Item.{Item}

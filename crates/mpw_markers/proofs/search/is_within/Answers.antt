@@ -1,3 +1,4 @@
+-- Answers to the goals of `is_within` in `src/search.rt`.
 use Rattle.std.proofs.Common.{arith}
 use Rattle.std.proofs.lemmas.Int.{ints}
 use Rattle.mpw_markers.proofs.search.is_within.Goals as goal

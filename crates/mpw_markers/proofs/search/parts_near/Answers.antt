@@ -1,3 +1,4 @@
+-- Answers to the goals of `parts_near` in `src/search.rt`.
 use Rattle.mpw_markers.proofs.search.parts_near.Goals as goal
 use Rattle.std.proofs.Common.{refl}
 use Rattle.std.proofs.lemmas.Bool.{both_ways}

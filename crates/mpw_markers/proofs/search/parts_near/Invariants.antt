@@ -1,3 +1,4 @@
+-- The invariants of the loops of `parts_near` in `src/search.rt`.
 use Rattle.std.proofs.Common.{take}
 use Rattle.mpw_markers.specs.Internal.Search.{AreAlikeIn}
 use Rattle.mpw_markers.proofs.search.parts_near.Given as goal

@@ -1,3 +1,4 @@
+-- The invariants of the loops of `add_all` in `src/stitching.rt`.
 use Rattle.std.proofs.Common.{◌≡◌, ◌++◌, take}
 use Rattle.mpw_markers.proofs.Referred.{seen}
 use Rattle.mpw_markers.proofs.stitching.add_all.Given as goal

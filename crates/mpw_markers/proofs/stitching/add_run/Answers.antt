@@ -1,3 +1,4 @@
+-- Answers to the goals of `add_run` in `src/stitching.rt`.
 use Rattle.std.proofs.Common.{take, sym, subst}
 use Rattle.mpw_markers.specs.declared.marker.Marker.{Marker}
 use Rattle.mpw_markers.specs.Markers.{key_of}

@@ -1,3 +1,4 @@
+-- Answers to the goals of `all_markers` in `src/stitching.rt`.
 use Rattle.std.proofs.Common.{◌∙◌, ◌++◌, ap, sym, subst, List}
 use Rattle.std.specs.Prelude.{All}
 use Rattle.std.specs.List.{flat_map}

@@ -1,3 +1,4 @@
+-- The invariants of the loops of `all_markers` in `src/stitching.rt`.
 use Rattle.std.proofs.Common.{◌≡◌, take, List}
 use Rattle.std.specs.Prelude.{All}
 use Rattle.std.specs.List.{flat_map}

@@ -1,3 +1,4 @@
+-- Answers to the goals of `all_numbers` in `src/stitching.rt`.
 use Rattle.std.proofs.Common.{◌∙◌, ◌++◌, Bor, ap}
 use Rattle.std.specs.List.{flat_map}
 use Rattle.std.proofs.lemmas.List.{take_all}

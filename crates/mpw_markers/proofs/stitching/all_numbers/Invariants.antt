@@ -1,3 +1,4 @@
+-- The invariants of the loops of `all_numbers` in `src/stitching.rt`.
 use Rattle.std.proofs.Common.{◌≡◌, Bor, take}
 use Rattle.std.specs.List.{flat_map}
 use Rattle.mpw_markers.specs.declared.marker.Marker.{Marker}

@@ -1,3 +1,4 @@
+-- Answers to the goals of `first_run` in `src/stitching.rt`.
 use Rattle.std.proofs.Common.{◌<◌, ◌≤◌, sym, subst}
 use Rattle.mpw_markers.specs.Internal.Runs.{IsFirstRun}
 use Rattle.mpw_markers.proofs.Grouped.{started, taken_in, stopped, all_reached}

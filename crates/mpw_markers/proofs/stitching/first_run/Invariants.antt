@@ -1,3 +1,4 @@
+-- The invariants of the loops of `first_run` in `src/stitching.rt`.
 use Rattle.mpw_markers.proofs.Grouped.{Reaches}
 use Rattle.mpw_markers.proofs.Referred.{seen}
 use Rattle.mpw_markers.proofs.stitching.first_run.Given as goal

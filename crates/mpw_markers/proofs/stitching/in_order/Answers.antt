@@ -1,3 +1,4 @@
+-- Answers to the goals of `in_order` in `src/stitching.rt`.
 use Rattle.std.proofs.Common.{Bor, rules}
 use Rattle.std.proofs.lemmas.List.Sorted.{IsPermutation-map}
 use Rattle.mpw_markers.specs.declared.marker.Marker.{Marker}

@@ -1,3 +1,4 @@
+-- Answers to the goals of `join` in `src/stitching.rt`.
 use Rattle.std.proofs.Common.{ℕ, ◌≤◌, ◌-◌, ◌≡◌, Bor, length, take, List, drop, sym, subst, ap, ◌∙◌}
 use Rattle.std.specs.Prelude.{All, Contains}
 use Rattle.std.proofs.lemmas.List.{take_all, take_rest}

@@ -1,3 +1,4 @@
+-- The invariants of the loops of `join` in `src/stitching.rt`.
 use Rattle.std.proofs.Common.{◌-◌, length}
 use Rattle.mpw_markers.proofs.Joins.{Joins}
 use Rattle.mpw_markers.proofs.Referred.{seen}

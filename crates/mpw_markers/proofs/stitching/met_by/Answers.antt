@@ -1,3 +1,4 @@
+-- Answers to the goals of `met_by` in `src/stitching.rt`.
 use Rattle.std.proofs.Common.{◌∙◌, Bor, sym}
 use Rattle.std.proofs.lemmas.List.Folds.{flat_map-map}
 use Rattle.mpw_markers.specs.declared.marker.Marker.{Marker}

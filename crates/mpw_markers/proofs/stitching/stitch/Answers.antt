@@ -1,3 +1,4 @@
+-- Answers to the goals of `stitch` in `src/stitching.rt`.
 use Rattle.std.proofs.Common.{List, ap, subst, sym}
 use Rattle.std.specs.Prelude.{All, Contains}
 use Rattle.std.proofs.lemmas.Result.{IfOk-weaker}

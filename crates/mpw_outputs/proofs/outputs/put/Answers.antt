@@ -1,3 +1,4 @@
+-- Answers to the goals of `put` in `src/outputs.rt`.
 use Rattle.std.proofs.Common.{subst}
 use Rattle.std.specs.Prelude.{IfErr}
 use Rattle.std.proofs.lemmas.Result.{IfOk-weaker}

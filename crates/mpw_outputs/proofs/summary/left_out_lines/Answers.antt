@@ -1,3 +1,4 @@
+-- Answers to the goals of `left_out_lines` in `src/summary.rt`.
 use Rattle.std.proofs.Common.{◌∙◌, ◌++◌, ℕ, List, take, ap}
 use Rattle.std.specs.List.{flat_map, enumerate_from}
 use Rattle.mpw_deck.specs.declared.rule.Rule.{Rule}

@@ -1,3 +1,4 @@
+-- The invariants of the loops of `left_out_lines` in `src/summary.rt`.
 use Rattle.std.proofs.Common.{◌≡◌, take}
 use Rattle.std.specs.List.{flat_map, enumerate_from}
 use Rattle.std.specs.String.{string_bytes}

@@ -1,3 +1,4 @@
+-- Answers to the goals of `put_rules` in `src/summary.rt`.
 use Rattle.std.proofs.Common.{◌≡◌, ◌∙◌, ℕ, List, get_or, take, ap, subst}
 use Rattle.std.specs.List.{flat_map, enumerate_from}
 use Rattle.std.specs.Io.KnownBytes.{Appends}

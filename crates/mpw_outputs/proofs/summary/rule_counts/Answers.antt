@@ -1,3 +1,4 @@
+-- Answers to the goals of `rule_counts` in `src/summary.rt`.
 use Rattle.std.proofs.Common.{List, ap, ◌∙◌, arith}
 use Rattle.std.proofs.lemmas.List.{take_all}
 use Rattle.std.proofs.lemmas.List.FromFn.{fill_by_all}

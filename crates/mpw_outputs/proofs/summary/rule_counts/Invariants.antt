@@ -1,3 +1,4 @@
+-- The invariants of the loops of `rule_counts` in `src/summary.rt`.
 use Rattle.std.proofs.Common.{◌≡◌, length, take}
 use Rattle.mpw_outputs.specs.Internal.Counted.{AreCounts}
 use Rattle.mpw_outputs.proofs.summary.rule_counts.Given as goal

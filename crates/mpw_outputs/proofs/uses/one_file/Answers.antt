@@ -1,3 +1,4 @@
+-- Answers to the goals of `one_file` in `src/uses.rt`.
 use Rattle.mpw_outputs.specs.Apart.{one_file_text}
 use Rattle.mpw_outputs.proofs.uses.one_file.Goals as goal
 

@@ -1,3 +1,4 @@
+-- Answers to the goals of `same_as` in `src/uses.rt`.
 use Rattle.std.proofs.Common.{◌∙◌, sym}
 use Rattle.mpw_outputs.proofs.Separate.{is_found, is_passed}
 use Rattle.mpw_outputs.proofs.uses.same_as.Goals as goal

@@ -1,3 +1,4 @@
+-- The invariants of the loops of `same_as` in `src/uses.rt`.
 use Rattle.mpw_outputs.proofs.Separate.{IsLeft, Leads}
 use Rattle.mpw_outputs.proofs.uses.same_as.Given as goal
 

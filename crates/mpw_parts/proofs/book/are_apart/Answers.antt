@@ -1,3 +1,4 @@
+-- Answers to the goals of `are_apart` in `src/book.rt`.
 use Rattle.std.proofs.Common.{◌∙◌, sym}
 use Rattle.mpw_parts.proofs.Bound.{not_apart, apart_next}
 use Rattle.mpw_parts.proofs.book.are_apart.Goals as goal

@@ -1,3 +1,4 @@
+-- The invariants of the loops of `are_apart` in `src/book.rt`.
 use Rattle.std.proofs.Common.{◌≤◌, ◌-◌, length}
 use Rattle.mpw_parts.proofs.Bound.{AreApartBelow}
 use Rattle.mpw_parts.proofs.book.are_apart.Given as goal

@@ -1,3 +1,4 @@
+-- The invariants of the loops of `are_filled` in `src/book.rt`.
 use Rattle.std.proofs.Common.{take}
 use Rattle.std.specs.Prelude.{All}
 use Rattle.mpw_markers.specs.Markers.{IsFilled}

@@ -1,3 +1,4 @@
+-- Answers to the goals of `book_of` in `src/book.rt`.
 use Rattle.mpw_keys.specs.Keys.{together}
 use Rattle.mpw_parts.proofs.Bound.{firsts_ascend}
 use Rattle.mpw_parts.proofs.book.book_of.Goals as goal

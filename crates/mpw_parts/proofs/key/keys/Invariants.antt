@@ -1,3 +1,4 @@
+-- The invariants of the loops of `keys` in `src/key.rt`.
 use Rattle.std.proofs.Common.{◌≡◌, drop, map}
 use Rattle.std.specs.Prelude.{All}
 use Rattle.mpw_parts.specs.Parts.{IsKeyOf}

@@ -1,3 +1,4 @@
+-- Answers to the goals of `each_column_has_its_list` in `src/laws.rt`.
 use Rattle.mpw_parts.proofs.Following.{each_column_has_its_list}
 use Rattle.mpw_parts.proofs.laws.each_column_has_its_list.Goals as goal
 

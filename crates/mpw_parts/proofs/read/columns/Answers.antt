@@ -1,3 +1,4 @@
+-- Answers to the goals of `columns` in `src/read.rt`.
 use Rattle.std.proofs.Common.{rules, ◌∙◌, sym, map, length, ◌≤◌, subst, [], ◌<◌}
 use Rattle.std.proofs.lemmas.List.{get_or-map, length-map}
 use Rattle.std.proofs.Math.ListN.{drop_of_length-le}

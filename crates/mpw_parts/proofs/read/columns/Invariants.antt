@@ -1,3 +1,4 @@
+-- The invariants of the loops of `columns` in `src/read.rt`.
 use Rattle.std.proofs.Common.{drop, map}
 use Rattle.std.specs.List.{AllZip}
 use Rattle.mpw_parts.specs.Parts.{IsListOf}

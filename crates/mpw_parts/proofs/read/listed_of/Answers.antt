@@ -1,3 +1,4 @@
+-- Answers to the goals of `listed_of` in `src/read.rt`.
 use Rattle.std.proofs.Common.{◌≡◌, ℕ, ap, map, subst, take, Bor, List, None, Option}
 use Rattle.std.specs.Prelude.{IfOk, MatchOption}
 use Rattle.mpw_parts.specs.declared.line.Listed.{Listed}

@@ -1,3 +1,4 @@
+-- The invariants of the loops of `are_ruled` in `src/stitch.rt`.
 use Rattle.std.proofs.Common.{take}
 use Rattle.std.specs.Prelude.{All}
 use Rattle.mpw_parts.specs.Stitching.{IsRuled}

@@ -1,3 +1,4 @@
+-- Answers to the goals of `are_ruled_lists` in `src/stitch.rt`.
 use Rattle.std.proofs.Common.{List, refl, subst}
 use Rattle.std.specs.Prelude.{All}
 use Rattle.std.proofs.lemmas.List.{take_all}

@@ -1,3 +1,4 @@
+-- Answers to the goals of `first_other` in `src/stitch.rt`.
 use Rattle.std.proofs.Common.{◌≡◌, ◌∙◌, sym, subst, List}
 use Rattle.std.specs.Prelude.{All}
 use Rattle.std.proofs.lemmas.List.{take_all}

@@ -1,3 +1,4 @@
+-- The invariants of the loops of `first_other` in `src/stitch.rt`.
 use Rattle.std.proofs.Common.{take}
 use Rattle.mpw_parts.specs.Stitching.{AreAllOf}
 use Rattle.mpw_parts.proofs.stitch.first_other.Given as goal

@@ -1,3 +1,4 @@
+-- Answers to the goals of `stitch_parts` in `src/stitch.rt`.
 use Rattle.std.proofs.Common.{◌≡◌, ◌∙◌, ap, subst, refl, Some, List, Option, ℕ, length, arith}
 use Rattle.std.specs.Prelude.{slice_get}
 use Rattle.std.proofs.lemmas.Option.{slice_get_read}

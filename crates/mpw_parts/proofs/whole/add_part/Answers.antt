@@ -1,3 +1,4 @@
+-- Answers to the goals of `add_part` in `src/whole.rt`.
 use Rattle.mpw_parts.specs.Parts.{IsListOf}
 use Rattle.mpw_parts.proofs.Lists.{zip_length}
 use Rattle.mpw_parts.proofs.whole.add_part.Goals as goal

@@ -1,3 +1,4 @@
+-- Answers to the goals of `are_columns_of` in `src/whole.rt`.
 use Rattle.std.proofs.Common.{◌∙◌, sym}
 use Rattle.std.proofs.lemmas.Bool.{false≢true}
 use Rattle.mpw_parts.proofs.Covered.{too_high}

@@ -1,3 +1,4 @@
+-- Answers to the goals of `divided` in `src/whole.rt`.
 use Rattle.std.proofs.Common.{◌∙◌, sym, subst, take, drop}
 use Rattle.std.proofs.lemmas.Bool.{false≢true}
 use Rattle.mpw_parts.specs.Stitching.{CoverExtent}

@@ -1,3 +1,4 @@
+-- The invariants of the loops of `end_below` in `src/whole.rt`.
 use Rattle.std.proofs.Common.{take, pos, ◌^◌, ◌<ℤ◌}
 use Rattle.std.specs.Prelude.{All}
 use Rattle.mpw_keys.specs.declared.column.Column.{Column}

@@ -1,3 +1,4 @@
+-- The invariants of the loops of `follow_on` in `src/whole.rt`.
 use Rattle.std.proofs.Common.{◌≤◌, take}
 use Rattle.mpw_parts.specs.Stitching.{FollowOn}
 use Rattle.mpw_parts.proofs.whole.follow_on.Given as goal

@@ -1,3 +1,4 @@
+-- Answers to the goals of `in_order` in `src/whole.rt`.
 use Rattle.std.proofs.Common.{rules}
 use Rattle.mpw_parts.proofs.Faults.{ordered_from_sort_by_key}
 use Rattle.mpw_parts.proofs.whole.in_order.Goals as goal

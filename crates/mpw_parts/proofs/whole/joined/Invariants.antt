@@ -1,3 +1,4 @@
+-- The invariants of the loops of `joined` in `src/whole.rt`.
 use Rattle.std.proofs.Common.{◌≡◌, ◌++◌, length}
 use Rattle.std.specs.Vec.Iter.{into_iter_items}
 use Rattle.mpw_parts.specs.Stitching.{columns_of, lists_of}

@@ -1,3 +1,4 @@
+-- The invariants of the loops of `upright_count` in `src/whole.rt`.
 use Rattle.std.proofs.Common.{◌≡◌, ◌+◌, ◌-◌, ◌≤◌, length, drop}
 use Rattle.mpw_parts.specs.Internal.Stitching.{upright_count}
 use Rattle.mpw_parts.proofs.whole.upright_count.Given as goal

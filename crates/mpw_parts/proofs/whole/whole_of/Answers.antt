@@ -1,3 +1,4 @@
+-- Answers to the goals of `whole_of` in `src/whole.rt`.
 use Rattle.mpw_parts.proofs.Faults.{own_columns}
 use Rattle.mpw_parts.proofs.whole.whole_of.Goals as goal
 

@@ -1,3 +1,4 @@
+-- Answers to the goals of `put_columns` in `src/write.rt`.
 use Rattle.std.proofs.Common.{◌∙◌}
 use Rattle.mpw_parts.proofs.Texts.{none_taken, none_written, one_taken, one_written}
 use Rattle.mpw_parts.proofs.write.put_columns.Goals as goal

@@ -1,3 +1,4 @@
+-- The invariants of the loops of `put_columns` in `src/write.rt`.
 use Rattle.std.proofs.Common.{take}
 use Rattle.std.specs.Io.KnownBytes.{Appends}
 use Rattle.mpw_parts.specs.Internal.Writing.{Takes}

@@ -1,3 +1,4 @@
+-- The invariants of the loops of `has` in `src/block.rt`.
 use Rattle.std.proofs.Common.{◌≡◌, false, take}
 use Rattle.std.specs.List.{list_any}
 use Rattle.mpw_permissions.specs.Grant.{grant_eq}

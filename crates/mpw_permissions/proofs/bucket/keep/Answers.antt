@@ -1,4 +1,4 @@
--- The other objects keep their masks.
+-- The other objects have their masks as before.
 use Rattle.std.proofs.Common.{◌∙◌, [], ◌∷◌, ◌++◌, ap, refl}
 use Rattle.std.proofs.lemmas.Result.{on_ok_weaker}
 use Rattle.mpw_permissions.specs.Internal.Holders.{holds_in}

@@ -1,3 +1,4 @@
+-- The invariants of the loops of `mask_of` in `src/bucket.rt`.
 use Rattle.std.proofs.Common.{◌≡◌, drop}
 use Rattle.mpw_permissions.specs.Internal.Holders.{mask_in}
 use Rattle.mpw_permissions.proofs.bucket.mask_of.Given as goal

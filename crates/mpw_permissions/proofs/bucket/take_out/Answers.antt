@@ -1,4 +1,4 @@
--- The other objects keep their masks.
+-- The other objects have their masks as before.
 use Rattle.std.proofs.Common.{rules, not}
 use Rattle.std.proofs.lemmas.Fn.{filter_same}
 use Rattle.mpw_permissions.specs.Grant.{object_eq}

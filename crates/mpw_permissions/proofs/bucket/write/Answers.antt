@@ -1,4 +1,4 @@
--- The other objects keep their masks.
+-- The other objects have their masks as before.
 use Rattle.std.proofs.lemmas.Result.{on_ok_weaker}
 use Rattle.mpw_permissions.proofs.bucket.write.Goals as goal
 

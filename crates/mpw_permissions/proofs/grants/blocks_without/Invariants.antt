@@ -1,3 +1,4 @@
+-- The invariants of the loops of `blocks_without` in `src/grants.rt`.
 use Rattle.std.proofs.Common.{◌≡◌, take}
 use Rattle.std.specs.List.{flat_map}
 use Rattle.mpw_permissions.specs.Grant.{without_grant}

@@ -1,3 +1,4 @@
+-- The invariants of the loops of `is_among` in `src/grants.rt`.
 use Rattle.std.proofs.Common.{◌≡◌, false, take}
 use Rattle.std.specs.List.{list_any, flat_map}
 use Rattle.mpw_permissions.specs.Grant.{grant_eq}

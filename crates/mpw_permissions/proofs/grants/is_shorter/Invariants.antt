@@ -1,3 +1,4 @@
+-- The invariants of the loops of `is_shorter` in `src/grants.rt`.
 use Rattle.std.proofs.Common.{◌≡◌, ◌+◌, length, take}
 use Rattle.std.specs.List.{flat_map}
 use Rattle.mpw_permissions.proofs.grants.is_shorter.Given as goal

@@ -1,3 +1,4 @@
+-- The invariants of the loops of `add_all` in `src/holders.rt`.
 use Rattle.std.proofs.Common.{List, ◌++◌, take}
 use Rattle.mpw_roles.specs.Hierarchy.{role_names}
 use Rattle.mpw_permissions.specs.Internal.Holders.{IsHeld}

@@ -1,3 +1,4 @@
+-- The invariants of the loops of `add_blocks` in `src/holders.rt`.
 use Rattle.std.proofs.Common.{List, ◌++◌, take}
 use Rattle.std.specs.List.{flat_map}
 use Rattle.mpw_roles.specs.Hierarchy.{role_names}

@@ -1,3 +1,4 @@
+-- The invariants of the loops of `holders_after` in `src/holders.rt`.
 use Rattle.std.proofs.Common.{◌≡◌, ◌<◌, ℕ, [], length}
 use Rattle.std.specs.Prelude.{slice_index_or}
 use Rattle.mpw_roles.specs.Hierarchy.{role_names}

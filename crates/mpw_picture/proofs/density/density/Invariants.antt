@@ -1,3 +1,4 @@
+-- The invariants of the loops of `density` in `src/density.rt`.
 use Rattle.std.proofs.Common.{◌≡◌, ◌<◌, ℕ, length, take, get_or}
 use Rattle.mpw_picture.specs.Density.{count_in, cell_count}
 use Rattle.mpw_picture.proofs.density.density.Given as goal

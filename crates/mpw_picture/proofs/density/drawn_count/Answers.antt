@@ -1,3 +1,4 @@
+-- Answers to the goals of `drawn_count` in `src/density.rt`.
 use Rattle.std.proofs.Common.{arith}
 use Rattle.mpw_picture.proofs.Counted.{drawn_more}
 use Rattle.mpw_picture.proofs.density.drawn_count.Goals as goal

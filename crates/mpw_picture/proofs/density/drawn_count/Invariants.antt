@@ -1,3 +1,4 @@
+-- The invariants of the loops of `drawn_count` in `src/density.rt`.
 use Rattle.std.proofs.Common.{◌≡◌, ◌≤◌, ◌*◌, ◌^◌}
 use Rattle.mpw_picture.specs.Density.{drawn_count}
 use Rattle.mpw_picture.proofs.density.drawn_count.Given as goal

@@ -1,3 +1,4 @@
+-- The invariants of the loops of `put_rectangles` in `src/drawing.rt`.
 use Rattle.std.proofs.Common.{take}
 use Rattle.std.specs.List.{flat_map}
 use Rattle.std.specs.Io.KnownBytes.{Appends}

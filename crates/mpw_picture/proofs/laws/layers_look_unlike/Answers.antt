@@ -1,3 +1,4 @@
+-- Answers to the goals of `layers_look_unlike` in `src/laws.rt`.
 use Rattle.mpw_picture.proofs.Unlike as unlike
 use Rattle.mpw_picture.proofs.laws.layers_look_unlike.Goals as goal
 

@@ -1,3 +1,4 @@
+-- The invariants of the loops of `layers_of` in `src/layers.rt`.
 use Rattle.std.proofs.Common.{◌≡◌, take}
 use Rattle.mpw_picture.specs.Looks.{layers_of}
 use Rattle.mpw_picture.proofs.layers.layers_of.Given as goal

@@ -1,3 +1,4 @@
+-- The invariants of the loops of `rule_layers` in `src/layers.rt`.
 use Rattle.std.proofs.Common.{◌≡◌, take}
 use Rattle.mpw_picture.specs.Looks.{rule_layers}
 use Rattle.mpw_picture.proofs.layers.rule_layers.Given as goal

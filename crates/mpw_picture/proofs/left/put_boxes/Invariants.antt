@@ -1,3 +1,4 @@
+-- The invariants of the loops of `put_boxes` in `src/left.rt`.
 use Rattle.std.proofs.Common.{take}
 use Rattle.std.specs.Io.KnownBytes.{Appends}
 use Rattle.mpw_picture.specs.Left.{left_boxes}

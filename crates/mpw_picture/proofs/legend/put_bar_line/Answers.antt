@@ -1,3 +1,4 @@
+-- Answers to the goals of `put_bar_line` in `src/legend.rt`.
 use Rattle.std.proofs.Common.{refl}
 use Rattle.mpw_text.proofs.Adding.{adds_same}
 use Rattle.mpw_picture.specs.Rows.{bar_line}

@@ -1,3 +1,4 @@
+-- Answers to the goals of `put_legend` in `src/legend.rt`.
 use Rattle.mpw_text.proofs.Adding.{adds_more}
 use Rattle.mpw_picture.specs.Rows.{legend_text}
 use Rattle.mpw_picture.proofs.legend.put_legend.Goals as goal

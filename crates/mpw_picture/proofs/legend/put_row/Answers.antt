@@ -1,3 +1,4 @@
+-- Answers to the goals of `put_row` in `src/legend.rt`.
 use Rattle.std.proofs.Common.{refl}
 use Rattle.mpw_text.proofs.Adding.{adds_more, adds_same}
 use Rattle.mpw_picture.specs.Rows.{row_text}

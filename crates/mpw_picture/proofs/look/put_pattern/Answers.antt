@@ -1,3 +1,4 @@
+-- Answers to the goals of `put_pattern` in `src/look.rt`.
 use Rattle.mpw_text.proofs.Adding.{adds_more}
 use Rattle.mpw_picture.specs.Patterns.{pattern_text}
 use Rattle.mpw_picture.proofs.look.put_pattern.Goals as goal

@@ -1,3 +1,4 @@
+-- Answers to the goals of `put_patterns` in `src/look.rt`.
 use Rattle.std.proofs.Common.{subst}
 use Rattle.std.specs.List.{flat_map, range_with_len}
 use Rattle.std.specs.Io.KnownBytes.{Appends}

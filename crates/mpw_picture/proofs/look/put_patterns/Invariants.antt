@@ -1,3 +1,4 @@
+-- The invariants of the loops of `put_patterns` in `src/look.rt`.
 use Rattle.std.specs.List.{flat_map, range_with_len}
 use Rattle.std.specs.Io.KnownBytes.{Appends}
 use Rattle.mpw_picture.specs.Patterns.{patterns_of}

@@ -1,3 +1,4 @@
+-- Answers to the goals of `put_striped_look` in `src/look.rt`.
 use Rattle.std.proofs.Common.{refl}
 use Rattle.mpw_text.proofs.Adding.{adds_more, adds_same}
 use Rattle.mpw_picture.specs.Patterns.{striped_look}

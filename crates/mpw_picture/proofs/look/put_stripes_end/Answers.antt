@@ -1,3 +1,4 @@
+-- Answers to the goals of `put_stripes_end` in `src/look.rt`.
 use Rattle.std.proofs.Common.{refl}
 use Rattle.mpw_text.proofs.Adding.{adds_same}
 use Rattle.mpw_picture.specs.Patterns.{stripes_end}

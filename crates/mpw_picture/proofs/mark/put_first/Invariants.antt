@@ -1,3 +1,4 @@
+-- The invariants of the loops of `put_first` in `src/mark.rt`.
 use Rattle.std.proofs.Common.{◌≡◌, ◌-◌, length, take}
 use Rattle.std.specs.List.{flat_map}
 use Rattle.std.specs.Io.KnownBytes.{Appends}

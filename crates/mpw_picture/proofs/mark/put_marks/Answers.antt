@@ -1,3 +1,4 @@
+-- Answers to the goals of `put_marks` in `src/mark.rt`.
 use Rattle.mpw_text.proofs.Adding.{adds_more}
 use Rattle.mpw_picture.specs.Marked.{marks_text}
 use Rattle.mpw_picture.proofs.mark.put_marks.Goals as goal

@@ -1,3 +1,4 @@
+-- The invariants of the loops of `boxes_in` in `src/picture.rt`.
 use Rattle.std.proofs.Common.{◌≡◌, take}
 use Rattle.mpw_picture.specs.Drawn.{boxes_in}
 use Rattle.mpw_picture.proofs.picture.boxes_in.Given as goal

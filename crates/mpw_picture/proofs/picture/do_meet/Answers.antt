@@ -1,3 +1,4 @@
+-- Answers to the goals of `do_meet` in `src/picture.rt`.
 use Rattle.mpw_walk.proofs.Taken.{told_meeting}
 use Rattle.mpw_picture.proofs.picture.do_meet.Goals as goal
 

@@ -1,3 +1,4 @@
+-- Answers to the goals of `draw_view` in `src/picture.rt`.
 use Rattle.std.proofs.Common.{◌≡◌, ℕ, List, length, refl, ap, ◌∙◌}
 use Rattle.mpw_deck.specs.declared.rule.Rule.{Rule}
 use Rattle.mpw_tiles.specs.declared.listing.Rectangle.{Rectangle}

@@ -1,3 +1,4 @@
+-- The invariants of the loops of `marks_in` in `src/picture.rt`.
 use Rattle.std.proofs.Common.{◌≡◌, take}
 use Rattle.mpw_picture.specs.Drawn.{marks_in}
 use Rattle.mpw_picture.proofs.picture.marks_in.Given as goal

@@ -1,3 +1,4 @@
+-- Answers to the goals of `add_boxes` in `src/shapes.rt`.
 use Rattle.std.proofs.Common.{[], take}
 use Rattle.mpw_tiles.specs.Listing.{HasSquareOf}
 use Rattle.mpw_tiles.specs.Internal.Listing.{HasPlacedSquare}

@@ -1,3 +1,4 @@
+-- The invariants of the loops of `add_boxes` in `src/shapes.rt`.
 use Rattle.std.proofs.Common.{take}
 use Rattle.mpw_tiles.specs.Internal.Listing.{HasPlacedSquare}
 use Rattle.mpw_picture.specs.Internal.Adding.{AddsIn}

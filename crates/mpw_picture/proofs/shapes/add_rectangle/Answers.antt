@@ -1,3 +1,4 @@
+-- Answers to the goals of `add_rectangle` in `src/shapes.rt`.
 use Rattle.std.proofs.lemmas.Bool.Decides.{when_true, when_false}
 use Rattle.mpw_picture.proofs.Adding.{adds_missed, adds_pushed}
 use Rattle.mpw_picture.proofs.shapes.add_rectangle.Goals as goal

@@ -1,3 +1,4 @@
+-- Answers to the goals of `add_shapes` in `src/shapes.rt`.
 use Rattle.std.proofs.Common.{[], ◌∷◌, ◌++◌, refl}
 use Rattle.mpw_hier.specs.Items.{Item}
 use Rattle.mpw_region.proofs.Held.{Held-nil}

@@ -1,3 +1,4 @@
+-- Answers to the goals of `rectangles_in` in `src/shapes.rt`.
 use Rattle.std.proofs.Common.{◌≡◌, List, [], subst, ap, ◌∙◌}
 use Rattle.mpw_hier.specs.declared.submission.Submission.{Submission}
 use Rattle.mpw_hier.specs.Items.{Item}

@@ -1,3 +1,4 @@
+-- Answers to the goals of `corners_of` in `src/size.rt`.
 use Rattle.std.proofs.Common.{rules}
 use Rattle.mpw_picture.specs.Sizes.{turned}
 use Rattle.mpw_picture.proofs.Turned.{difference, same_corners}

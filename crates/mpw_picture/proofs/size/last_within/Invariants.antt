@@ -1,3 +1,4 @@
+-- The invariants of the loops of `last_within` in `src/size.rt`.
 use Rattle.std.proofs.Common.{◌≡◌, take}
 use Rattle.mpw_picture.specs.Sizes.{last_within}
 use Rattle.mpw_picture.proofs.size.last_within.Given as goal

@@ -1,3 +1,4 @@
+-- Answers to the goals of `put_key_title` in `src/title.rt`.
 use Rattle.mpw_text.proofs.Adding.{adds_more}
 use Rattle.mpw_picture.specs.Titles.{key_title}
 use Rattle.mpw_picture.proofs.title.put_key_title.Goals as goal

@@ -1,3 +1,4 @@
+-- Answers to the goals of `put_row_labels` in `src/title.rt`.
 use Rattle.std.proofs.Common.{refl, rules, w64}
 use Rattle.std.proofs.lemmas.Int.{to_z-of_z}
 use Rattle.mpw_text.proofs.Adding.{adds_same}

@@ -1,3 +1,4 @@
+-- Answers to the goals of `put_titles` in `src/title.rt`.
 use Rattle.mpw_text.proofs.Adding.{adds_more}
 use Rattle.mpw_picture.specs.Titles.{titles_text}
 use Rattle.mpw_picture.proofs.title.put_titles.Goals as goal

@@ -1,3 +1,4 @@
+-- Answers to the goals of `put_arrow` in `src/wanted.rt`.
 use Rattle.std.proofs.Common.{refl}
 use Rattle.mpw_text.proofs.Adding.{adds_same}
 use Rattle.mpw_picture.specs.Marked.{arrow_text}

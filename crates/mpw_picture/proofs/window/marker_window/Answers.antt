@@ -1,3 +1,4 @@
+-- Answers to the goals of `marker_window` in `src/window.rt`.
 use Rattle.mpw_picture.proofs.Windows.{widened_lies}
 use Rattle.mpw_picture.proofs.window.marker_window.Goals as goal
 

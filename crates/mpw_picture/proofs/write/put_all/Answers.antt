@@ -1,3 +1,4 @@
+-- Answers to the goals of `put_all` in `src/write.rt`.
 use Rattle.mpw_text.proofs.Adding.{adds_more}
 use Rattle.mpw_picture.specs.Text.{picture_text}
 use Rattle.mpw_picture.proofs.write.put_all.Goals as goal

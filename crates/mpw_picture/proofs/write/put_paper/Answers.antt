@@ -1,3 +1,4 @@
+-- Answers to the goals of `put_paper` in `src/write.rt`.
 use Rattle.std.proofs.Common.{refl}
 use Rattle.mpw_text.proofs.Adding.{adds_same}
 use Rattle.mpw_picture.specs.Text.{paper_text}

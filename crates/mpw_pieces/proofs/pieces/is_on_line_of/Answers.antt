@@ -1,3 +1,4 @@
+-- Answers to the goals of `is_on_line_of` in `src/pieces.rt`.
 use Rattle.std.proofs.Common.{◌∙◌, sym}
 use Rattle.mpw_markers.proofs.Order.{same_lines_test}
 use Rattle.mpw_pieces.proofs.pieces.is_on_line_of.Goals as goal

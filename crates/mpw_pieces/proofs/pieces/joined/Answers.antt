@@ -1,3 +1,4 @@
+-- Answers to the goals of `joined` in `src/pieces.rt`.
 use Rattle.std.proofs.lemmas.Result.{IfOk-weaker}
 use Rattle.mpw_pieces.proofs.Made.{made_in_order}
 use Rattle.mpw_pieces.proofs.Order.{runs_in_order}

@@ -1,3 +1,4 @@
+-- Answers to the goals of `runs_from` in `src/pieces.rt`.
 use Rattle.std.proofs.Common.{get_or}
 use Rattle.std.proofs.lemmas.List.{get_or_default}
 use Rattle.mpw_markers.specs.declared.marker.Key.{Key}

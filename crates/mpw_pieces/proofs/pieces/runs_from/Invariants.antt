@@ -1,3 +1,4 @@
+-- The invariants of the loops of `runs_from` in `src/pieces.rt`.
 use Rattle.mpw_pieces.proofs.Runs.{ComeTo}
 use Rattle.mpw_pieces.proofs.pieces.runs_from.Given as goal
 

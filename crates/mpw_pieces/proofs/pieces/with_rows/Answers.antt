@@ -1,3 +1,4 @@
+-- Answers to the goals of `with_rows` in `src/pieces.rt`.
 use Rattle.std.proofs.Common.{rules}
 use Rattle.std.proofs.lemmas.Fn.{filter_same}
 use Rattle.mpw_pieces.specs.Internal.{has_rows}

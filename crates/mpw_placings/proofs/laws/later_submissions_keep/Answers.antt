@@ -1,3 +1,4 @@
+-- Answers to the goals of `later_submissions_keep` in `src/laws.rt`.
 use Rattle.mpw_placings.proofs.Keeping.{later_kept}
 use Rattle.mpw_placings.proofs.laws.later_submissions_keep.Goals as goal
 

@@ -1,3 +1,4 @@
+-- Answers to the goals of `is_far` in `src/limits.rt`.
 use Rattle.mpw_placings.proofs.Tests.{far_is}
 use Rattle.mpw_placings.proofs.limits.is_far.Goals as goal
 

@@ -1,3 +1,4 @@
+-- The invariants of the loops of `shape_count` in `src/limits.rt`.
 use Rattle.std.proofs.Common.{◌≡◌, ◌≤◌, ◌*◌, ◌^◌, take}
 use Rattle.mpw_walk.specs.Roots.{roots_count}
 use Rattle.mpw_placings.proofs.limits.shape_count.Given as goal

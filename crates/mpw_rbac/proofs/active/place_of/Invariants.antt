@@ -1,3 +1,4 @@
+-- The invariants of the loops of `place_of` in `src/active.rt`.
 use Rattle.std.proofs.Common.{◌≡◌, ℕ, ◌==◌, false, take}
 use Rattle.std.specs.List.{list_any}
 use Rattle.mpw_rbac.specs.declared.active.Active.{Active}

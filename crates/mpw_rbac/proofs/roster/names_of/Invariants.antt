@@ -1,3 +1,4 @@
+-- The invariants of the loops of `names_of` in `src/roster.rt`.
 use Rattle.std.proofs.Common.{◌≡◌, take}
 use Rattle.mpw_rbac.proofs.roster.names_of.Given as goal
 

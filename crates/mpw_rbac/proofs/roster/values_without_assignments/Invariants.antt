@@ -1,3 +1,4 @@
+-- The invariants of the loops of `values_without_assignments` in `src/roster.rt`.
 use Rattle.std.proofs.Common.{◌≡◌, take, map}
 use Rattle.mpw_geom.specs.Names.{without_name}
 use Rattle.mpw_rbac.specs.declared.session.User.{User}

@@ -1,3 +1,4 @@
+-- The invariants of the loops of `breaks_a_session` in `src/separation.rt`.
 use Rattle.std.proofs.Common.{◌≡◌, take, map, false}
 use Rattle.mpw_separation.specs.Separation.{is_broken}
 use Rattle.mpw_rbac.proofs.SessionLemmas.{active_in}

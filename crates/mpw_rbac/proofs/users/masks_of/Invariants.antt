@@ -1,3 +1,4 @@
+-- The invariants of the loops of `masks_of` in `src/users.rt`.
 use Rattle.std.proofs.Common.{take, map}
 use Rattle.mpw_rbac.specs.Masked.{AreBelow}
 use Rattle.mpw_rbac.specs.declared.session.User.{User}

@@ -1,3 +1,4 @@
+-- Answers to the goals of `administration_needs_its_permission` in `src/accepted.rt`.
 use Rattle.mpw_rbac_laws.proofs.AcceptedLemmas as lemma
 use Rattle.mpw_rbac.proofs.RowTests.{AddUser, DeleteUser, AddRole, DeleteRole, Assign, Deassign, AddGrant, Revoke, Inherit, Uninherit, MakeStatic, MakeDynamic, RemoveStatic, RemoveDynamic}
 use Rattle.mpw_rbac_laws.proofs.accepted.administration_needs_its_permission.Goals as goal

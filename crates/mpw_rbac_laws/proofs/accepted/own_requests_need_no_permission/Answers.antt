@@ -1,3 +1,4 @@
+-- Answers to the goals of `own_requests_need_no_permission` in `src/accepted.rt`.
 use Rattle.mpw_rbac_laws.proofs.AcceptedLemmas as lemma
 use Rattle.mpw_rbac_laws.proofs.accepted.own_requests_need_no_permission.Goals as goal
 

@@ -1,3 +1,4 @@
+-- Answers to the goals of `sets_are_told_where_they_are_tested` in `src/accepted.rt`.
 use Rattle.std.proofs.Common.{refl}
 use Rattle.mpw_separation.specs.declared.set.Kind.TheVariants.{Static, Dynamic}
 use Rattle.mpw_rbac_laws.proofs.AcceptedLemmas as lemma

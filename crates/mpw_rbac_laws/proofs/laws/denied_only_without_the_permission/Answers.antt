@@ -1,3 +1,4 @@
+-- Answers to the goals of `denied_only_without_the_permission` in `src/laws.rt`.
 use Rattle.mpw_rbac_laws.proofs.DenialLemmas as denial
 use Rattle.mpw_rbac_laws.proofs.laws.denied_only_without_the_permission.Goals as goal
 

@@ -1,3 +1,4 @@
+-- Answers to the goals of `each_request_keeps_authorization` in `src/laws.rt`.
 use Rattle.mpw_rbac_laws.proofs.LawLemmas as law
 use Rattle.mpw_rbac_laws.proofs.laws.each_request_keeps_authorization.Goals as goal
 

@@ -1,3 +1,4 @@
+-- Answers to the goals of `each_request_keeps_separation` in `src/laws.rt`.
 use Rattle.mpw_rbac_laws.proofs.SoundRows as law
 use Rattle.mpw_rbac_laws.proofs.laws.each_request_keeps_separation.Goals as goal
 

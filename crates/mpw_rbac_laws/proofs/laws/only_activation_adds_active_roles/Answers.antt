@@ -1,3 +1,4 @@
+-- Answers to the goals of `only_activation_adds_active_roles` in `src/laws.rt`.
 use Rattle.mpw_rbac_laws.proofs.ActiveLemmas as active
 use Rattle.mpw_rbac.proofs.RowTests.{AddUser, DeleteUser, AddRole, DeleteRole, Assign, Deassign, AddGrant, Revoke, Inherit, Uninherit, MakeStatic, MakeDynamic, RemoveStatic, RemoveDynamic}
 use Rattle.mpw_rbac_laws.proofs.laws.only_activation_adds_active_roles.Goals as goal

@@ -1,3 +1,4 @@
+-- Answers to the goals of `sound_policies_keep_duties_apart` in `src/laws.rt`.
 use Rattle.mpw_rbac_laws.proofs.ApartLemmas.{static-apart, dynamic-apart}
 use Rattle.mpw_rbac_laws.proofs.laws.sound_policies_keep_duties_apart.Goals as goal
 

@@ -1,3 +1,4 @@
+-- Answers to the goals of `each_request_keeps_the_tables` in `src/tables.rt`.
 use Rattle.mpw_rbac_laws.proofs.KeptSessions as sessions
 use Rattle.mpw_rbac_laws.proofs.KeptTables as kept
 use Rattle.mpw_rbac_laws.proofs.tables.each_request_keeps_the_tables.Goals as goal

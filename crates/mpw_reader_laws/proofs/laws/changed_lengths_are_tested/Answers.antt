@@ -1,3 +1,4 @@
+-- Answers to the goals of `changed_lengths_are_tested` in `src/laws.rt`.
 use Rattle.mpw_reader_laws.proofs.Changed as laws
 use Rattle.mpw_reader_laws.proofs.laws.changed_lengths_are_tested.Goals as goal
 

@@ -1,3 +1,4 @@
+-- Answers to the goals of `receipts_are_calls_in_order` in `src/laws.rt`.
 use Rattle.mpw_receipts.proofs.Calls.{has_no_other}
 use Rattle.mpw_receipts.proofs.laws.receipts_are_calls_in_order.Goals as goal
 

@@ -1,3 +1,4 @@
+-- Answers to the goals of `is_multiple` in `src/real8.rt`.
 use Rattle.std.proofs.Common.{◌^◌, ◌∙◌, arith}
 use Rattle.std.proofs.lemmas.Nat.{mul-le}
 use Rattle.mpw_records.proofs.Scale.{multiple_above, multiple_below, far_above, far_below, power_le}

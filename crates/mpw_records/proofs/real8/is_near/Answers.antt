@@ -1,3 +1,4 @@
+-- Answers to the goals of `is_near` in `src/real8.rt`.
 use Rattle.std.proofs.Common.{◌-◌, ◌^◌, arith}
 use Rattle.std.proofs.lemmas.Nat.{mul-le}
 use Rattle.mpw_records.proofs.Scale.{near_above, near_below, near_far_below, power_le}

@@ -1,3 +1,4 @@
+-- Answers to the goals of `nearest` in `src/real8.rt`.
 use Rattle.std.proofs.Common.{◌+◌, ◌*◌, ◌^◌, ◌-◌, sym, ◌∙◌, arith}
 use Rattle.mpw_records.proofs.Near.{found, goes_on, none_left}
 use Rattle.mpw_records.proofs.real8.nearest.Goals as goal

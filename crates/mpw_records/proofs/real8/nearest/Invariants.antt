@@ -1,3 +1,4 @@
+-- The invariants of the loops of `nearest` in `src/real8.rt`.
 use Rattle.std.proofs.Common.{◌≡◌, ◌*◌, ◌^◌, ◌-◌}
 use Rattle.mpw_records.specs.Real.{first_near}
 use Rattle.mpw_records.proofs.real8.nearest.Given as goal

@@ -1,3 +1,4 @@
+-- Answers to the goals of `record_at` in `src/record.rt`.
 use Rattle.std.proofs.Common.{sym, arith, length-take, length-drop}
 use Rattle.mpw_records.proofs.Sizes.{least_from_none}
 use Rattle.mpw_records.proofs.record.record_at.Goals as goal

@@ -1,3 +1,4 @@
+-- Answers to the goals of `add_next` in `src/cut.rt`.
 use Rattle.std.proofs.Common.{◌<ℤ◌, List, get_or, arith, rules, w64}
 use mir.Val.{SFits}
 use Rattle.std.specs.Prelude.{All}

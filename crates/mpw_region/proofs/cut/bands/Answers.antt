@@ -1,3 +1,4 @@
+-- Answers to the goals of `bands` in `src/cut.rt`.
 use Rattle.std.proofs.Common.{◌≡◌, ◌∙◌, sym, ap, map, List}
 use Rattle.mpw_geom.specs.declared.plane.Box2.{Box2}
 use Rattle.mpw_region.specs.Squares.{covers}

@@ -1,3 +1,4 @@
+-- Answers to the goals of `boxes_with_area` in `src/cut.rt`.
 use Rattle.std.proofs.lemmas.Bool.Decides.{when_true, when_false}
 use Rattle.mpw_geom.specs.Plane.{HasArea}
 use Rattle.mpw_geom.proofs.Squares.{no_box}

@@ -1,3 +1,4 @@
+-- The invariants of the loops of `boxes_with_area` in `src/cut.rt`.
 use Rattle.std.proofs.Common.{take}
 use Rattle.mpw_geom.specs.Plane.{HasArea}
 use Rattle.mpw_region.specs.Internal.Sweep.{HoldsJust}

@@ -1,3 +1,4 @@
+-- Answers to the goals of `row_bands` in `src/cut.rt`.
 use Rattle.std.proofs.Common.{get_or}
 use Rattle.std.proofs.lemmas.Result.{IfOk-weaker}
 use Rattle.std.proofs.lemmas.List.Elements.{Contains-get_or}

@@ -1,3 +1,4 @@
+-- Answers to the goals of `sweep_of` in `src/cut.rt`.
 use Rattle.std.proofs.Common.{rules, w64}
 use mir.Val.{SFits}
 use Rattle.std.proofs.lemmas.Int.{to_z-of_z}

@@ -1,3 +1,4 @@
+-- Answers to the goals of `sweep_up` in `src/cut.rt`.
 use Rattle.std.proofs.Common.{rules, w64, SFits}
 use Rattle.std.proofs.lemmas.Int.{to_z-of_z}
 use Rattle.mpw_region.proofs.Sweeping.{SweepsUp-end}

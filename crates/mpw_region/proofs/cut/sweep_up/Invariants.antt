@@ -1,3 +1,4 @@
+-- The invariants of the loops of `sweep_up` in `src/cut.rt`.
 use Rattle.std.proofs.Common.{pos}
 use Rattle.std.specs.Int.{int_gap}
 use Rattle.std.specs.List.Sorted.{IsPermutation}

@@ -1,3 +1,4 @@
+-- Answers to the goals of `add_band` in `src/merge.rt`.
 use Rattle.std.proofs.Common.{◌≡◌, ◌<ℤ◌, ◌-◌, ◌≤◌, List, [], ◌∷◌, length, get_or, take, drop, suc, subst, sym, ap, arith}
 use Rattle.std.specs.Prelude.{All, AllPairs, OnOk}
 use Rattle.std.proofs.lemmas.List.{take_all}

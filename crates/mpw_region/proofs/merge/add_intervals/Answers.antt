@@ -1,3 +1,4 @@
+-- Answers to the goals of `add_intervals` in `src/merge.rt`.
 use Rattle.std.proofs.Common.{List, [], ◌∷◌, ◌++◌, suc, get_or, subst, take, arith}
 use Rattle.std.proofs.lemmas.Bool.Decides.{when_true, when_false}
 use Rattle.std.proofs.lemmas.List.{take_all}

@@ -1,3 +1,4 @@
+-- The invariants of the loops of `add_intervals` in `src/merge.rt`.
 use Rattle.std.proofs.Common.{◌∷◌, take}
 use Rattle.mpw_region.proofs.Merging.{Merges, BeginsBefore}
 use Rattle.mpw_region.proofs.merge.add_intervals.Given as goal

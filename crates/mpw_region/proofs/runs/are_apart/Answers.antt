@@ -1,3 +1,4 @@
+-- Answers to the goals of `are_apart` in `src/runs.rt`.
 use Rattle.std.proofs.Common.{◌-◌, get_or, subst, arith, length-take}
 use Rattle.std.specs.Prelude.{AllPairs}
 use Rattle.std.proofs.lemmas.Bool.Decides.{when_false}

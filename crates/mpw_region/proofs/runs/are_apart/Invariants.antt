@@ -1,3 +1,4 @@
+-- The invariants of the loops of `are_apart` in `src/runs.rt`.
 use Rattle.std.proofs.Common.{take}
 use Rattle.std.specs.Prelude.{AllPairs}
 use Rattle.mpw_region.specs.Runs.{StandsBefore}

@@ -1,3 +1,4 @@
+-- Answers to the goals of `in_order` in `src/runs.rt`.
 use Rattle.std.proofs.Common.{arith, get_or, ◌+◌}
 use Rattle.mpw_region.proofs.Order.{AreInOrder-from_neighbours, BeginsFirst-from_sort}
 use Rattle.mpw_region.proofs.runs.in_order.Goals as goal

@@ -1,3 +1,4 @@
+-- Answers to the goals of `join` in `src/runs.rt`.
 use Rattle.std.proofs.Common.{arith, suc, get_or, ◌∙◌}
 use Rattle.std.proofs.lemmas.Bool.Decides.{when_true, when_false}
 use Rattle.std.proofs.lemmas.List.{take_all}

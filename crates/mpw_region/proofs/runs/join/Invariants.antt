@@ -1,3 +1,4 @@
+-- The invariants of the loops of `join` in `src/runs.rt`.
 use Rattle.std.proofs.Common.{◌∷◌, take}
 use Rattle.mpw_region.proofs.Joins.{Joins, BeginsBelow}
 use Rattle.mpw_region.proofs.runs.join.Given as goal

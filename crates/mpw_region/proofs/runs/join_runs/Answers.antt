@@ -1,3 +1,4 @@
+-- Answers to the goals of `join_runs` in `src/runs.rt`.
 use Rattle.std.proofs.Common.{sym, subst, ◌∙◌, List, arith}
 use Rattle.std.specs.Prelude.{All, ◌↔◌}
 use Rattle.std.proofs.lemmas.Result.{IfOk-weaker}

@@ -1,3 +1,4 @@
+-- Answers to the goals of `drop_ended` in `src/sweep.rt`.
 use Rattle.std.proofs.Common.{rules, w64}
 use Rattle.std.specs.Prelude.{int_lt}
 use mir.Val.{SFits}

@@ -1,3 +1,4 @@
+-- Answers to the goals of `least_end` in `src/sweep.rt`.
 use Rattle.std.proofs.Common.{get_or, rules, w64}
 use mir.Val.{SFits}
 use Rattle.std.proofs.lemmas.Int.{to_z-of_z}

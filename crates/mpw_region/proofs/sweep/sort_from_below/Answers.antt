@@ -1,3 +1,4 @@
+-- Answers to the goals of `sort_from_below` in `src/sweep.rt`.
 use Rattle.std.proofs.Common.{rules}
 use Rattle.mpw_geom.specs.declared.plane.Box2.{Box2}
 use Rattle.mpw_region.proofs.Active.{rising_from_sort_by_key}

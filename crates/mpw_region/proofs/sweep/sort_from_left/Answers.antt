@@ -1,3 +1,4 @@
+-- Answers to the goals of `sort_from_left` in `src/sweep.rt`.
 use Rattle.std.proofs.Common.{rules}
 use Rattle.std.proofs.lemmas.Result.{on_ok_weaker}
 use Rattle.mpw_geom.specs.declared.plane.Box2.{Box2}

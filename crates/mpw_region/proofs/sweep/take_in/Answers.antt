@@ -1,3 +1,4 @@
+-- Answers to the goals of `take_in` in `src/sweep.rt`.
 use Rattle.std.proofs.Common.{◌≡◌, ℕ, ◌≤ℤ◌, ◌<ℤ◌, length, get_or, subst, arith, rules, w64}
 use mir.Val.{SFits}
 use Rattle.std.specs.Prelude.{All, take}

@@ -1,3 +1,4 @@
+-- The invariants of the loops of `take_in` in `src/sweep.rt`.
 use Rattle.std.proofs.Common.{take, ◌≤ℤ◌, ◌<ℤ◌}
 use Rattle.std.specs.Prelude.{All}
 use Rattle.mpw_region.specs.Internal.Sweep.{HoldsJust}

@@ -1,3 +1,4 @@
+-- Answers to the goals of `histories_can_be_reopened` in `src/reopening.rt`.
 use Rattle.mpw_reopening_laws.proofs.ReopeningLemmas.{histories_lead}
 use Rattle.mpw_reopening_laws.proofs.reopening.histories_can_be_reopened.Goals as goal
 

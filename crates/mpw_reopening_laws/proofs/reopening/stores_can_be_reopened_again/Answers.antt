@@ -1,3 +1,4 @@
+-- Answers to the goals of `stores_can_be_reopened_again` in `src/reopening.rt`.
 use Rattle.mpw_reopening_laws.proofs.ReopeningLemmas.{stores_lead}
 use Rattle.mpw_reopening_laws.proofs.reopening.stores_can_be_reopened_again.Goals as goal
 

@@ -1,3 +1,4 @@
+-- Answers to the goals of `next_view` in `src/listing.rt`.
 use Rattle.std.proofs.Common.{◌∷◌, [], sym, ap, ◌∙◌}
 use Rattle.mpw_walk.specs.Turns.{given}
 use Rattle.mpw_walk.specs.Way.{item_of}

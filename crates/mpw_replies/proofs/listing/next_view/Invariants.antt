@@ -1,3 +1,4 @@
+-- The invariants of the loops of `next_view` in `src/listing.rt`.
 use Rattle.std.proofs.Common.{◌≡◌, length}
 use Rattle.mpw_walk.specs.Turns.{given}
 use Rattle.mpw_replies.specs.Listing.{seen_lines}

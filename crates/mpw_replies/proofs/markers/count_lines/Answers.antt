@@ -1,3 +1,4 @@
+-- Answers to the goals of `count_lines` in `src/markers.rt`.
 use Rattle.std.proofs.Common.{◌+◌, length, sym, ap, ◌∙◌}
 use Rattle.std.proofs.lemmas.List.{length-append}
 use Rattle.mpw_replies.specs.Ranks.{numbered_lines, shown_lines}

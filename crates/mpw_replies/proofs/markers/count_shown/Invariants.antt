@@ -1,3 +1,4 @@
+-- The invariants of the loops of `count_shown` in `src/markers.rt`.
 use Rattle.std.proofs.Common.{◌≡◌, ◌≤◌, length, take}
 use Rattle.std.specs.Prelude.{filter}
 use Rattle.mpw_replies.specs.Internal.Ranks.{has_line}

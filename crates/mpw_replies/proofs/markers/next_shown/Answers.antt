@@ -1,3 +1,4 @@
+-- Answers to the goals of `next_shown` in `src/markers.rt`.
 use Rattle.std.proofs.Common.{◌∙◌}
 use Rattle.mpw_replies.proofs.MarkerLemmas.{shown_on, shown_over}
 use Rattle.mpw_replies.proofs.markers.next_shown.Goals as goal

@@ -1,3 +1,4 @@
+-- The invariants of the loops of `next_shown` in `src/markers.rt`.
 use Rattle.std.proofs.Common.{◌≡◌, ◌-◌, ℕ, List, length, drop}
 use Rattle.mpw_roles.specs.Hierarchy.{Name}
 use Rattle.mpw_replies.specs.Ranks.{shown_lines}

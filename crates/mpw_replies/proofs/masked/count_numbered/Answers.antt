@@ -1,3 +1,4 @@
+-- Answers to the goals of `count_numbered` in `src/masked.rt`.
 use Rattle.std.proofs.Common.{arith}
 use Rattle.mpw_replies.proofs.MarkerLemmas.{counted_on, counted_skip, counted_over}
 use Rattle.mpw_replies.proofs.masked.count_numbered.Goals.{then-numbers-place-ne0, else-numbers-place-ne0}

@@ -1,3 +1,4 @@
+-- The invariants of the loops of `count_numbered` in `src/masked.rt`.
 use Rattle.std.proofs.Common.{◌≡◌, ◌≤◌, ◌+◌, length, drop}
 use Rattle.mpw_replies.specs.Ranks.{numbered_lines}
 use Rattle.mpw_replies.proofs.masked.count_numbered.Given as goal

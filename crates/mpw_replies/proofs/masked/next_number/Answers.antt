@@ -1,3 +1,4 @@
+-- Answers to the goals of `next_number` in `src/masked.rt`.
 use Rattle.std.proofs.Common.{arith}
 use Rattle.mpw_replies.proofs.MarkerLemmas.{numbered_on, numbered_skip, numbered_over}
 use Rattle.mpw_replies.proofs.masked.next_number.Goals as goal

@@ -1,3 +1,4 @@
+-- Answers to the goals of `numbers_of` in `src/masked.rt`.
 use Rattle.std.proofs.Common.{◌≡◌, ℕ, [], length, replicate, subst, sym, ap, ◌∙◌, arith}
 use Rattle.std.proofs.lemmas.List.{length-replicate}
 use Rattle.mpw_replies.specs.Internal.Ranks.{AreNumbers}

@@ -1,3 +1,4 @@
+-- The invariants of the loops of `numbers_of` in `src/masked.rt`.
 use Rattle.std.proofs.Common.{◌≡◌, length, take}
 use Rattle.mpw_replies.specs.Internal.Ranks.{AreNumbers}
 use Rattle.mpw_replies.proofs.masked.numbers_of.Given as goal

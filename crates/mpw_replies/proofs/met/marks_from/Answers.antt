@@ -1,3 +1,4 @@
+-- Answers to the goals of `marks_from` in `src/met.rt`.
 use Rattle.std.proofs.Common.{◌+◌, ◌||◌, ap, get_or}
 use Rattle.std.proofs.lemmas.List.{get_or_default}
 use Rattle.mpw_replies.specs.Ranks.{is_met_at}

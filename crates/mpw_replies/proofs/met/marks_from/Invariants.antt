@@ -1,3 +1,4 @@
+-- The invariants of the loops of `marks_from` in `src/met.rt`.
 use Rattle.std.proofs.Common.{◌≡◌, ◌<◌, ◌+◌, ◌||◌, ℕ, false, drop}
 use Rattle.std.specs.Prelude.{slice_index_or}
 use Rattle.mpw_replies.specs.Ranks.{is_met_at}

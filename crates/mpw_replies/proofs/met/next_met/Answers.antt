@@ -1,3 +1,4 @@
+-- Answers to the goals of `next_met` in `src/met.rt`.
 use Rattle.std.proofs.Common.{sym, ◌∙◌}
 use Rattle.mpw_replies.proofs.RankLemmas.{met_on, met_over, with_cell}
 use Rattle.mpw_replies.proofs.met.next_met.Goals as goal

@@ -1,3 +1,4 @@
+-- The invariants of the loops of `next_met` in `src/met.rt`.
 use Rattle.std.proofs.Common.{◌≡◌, ◌-◌, length}
 use Rattle.mpw_replies.specs.Ranks.{IsMarked, met_left}
 use Rattle.mpw_replies.proofs.met.next_met.Given as goal

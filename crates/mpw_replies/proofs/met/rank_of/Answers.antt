@@ -1,3 +1,4 @@
+-- Answers to the goals of `rank_of` in `src/met.rt`.
 use Rattle.mpw_replies.proofs.RankLemmas.{rank_found, rank_none}
 use Rattle.mpw_replies.proofs.met.rank_of.Goals as goal
 

@@ -1,3 +1,4 @@
+-- Answers to the goals of `ranks_of` in `src/met.rt`.
 use Rattle.mpw_replies.proofs.RankLemmas.{ranks_on}
 use Rattle.mpw_replies.proofs.met.ranks_of.Goals as goal
 

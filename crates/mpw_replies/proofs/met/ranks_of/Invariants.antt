@@ -1,3 +1,4 @@
+-- The invariants of the loops of `ranks_of` in `src/met.rt`.
 use Rattle.std.proofs.Common.{◌≡◌, length, take}
 use Rattle.mpw_replies.specs.Internal.Ranks.{AreRanks}
 use Rattle.mpw_replies.proofs.met.ranks_of.Given as goal

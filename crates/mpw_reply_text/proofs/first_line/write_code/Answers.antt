@@ -1,3 +1,4 @@
+-- Answers to the goals of `write_code` in `src/first_line.rt`.
 use Rattle.std.proofs.Common.{◌∙◌, ◌++◌, ap, rules, sym}
 use Rattle.mpw_reply_text.specs.Lines.{line_feed}
 use Rattle.mpw_replies.specs.FirstLineText.{code_text, fault_at, refusal_of}

@@ -1,3 +1,4 @@
+-- Answers to the goals of `write_marker` in `src/markers.rt`.
 use Rattle.std.proofs.Common.{ap, ◌++◌}
 use Rattle.mpw_wire.specs.Keys.{key_text}
 use Rattle.mpw_reply_text.specs.Reply.{met_text, marker_text}

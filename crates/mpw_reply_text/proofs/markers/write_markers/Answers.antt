@@ -1,3 +1,4 @@
+-- Answers to the goals of `write_markers` in `src/markers.rt`.
 use Rattle.std.proofs.Common.{ap, sym, ◌∙◌, ◌++◌}
 use Rattle.std.specs.List.{flat_map}
 use Rattle.std.proofs.lemmas.Grind.{flat_map-append}

@@ -1,3 +1,4 @@
+-- Answers to the goals of `write_masked` in `src/markers.rt`.
 use Rattle.mpw_reply_text.proofs.ListingLemmas.{written_more, written_stop}
 use Rattle.mpw_reply_text.proofs.markers.write_masked.Goals as goal
 

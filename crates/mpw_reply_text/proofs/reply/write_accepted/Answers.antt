@@ -1,3 +1,4 @@
+-- Answers to the goals of `write_accepted` in `src/reply.rt`.
 use Rattle.std.proofs.Common.{ap, ◌++◌}
 use Rattle.std.specs.List.{flat_map}
 use Rattle.mpw_reply_text.specs.Reply.{listed_text, accepted_text}

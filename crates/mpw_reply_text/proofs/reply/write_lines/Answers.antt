@@ -1,3 +1,4 @@
+-- Answers to the goals of `write_lines` in `src/reply.rt`.
 use Rattle.std.proofs.Common.{sym, ap, ◌∙◌}
 use Rattle.std.specs.List.{flat_map}
 use Rattle.mpw_replies.specs.Told.{kept_lines}

@@ -1,3 +1,4 @@
+-- Answers to the goals of `write_reply` in `src/reply.rt`.
 use Rattle.std.proofs.Common.{ap, subst, append-nil, []}
 use Rattle.mpw_reply_text.specs.Reply.{reply_text}
 use Rattle.mpw_wire.specs.Writing.{fault_of, WritesKnown}

@@ -1,3 +1,4 @@
+-- Answers to the goals of `write_stored` in `src/reply.rt`.
 use Rattle.std.proofs.Common.{rules, ap}
 use Rattle.mpw_reply_text.specs.Reply.{line_text}
 use Rattle.mpw_wire.specs.Writing.{fault_of}

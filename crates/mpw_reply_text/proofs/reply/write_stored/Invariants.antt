@@ -1,3 +1,4 @@
+-- The invariants of the loops of `write_stored` in `src/reply.rt`.
 use Rattle.std.proofs.Common.{◌≡◌, take}
 use Rattle.std.specs.List.{flat_map}
 use Rattle.std.specs.Io.KnownBytes.{Appends}

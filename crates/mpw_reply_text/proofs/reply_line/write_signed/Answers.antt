@@ -1,3 +1,4 @@
+-- Answers to the goals of `write_signed` in `src/reply_line.rt`.
 use Rattle.std.proofs.Common.{ap, rules}
 use Rattle.mpw_requests.specs.Words.{marker_key}
 use Rattle.mpw_reply_text.specs.Reply.{signed_part, signed_text}

@@ -1,3 +1,4 @@
+-- Answers to the goals of `write_end` in `src/shape.rt`.
 use Rattle.std.proofs.Common.{ap}
 use Rattle.mpw_reply_text.specs.Reply.{points_text, shape_end}
 use Rattle.mpw_reply_text.specs.Lines.{line_feed}

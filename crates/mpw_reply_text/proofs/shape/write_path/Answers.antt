@@ -1,3 +1,4 @@
+-- Answers to the goals of `write_path` in `src/shape.rt`.
 use Rattle.std.proofs.Common.{ap, ◌++◌}
 use Rattle.mpw_reply_text.specs.Reply.{path_head, shape_end, shape_text}
 use Rattle.mpw_wire.specs.Writing.{fault_of}

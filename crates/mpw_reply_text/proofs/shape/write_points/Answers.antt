@@ -1,3 +1,4 @@
+-- Answers to the goals of `write_points` in `src/shape.rt`.
 use Rattle.std.proofs.Common.{rules, ap, ◌∙◌}
 use Rattle.mpw_geom.specs.Placing.{placed_point}
 use Rattle.mpw_reply_text.specs.Reply.{point_text, points_text}

@@ -1,3 +1,4 @@
+-- Answers to the goals of `write_shapes` in `src/shape.rt`.
 use Rattle.std.proofs.Common.{subst}
 use Rattle.std.specs.List.{flat_map}
 use Rattle.mpw_reply_text.specs.Reply.{listed_text}

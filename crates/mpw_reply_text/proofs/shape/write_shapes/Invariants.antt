@@ -1,3 +1,4 @@
+-- The invariants of the loops of `write_shapes` in `src/shape.rt`.
 use Rattle.std.proofs.Common.{length}
 use Rattle.mpw_reply_text.specs.Reply.{listed_text}
 use Rattle.mpw_reply_text.proofs.ListingLemmas.{IsWritten}

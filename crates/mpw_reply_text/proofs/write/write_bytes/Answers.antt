@@ -1,3 +1,4 @@
+-- Answers to the goals of `write_bytes` in `src/write.rt`.
 use Rattle.std.proofs.Common.{rules, ◌∙◌}
 use Rattle.mpw_reply_text.proofs.WritingLemmas.{Writes_failed, Appends_further}
 use Rattle.mpw_reply_text.proofs.write.write_bytes.Goals as goal

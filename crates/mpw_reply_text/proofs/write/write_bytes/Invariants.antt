@@ -1,3 +1,4 @@
+-- The invariants of the loops of `write_bytes` in `src/write.rt`.
 use Rattle.std.proofs.Common.{◌≡◌, ◌-◌, ◌≤◌, length, take}
 use Rattle.std.specs.Io.KnownBytes.{Appends}
 use Rattle.mpw_reply_text.proofs.write.write_bytes.Given as goal

@@ -1,3 +1,4 @@
+-- Answers to the goals of `write_parts` in `src/write.rt`.
 use Rattle.std.proofs.Common.{rules, ap}
 use Rattle.mpw_wire.specs.Writing.{fault_of}
 use Rattle.mpw_reply_text.proofs.WritingLemmas.{Writes-stop_at, handed_on}

@@ -1,3 +1,4 @@
+-- Answers to the goals of `write_whole_line` in `src/write.rt`.
 use Rattle.std.proofs.Common.{ap}
 use Rattle.std.specs.List.{flat_map}
 use Rattle.mpw_reply_text.specs.Lines.{line_feed}

@@ -1,3 +1,4 @@
+-- Answers to the goals of `put_edge` in `src/edge.rt`.
 use Rattle.mpw_report.specs.Report.{edge_text}
 use Rattle.mpw_text.proofs.Adding.{adds_more}
 use Rattle.mpw_report.proofs.edge.put_edge.Goals as goal

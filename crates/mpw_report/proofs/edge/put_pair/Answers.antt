@@ -1,3 +1,4 @@
+-- Answers to the goals of `put_pair` in `src/edge.rt`.
 use Rattle.std.proofs.Common.{refl}
 use Rattle.mpw_report.specs.Report.{pair_text}
 use Rattle.mpw_text.proofs.Adding.{adds_more, adds_same}

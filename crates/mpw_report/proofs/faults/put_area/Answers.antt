@@ -1,3 +1,4 @@
+-- Answers to the goals of `put_area` in `src/faults.rt`.
 use Rattle.std.proofs.Common.{refl}
 use Rattle.mpw_text.proofs.Adding.{adds_more, adds_same}
 use Rattle.mpw_report.specs.Report.{area_text}

@@ -1,3 +1,4 @@
+-- The invariants of the loops of `put_faults` in `src/faults.rt`.
 use Rattle.std.proofs.Common.{take, map}
 use Rattle.std.specs.List.{flat_map}
 use Rattle.std.specs.Io.KnownBytes.{Appends}

@@ -1,3 +1,4 @@
+-- Answers to the goals of `put_item` in `src/item.rt`.
 use Rattle.mpw_report.specs.Report.{item_text}
 use Rattle.mpw_text.proofs.Adding.{adds_more}
 use Rattle.mpw_report.proofs.item.put_item.Goals as goal

@@ -1,3 +1,4 @@
+-- The invariants of the loops of `put_items` in `src/item.rt`.
 use Rattle.std.proofs.Common.{take}
 use Rattle.std.specs.List.{flat_map, enumerate_from}
 use Rattle.std.specs.Io.KnownBytes.{Appends}

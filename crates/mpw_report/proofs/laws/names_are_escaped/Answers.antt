@@ -1,3 +1,4 @@
+-- Answers to the goals of `names_are_escaped` in `src/laws.rt`.
 use Rattle.mpw_report.proofs.Escaped.{name_stands, path_stands}
 use Rattle.mpw_report.proofs.laws.names_are_escaped.Goals as goal
 

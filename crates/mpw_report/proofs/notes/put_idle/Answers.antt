@@ -1,3 +1,4 @@
+-- Answers to the goals of `put_idle` in `src/notes.rt`.
 use Rattle.mpw_text.proofs.Adding.{adds_more}
 use Rattle.mpw_report.specs.Report.{idle_text}
 use Rattle.mpw_report.proofs.notes.put_idle.Goals as goal

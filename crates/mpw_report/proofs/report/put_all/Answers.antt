@@ -1,3 +1,4 @@
+-- Answers to the goals of `put_all` in `src/report.rt`.
 use Rattle.mpw_text.proofs.Adding.{adds_more}
 use Rattle.mpw_report.specs.Report.{full_text}
 use Rattle.mpw_report.proofs.report.put_all.Goals as goal

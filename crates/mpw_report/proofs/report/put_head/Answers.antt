@@ -1,3 +1,4 @@
+-- Answers to the goals of `put_head` in `src/report.rt`.
 use Rattle.mpw_text.proofs.Adding.{adds_more}
 use Rattle.mpw_report.specs.Report.{head_text}
 use Rattle.mpw_report.proofs.report.put_head.Goals as goal

@@ -1,3 +1,4 @@
+-- The invariants of the loops of `first_verb` in `src/table.rt`.
 use Rattle.std.proofs.Common.{◌≡◌, drop}
 use Rattle.mpw_requests.specs.Table.{verb_text}
 use Rattle.mpw_requests.specs.Words.{first_of}

@@ -1,3 +1,4 @@
+-- The invariants of the loops of `first_operation` in `src/words.rt`.
 use Rattle.std.proofs.Common.{◌≡◌, drop}
 use Rattle.mpw_requests.specs.Words.{operation_text, first_of}
 use Rattle.mpw_requests.proofs.words.first_operation.Given as goal

@@ -1,3 +1,4 @@
+-- The invariants of the loops of `first_orient` in `src/words.rt`.
 use Rattle.std.proofs.Common.{◌≡◌, drop}
 use Rattle.mpw_requests.specs.Words.{orient_text, first_of}
 use Rattle.mpw_requests.proofs.words.first_orient.Given as goal

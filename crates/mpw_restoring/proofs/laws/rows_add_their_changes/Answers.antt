@@ -1,3 +1,4 @@
+-- Answers to the goals of `rows_add_their_changes` in `src/laws.rt`.
 use Rattle.mpw_restoring.proofs.ChangeLemmas.{row_adds, restart_adds}
 use Rattle.mpw_restoring.proofs.laws.rows_add_their_changes.Goals as goal
 

@@ -1,3 +1,4 @@
+-- Answers to the goals of `order_is_chains` in `src/laws.rt`.
 use Rattle.mpw_geom.specs.Links.{same}
 use Rattle.mpw_geom.proofs.Linked.{leads-sound, leads-complete, leads-trans}
 use Rattle.mpw_roles.proofs.laws.order_is_chains.Goals as goal

@@ -1,3 +1,4 @@
+-- The invariants of the loops of `join_masks` in `src/mask.rt`.
 use Rattle.std.proofs.Common.{◌≡◌, ℕ, ◌||◌, ◌&&◌, ◌<◌, ◌≤◌}
 use Rattle.mpw_roles.specs.Mask.{has}
 use Rattle.mpw_roles.specs.Places.{mask_at}

@@ -1,3 +1,4 @@
+-- The invariants of the loops of `has_pair` in `src/pairs.rt`.
 use Rattle.std.proofs.Common.{◌≡◌, false, take}
 use Rattle.std.specs.List.{list_any}
 use Rattle.mpw_roles.specs.Internal.Table.{is_pair}

@@ -1,3 +1,4 @@
+-- The invariants of the loops of `place_of` in `src/pairs.rt`.
 use Rattle.std.proofs.Common.{◌≡◌, false, take, eqb}
 use Rattle.std.specs.List.{list_any}
 use Rattle.mpw_roles.proofs.pairs.place_of.Given as goal

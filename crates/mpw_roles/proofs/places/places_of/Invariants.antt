@@ -1,3 +1,4 @@
+-- The invariants of the loops of `places_of` in `src/places.rt`.
 use Rattle.std.proofs.Common.{◌≡◌, ℕ, ◌||◌, drop}
 use Rattle.mpw_roles.specs.Hierarchy.{role_names}
 use Rattle.mpw_roles.specs.Mask.{has}

@@ -1,3 +1,4 @@
+-- The invariants of the loops of `place_among` in `src/register.rt`.
 use Rattle.std.proofs.Common.{◌≡◌, false, take}
 use Rattle.std.specs.List.{list_any}
 use Rattle.mpw_geom.specs.Names.{name_eq}

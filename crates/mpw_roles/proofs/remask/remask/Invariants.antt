@@ -1,3 +1,4 @@
+-- The invariants of the loops of `remask` in `src/remask.rt`.
 use Rattle.std.proofs.Common.{◌≡◌, ℕ, List, take, length}
 use Rattle.mpw_roles.specs.Internal.Table.{IsTable, entries_of}
 use Rattle.mpw_roles.specs.Places.{IsMasked}

@@ -1,3 +1,4 @@
+-- The invariants of the loops of `write_all_own` in `src/remask.rt`.
 use Rattle.std.proofs.Common.{◌≡◌, ℕ, ◌<◌, eqb, length}
 use Rattle.mpw_roles.specs.Mask.{has}
 use Rattle.mpw_roles.specs.Places.{mask_at}

@@ -1,3 +1,4 @@
+-- The invariants of the loops of `numbers` in `src/renumber.rt`.
 use Rattle.std.proofs.Common.{◌≡◌}
 use Rattle.std.specs.List.{range_with_len}
 use Rattle.mpw_roles.proofs.renumber.numbers.Given as goal

@@ -1,3 +1,4 @@
+-- The invariants of the loops of `union_of_masks` in `src/roles.rt`.
 use Rattle.std.proofs.Common.{◌≡◌, ℕ, ◌||◌, drop}
 use Rattle.mpw_roles.specs.Mask.{has}
 use Rattle.mpw_roles.specs.Places.{is_place_below}

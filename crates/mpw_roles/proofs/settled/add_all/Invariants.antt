@@ -1,3 +1,4 @@
+-- The invariants of the loops of `add_all` in `src/settled.rt`.
 use Rattle.std.proofs.Common.{◌≡◌, ◌++◌, drop}
 use Rattle.mpw_roles.proofs.settled.add_all.Given as goal
 

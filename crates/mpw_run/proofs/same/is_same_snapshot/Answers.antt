@@ -1,3 +1,4 @@
+-- Answers to the goals of `is_same_snapshot` in `src/same.rt`.
 use Rattle.std.proofs.lemmas.Bool.Decides.{same_from_decides}
 use Rattle.mpw_run.specs.Same.{same_snapshot}
 use Rattle.mpw_run.proofs.same.is_same_snapshot.Goals as goal

@@ -1,3 +1,4 @@
+-- Answers to the goals of `is_same_tile_job` in `src/same.rt`.
 use Rattle.std.proofs.lemmas.Bool.Decides.{same_from_decides}
 use Rattle.mpw_run.specs.Same.{same_tile_job}
 use Rattle.mpw_run.proofs.same.is_same_tile_job.Goals as goal

@@ -1,3 +1,4 @@
+-- The invariants of the loops of `add_answers` in `src/tiles.rt`.
 use Rattle.std.proofs.Common.{◌≡◌, ◌++◌, take}
 use Rattle.mpw_run.specs.Run.{answers_of}
 use Rattle.mpw_run.proofs.tiles.add_answers.Given as goal

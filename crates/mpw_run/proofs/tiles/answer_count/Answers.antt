@@ -1,3 +1,4 @@
+-- Answers to the goals of `answer_count` in `src/tiles.rt`.
 use Rattle.std.proofs.Common.{length, refl, arith}
 use Rattle.std.proofs.lemmas.Option.{slice_get_read}
 use Rattle.mpw_run.proofs.TileLists.{count_more, count_within}

@@ -1,3 +1,4 @@
+-- The invariants of the loops of `answer_count` in `src/tiles.rt`.
 use Rattle.std.proofs.Common.{◌≡◌, take}
 use Rattle.mpw_run.specs.Run.{answered}
 use Rattle.mpw_run.proofs.tiles.answer_count.Given as goal

@@ -1,3 +1,4 @@
+-- Answers to the goals of `histories_are_right` in `src/right.rt`.
 use Rattle.std.proofs.Common.{List, subst, inl, inr, arith}
 use Rattle.std.proofs.lemmas.Bool.{cases_eq}
 use Rattle.std.specs.Prelude.{All}

@@ -1,3 +1,4 @@
+-- The invariants of the loops of `histories_are_right` in `src/right.rt`.
 use Rattle.std.proofs.Common.{ℕ, ◌<◌, get_or}
 use Rattle.mpw_events.specs.declared.event.Call.{Call}
 use Rattle.mpw_run_laws.specs.Right.{IsRight}

@@ -1,3 +1,4 @@
+-- Answers to the goals of `right_answers_make_the_layout` in `src/right.rt`.
 use Rattle.mpw_run_laws.proofs.RightLemmas.{books_are}
 use Rattle.mpw_run_laws.proofs.right.right_answers_make_the_layout.Goals as goal
 

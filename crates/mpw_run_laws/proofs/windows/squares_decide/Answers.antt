@@ -1,3 +1,4 @@
+-- Answers to the goals of `squares_decide` in `src/windows.rt`.
 use Rattle.mpw_run_laws.proofs.WindowLemmas.{rows_decided, answers_decided}
 use Rattle.mpw_run_laws.proofs.windows.squares_decide.Goals as goal
 

@@ -1,3 +1,4 @@
+-- Answers to the goals of `clean_wafers_may_start` in `src/laws.rt`.
 use Rattle.mpw_events.specs.History.{state_of}
 use Rattle.mpw_secrecy.proofs.Started.{may_start}
 use Rattle.mpw_secrecy.proofs.laws.clean_wafers_may_start.Goals as goal

@@ -1,3 +1,4 @@
+-- Answers to the goals of `desks_of_equal_views_answer_alike` in `src/laws.rt`.
 use Rattle.mpw_events.specs.History.{state_of}
 use Rattle.mpw_secrecy.proofs.laws.desks_of_equal_views_answer_alike.Goals as goal
 

@@ -1,3 +1,4 @@
+-- Answers to the goals of `equal_views_give_equal_answers` in `src/laws.rt`.
 use Rattle.mpw_secrecy.proofs.Answered.{equal_answers, equal_answers_to_lists, views_stay}
 use Rattle.mpw_secrecy.proofs.laws.equal_views_give_equal_answers.Goals as goal
 

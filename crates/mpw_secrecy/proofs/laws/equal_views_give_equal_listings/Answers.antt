@@ -1,3 +1,4 @@
+-- Answers to the goals of `equal_views_give_equal_listings` in `src/laws.rt`.
 use Rattle.mpw_secrecy.proofs.Listings.{equal_listings, equal_lists, views_left}
 use Rattle.mpw_secrecy.proofs.laws.equal_views_give_equal_listings.Goals as goal
 

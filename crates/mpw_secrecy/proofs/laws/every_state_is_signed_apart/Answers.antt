@@ -1,3 +1,4 @@
+-- Answers to the goals of `every_state_is_signed_apart` in `src/laws.rt`.
 use Rattle.mpw_secrecy.proofs.Signers.{signers_apart}
 use Rattle.mpw_secrecy.proofs.laws.every_state_is_signed_apart.Goals as goal
 

@@ -1,3 +1,4 @@
+-- Answers to the goals of `seen_count` in `src/count.rt`.
 use Rattle.std.proofs.Common.{◌≡◌, ◌<◌, ◌≤◌, length, ap, ◌∙◌, arith}
 use Rattle.std.specs.Prelude.{slice_index, true}
 use Rattle.mpw_seen.specs.Internal.Marks.{is_marked}

@@ -1,3 +1,4 @@
+-- The invariants of the loops of `seen_count` in `src/count.rt`.
 use Rattle.mpw_seen.specs.Internal.Counts.{AreOfMarked}
 use Rattle.mpw_seen.proofs.count.seen_count.Given as goal
 

@@ -1,3 +1,4 @@
+-- The invariants of the loops of `mark_bound` in `src/marks.rt`.
 use Rattle.mpw_seen.specs.Internal.Marks.{AreMarked}
 use Rattle.mpw_seen.proofs.marks.mark_bound.Given as goal
 

@@ -1,3 +1,4 @@
+-- Answers to the goals of `marks_from` in `src/marks.rt`.
 use Rattle.std.proofs.Common.{◌≡◌, ◌-◌, ◌<◌, List, length, Bool, refl, sym, subst, ap, ◌∙◌, arith, rules}
 use Rattle.std.specs.Prelude.{slice_get}
 use Rattle.std.proofs.lemmas.Option.{slice_get_read}

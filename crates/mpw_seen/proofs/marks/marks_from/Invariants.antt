@@ -1,3 +1,4 @@
+-- The invariants of the loops of `marks_from` in `src/marks.rt`.
 use Rattle.mpw_seen.specs.Internal.Marks.{AreReached}
 use Rattle.mpw_seen.proofs.marks.marks_from.Given as goal
 

@@ -1,3 +1,4 @@
+-- Answers to the goals of `children_number` in `src/node.rt`.
 use Rattle.mpw_seen.specs.Internal.Counts.{child_number}
 use Rattle.mpw_seen.proofs.Sums.{told_more, told_none}
 use Rattle.mpw_seen.proofs.node.children_number.Goals as goal

@@ -1,3 +1,4 @@
+-- The invariants of the loops of `node_numbers` in `src/node.rt`.
 use Rattle.mpw_seen.specs.Internal.Counts.{AreNumbers}
 use Rattle.mpw_seen.proofs.node.node_numbers.Given as goal
 

@@ -1,3 +1,4 @@
+-- The invariants of the loops of `least_placed` in `src/least.rt`.
 use Rattle.std.proofs.Common.{ℕ, List, take, filter}
 use Rattle.std.specs.Option.{option_copied}
 use Rattle.mpw_roles.specs.Hierarchy.{Hierarchy, role_names}

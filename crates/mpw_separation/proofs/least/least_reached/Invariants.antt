@@ -1,3 +1,4 @@
+-- The invariants of the loops of `least_reached` in `src/least.rt`.
 use Rattle.std.proofs.Common.{take, filter}
 use Rattle.std.specs.Option.{option_copied}
 use Rattle.mpw_geom.specs.Least.{IsLeast}

@@ -1,3 +1,4 @@
+-- The invariants of the loops of `has_role` in `src/named.rt`.
 use Rattle.std.proofs.Common.{◌≡◌, false, take}
 use Rattle.mpw_separation.specs.Separation.{uses_role}
 use Rattle.mpw_separation.proofs.named.has_role.Given as goal

@@ -1,3 +1,4 @@
+-- Answers to the goals of `are_distinct` in `src/set.rt`.
 use Rattle.std.proofs.Common.{◌≡◌, List, length, nat_eq, ap, ◌∙◌}
 use Rattle.mpw_geom.specs.Names.{by_name}
 use Rattle.mpw_roles.specs.Hierarchy.{Name}

@@ -1,3 +1,4 @@
+-- Answers to the goals of `hand_end` in `src/own_desk.rt`.
 use Rattle.mpw_serve.proofs.OwnDeskLemmas.{gone_cases}
 use Rattle.mpw_serve.proofs.own_desk.hand_end.Goals as goal
 

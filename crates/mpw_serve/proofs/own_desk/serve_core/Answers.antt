@@ -1,3 +1,4 @@
+-- Answers to the goals of `serve_core` in `src/own_desk.rt`.
 use Rattle.mpw_serve.proofs.OwnDeskLemmas.{served_own}
 use Rattle.mpw_serve.proofs.own_desk.serve_core.Goals as goal
 

@@ -1,3 +1,4 @@
+-- Answers to the goals of `command_line` in `src/program.rt`.
 use Rattle.mpw_settings.specs.declared.fault.SettingsFault.TheVariants.{Memory}
 use Rattle.mpw_serve.specs.Status.{ReadsCommandLine}
 use Rattle.mpw_serve.proofs.StatusLemmas.{reads_wordless}

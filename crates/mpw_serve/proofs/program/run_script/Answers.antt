@@ -1,3 +1,4 @@
+-- Answers to the goals of `run_script` in `src/program.rt`.
 use Rattle.std.proofs.Common.{Err}
 use Rattle.mpw_serve.specs.declared.fault.ProgramFault.TheVariants.{Memory}
 use Rattle.mpw_serve.proofs.program.run_script.Goals as goal

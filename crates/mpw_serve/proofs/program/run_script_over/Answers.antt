@@ -1,3 +1,4 @@
+-- Answers to the goals of `run_script_over` in `src/program.rt`.
 use Rattle.mpw_serve.proofs.StatusLemmas.{failed_exits}
 use Rattle.mpw_serve.proofs.program.run_script_over.Goals as goal
 

@@ -1,3 +1,4 @@
+-- Answers to the goals of `serve` in `src/program.rt`.
 use Rattle.mpw_serve.proofs.program.serve.Goals as goal
 
 pub returns : goal.returns

@@ -1,3 +1,4 @@
+-- Answers to the goals of `settings_by_words` in `src/program.rt`.
 use Rattle.mpw_serve.specs.Status.{ReadsWords}
 use Rattle.mpw_serve.proofs.StatusLemmas.{reads_unset}
 use Rattle.mpw_serve.proofs.program.settings_by_words.Goals as goal

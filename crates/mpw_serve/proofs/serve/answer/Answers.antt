@@ -1,3 +1,4 @@
+-- Answers to the goals of `answer` in `src/serve.rt`.
 use Rattle.std.proofs.Common.{rules}
 use Rattle.mpw_serve.specs.Serving.{Answer}
 use Rattle.mpw_serve.proofs.ServingLemmas.{handed_leaves}

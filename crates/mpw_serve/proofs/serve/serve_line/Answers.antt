@@ -1,3 +1,4 @@
+-- Answers to the goals of `serve_line` in `src/serve.rt`.
 use Rattle.std.proofs.Common.{rules, refl, subst, arith}
 use Rattle.std.proofs.KnownBytes.{Appends-nil}
 use Rattle.mpw_wire.specs.Reading.{Breaks, Reads}

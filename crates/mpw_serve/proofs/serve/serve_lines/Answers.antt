@@ -1,3 +1,4 @@
+-- Answers to the goals of `serve_lines` in `src/serve.rt`.
 use Rattle.std.proofs.Common.{rules, refl, ap, Ok, Err, Some}
 use Rattle.mpw_serve.proofs.ServingLemmas.{start, advance, finish, finish_at, spent, leaves_behind}
 use Rattle.mpw_serve.proofs.serve.serve_lines.Goals as goal

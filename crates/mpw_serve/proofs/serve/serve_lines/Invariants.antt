@@ -1,3 +1,4 @@
+-- The invariants of the loops of `serve_lines` in `src/serve.rt`.
 use Rattle.std.proofs.Common.{◌≡◌, false}
 use Rattle.mpw_serve.proofs.ServingLemmas.{Progress}
 use Rattle.mpw_serve.proofs.serve.serve_lines.Given as goal

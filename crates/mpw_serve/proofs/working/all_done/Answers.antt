@@ -1,3 +1,4 @@
+-- Answers to the goals of `all_done` in `src/working.rt`.
 use Rattle.std.proofs.Common.{rules}
 use Rattle.mpw_job.specs.Carried.{job_of}
 use Rattle.mpw_serve.proofs.BatchLemmas.{front_grows}

@@ -1,3 +1,4 @@
+-- The invariants of the loops of `all_done` in `src/working.rt`.
 use Rattle.std.proofs.Common.{◌≡◌, ◌-◌, ◌≤◌, map, take, length}
 use Rattle.mpw_job.specs.Carried.{job_of}
 use Rattle.mpw_serve.proofs.working.all_done.Given as goal

@@ -1,3 +1,4 @@
+-- The invariants of the loops of `events_of` in `src/working.rt`.
 use Rattle.std.proofs.Common.{◌≡◌, map, take}
 use Rattle.std.specs.Prelude.{All}
 use Rattle.mpw_serve.specs.Working.{event_of}

@@ -1,3 +1,4 @@
+-- Answers to the goals of `jobs_over` in `src/working.rt`.
 use Rattle.std.proofs.Common.{◌∷◌, [], ◌++◌, map, ap, ◌∙◌, arith}
 use Rattle.std.specs.List.{range_with_len}
 use Rattle.std.proofs.lemmas.List.FromFn.{map-range_with_len_more}

@@ -1,3 +1,4 @@
+-- The invariants of the loops of `jobs_over` in `src/working.rt`.
 use Rattle.std.proofs.Common.{◌≡◌}
 use Rattle.std.specs.Prelude.{map}
 use Rattle.std.specs.List.{range_with_len}

@@ -1,3 +1,4 @@
+-- Answers to the goals of `work_cut` in `src/working.rt`.
 use Rattle.mpw_serve.specs.Working.{WorksCut}
 use Rattle.mpw_serve.proofs.working.work_cut.Goals as goal
 

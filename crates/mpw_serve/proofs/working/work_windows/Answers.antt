@@ -1,3 +1,4 @@
+-- Answers to the goals of `work_windows` in `src/working.rt`.
 use Rattle.mpw_serve.specs.Working.{WorksCut}
 use Rattle.mpw_serve.proofs.HandingLemmas.{cut_kept, cut_unkept}
 use Rattle.mpw_serve.proofs.working.work_windows.Goals as goal

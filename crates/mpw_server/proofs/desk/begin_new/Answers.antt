@@ -1,3 +1,4 @@
+-- Answers to the goals of `begin_new` in `src/desk.rt`.
 use Rattle.std.proofs.Common.{ap}
 use Rattle.mpw_events.specs.History.{Desk}
 use Rattle.mpw_server.proofs.Numbers.{none-before}

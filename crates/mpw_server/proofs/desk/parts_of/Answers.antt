@@ -1,3 +1,4 @@
+-- Answers to the goals of `parts_of` in `src/desk.rt`.
 use Rattle.std.proofs.Common.{refl}
 use Rattle.sqlite.specs.Held.{state}
 use Rattle.mpw_server.proofs.StoredLemmas.{nothing_kept, stored_by, told_by, told_of_none}

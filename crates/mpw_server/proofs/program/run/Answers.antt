@@ -1,3 +1,4 @@
+-- Answers to the goals of `run` in `src/program.rt`.
 use Rattle.std.proofs.Common.{Err, ◌∙◌}
 use Rattle.mpw_server.proofs.program.run.Goals as goal
 

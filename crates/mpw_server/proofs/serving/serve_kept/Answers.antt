@@ -1,3 +1,4 @@
+-- Answers to the goals of `serve_kept` in `src/serving.rt`.
 use Rattle.std.proofs.Common.{IfOk, subst}
 use Rattle.mpw_events.specs.History.{kept_desk}
 use Rattle.mpw_keeper.specs.Kept.{failures_of, kept_by}

@@ -1,3 +1,4 @@
+-- Answers to the goals of `serve_opened` in `src/serving.rt`.
 use Rattle.std.proofs.Common.{refl, subst, sym}
 use Rattle.sqlite.specs.Held.{state}
 use Rattle.mpw_events.specs.History.{kept_desk}

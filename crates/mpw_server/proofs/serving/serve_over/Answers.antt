@@ -1,3 +1,4 @@
+-- Answers to the goals of `serve_over` in `src/serving.rt`.
 use Rattle.std.proofs.Common.{subst, sym}
 use Rattle.std.specs.Prelude.{is_some}
 use Rattle.sqlite.specs.Held.{state}

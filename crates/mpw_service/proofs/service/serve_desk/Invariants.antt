@@ -1,4 +1,4 @@
--- a desk is named by what it is made of: its blank's ledger and register, and its core with its keeper before any call of the service
+-- a desk is named by what it is made of: its blank's ledger and register, and its core with its store writer before any call of the service
 use Rattle.mpw_events.specs.History.{kept_desk}
 use Rattle.mpw_service.proofs.service.serve_desk.Given as goal
 

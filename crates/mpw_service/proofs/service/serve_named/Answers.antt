@@ -1,3 +1,4 @@
+-- Answers to the goals of `serve_named` in `src/service.rt`.
 use Rattle.std.proofs.Common.{rules}
 use Rattle.mpw_service.proofs.service.serve_named.Goals as goal
 

@@ -1,3 +1,4 @@
+-- Answers to the goals of `read_officer` in `src/officer.rt`.
 use Rattle.std.proofs.Common.{inr}
 use Rattle.clap.specs.Words.{found_of, rows_of}
 use Rattle.mpw_requests.proofs.DigestLemmas.{unspelt}

@@ -1,3 +1,4 @@
+-- Answers to the goals of `number_or` in `src/options.rt`.
 use Rattle.std.proofs.Common.{◌∙◌, sym}
 use Rattle.clap.specs.Words.{found_of, rows_of}
 use Rattle.mpw_settings.proofs.SettingsLemmas.{number_else, refused-more}

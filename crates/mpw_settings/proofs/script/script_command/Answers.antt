@@ -1,3 +1,4 @@
+-- Answers to the goals of `script_command` in `src/script.rt`.
 use Rattle.std.proofs.Common.{codes}
 use Rattle.std.proofs.lemmas.Result.{IfOk-weaker}
 use Rattle.clap.specs.Words.{new_app}

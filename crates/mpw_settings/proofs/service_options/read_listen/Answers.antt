@@ -1,3 +1,4 @@
+-- Answers to the goals of `read_listen` in `src/service_options.rt`.
 use Rattle.std.proofs.Common.{inr}
 use Rattle.clap.specs.Words.{found_of, rows_of}
 use Rattle.mpw_settings.proofs.SettingsLemmas.{no-address, none-read}

@@ -1,3 +1,4 @@
+-- Answers to the goals of `read_service` in `src/service_options.rt`.
 use Rattle.std.specs.String.{string_bytes}
 use Rattle.clap.specs.Words.{found_of, rows_of}
 use Rattle.mpw_settings.proofs.SettingsLemmas.{passed-on, unlimited}

@@ -1,3 +1,4 @@
+-- Answers to the goals of `with_store` in `src/store.rt`.
 use Rattle.std.proofs.Common.{codes}
 use Rattle.std.proofs.lemmas.Result.{IfOk-weaker}
 use Rattle.clap.specs.Words.{with_rule}

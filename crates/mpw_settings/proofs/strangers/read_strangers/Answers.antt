@@ -1,3 +1,4 @@
+-- Answers to the goals of `read_strangers` in `src/strangers.rt`.
 use Rattle.std.proofs.Common.{◌∙◌, sym}
 use Rattle.clap.specs.Words.{found_of, rows_of}
 use Rattle.mpw_settings.proofs.SettingsLemmas.{no_login, no_memory, no_rate, passed-on}

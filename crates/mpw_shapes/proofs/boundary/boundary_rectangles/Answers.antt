@@ -1,3 +1,4 @@
+-- Answers to the goals of `boundary_rectangles` in `src/boundary.rt`.
 use Rattle.std.proofs.Common.{◌∙◌, ap, List}
 use Rattle.mpw_shapes.specs.declared.edge.Edge.{Edge}
 use Rattle.mpw_shapes.specs.Internal.Edges.{edges_have}

@@ -1,3 +1,4 @@
+-- Answers to the goals of `rows_of` in `src/boundary.rt`.
 use Rattle.mpw_shapes.proofs.Order.{apart_from_sorted, kept_heights}
 use Rattle.mpw_shapes.proofs.boundary.rows_of.Goals as goal
 

@@ -1,3 +1,4 @@
+-- Answers to the goals of `push_box` in `src/boxes.rt`.
 use Rattle.std.proofs.Common.{◌∙◌, ap, inl, inr, arith, List}
 use Rattle.std.proofs.lemmas.Int.{ints}
 use Rattle.std.proofs.lemmas.List.Elements.{All-push, All-same}

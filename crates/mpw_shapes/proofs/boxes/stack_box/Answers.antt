@@ -1,3 +1,4 @@
+-- Answers to the goals of `stack_box` in `src/boxes.rt`.
 use Rattle.std.proofs.Common.{length, ◌<◌, ◌-◌, ◌≡◌, ◌<ℤ◌, arith, rules}
 use Rattle.std.proofs.lemmas.Int.{ints}
 use Rattle.mpw_shapes.proofs.Lists.{Stacks, stacks}

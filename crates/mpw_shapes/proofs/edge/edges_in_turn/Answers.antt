@@ -1,3 +1,4 @@
+-- Answers to the goals of `edges_in_turn` in `src/edge.rt`.
 use Rattle.std.proofs.Common.{◌≡◌, refl, ◌<◌, ◌∙◌, sym, ap, length, count_by, arith, List}
 use Rattle.std.proofs.lemmas.Bool.{eqb-true, eqb-false}
 use Rattle.mpw_shapes.specs.declared.edge.Edge.{Edge}

@@ -1,3 +1,4 @@
+-- The invariants of the loops of `edges_in_turn` in `src/edge.rt`.
 use Rattle.mpw_shapes.proofs.Chains.{Taken}
 use Rattle.mpw_shapes.proofs.edge.edges_in_turn.Given as goal
 

@@ -1,3 +1,4 @@
+-- Answers to the goals of `edges_of` in `src/edge.rt`.
 use Rattle.std.proofs.Common.{rules}
 use Rattle.std.proofs.lemmas.List.Sorted.{All-permutation, answers_always}
 use Rattle.mpw_shapes.specs.declared.edge.Edge.{Edge}

@@ -1,3 +1,4 @@
+-- Answers to the goals of `push_edge` in `src/edge.rt`.
 use Rattle.std.proofs.Common.{ap, arith}
 use Rattle.std.proofs.lemmas.Int.{ints}
 use Rattle.mpw_shapes.proofs.Chains.{up_pushed_up, up_pushed_down, down_pushed_up, down_pushed_down, none_pushed, ends_pushed}

@@ -1,3 +1,4 @@
+-- Answers to the goals of `path_rectangles` in `src/path.rt`.
 use Rattle.std.proofs.Common.{◌≡◌, ◌∙◌, length, drop, take, ◌-◌, arith}
 use Rattle.std.proofs.lemmas.List.{take_all, length-drop}
 use Rattle.mpw_shapes.proofs.Laid.{laid_none, laid_more, laid_last, laid_all}

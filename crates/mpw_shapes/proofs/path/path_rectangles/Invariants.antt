@@ -1,3 +1,4 @@
+-- The invariants of the loops of `path_rectangles` in `src/path.rt`.
 use Rattle.std.proofs.Common.{length}
 use Rattle.mpw_shapes.proofs.Laid.{Laid}
 use Rattle.mpw_shapes.proofs.path.path_rectangles.Given as goal

@@ -1,3 +1,4 @@
+-- Answers to the goals of `node_of` in `src/rows.rt`.
 use Rattle.std.proofs.Common.{arith, pos, true, false, get_or}
 use Rattle.std.specs.Prelude.{int_lt, if◌then◌else◌}
 use Rattle.std.proofs.lemmas.Int.{ints, clamps}

@@ -1,3 +1,4 @@
+-- Answers to the goals of `sweep` in `src/sweep.rt`.
 use Rattle.std.proofs.Common.{◌≡◌, ◌<◌, ◌^◌, sym, length, arith, rules}
 use Rattle.std.proofs.lemmas.Int.{ints}
 use Rattle.mpw_geom.specs.Plane.{any_has_square}

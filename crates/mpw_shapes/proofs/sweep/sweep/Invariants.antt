@@ -1,3 +1,4 @@
+-- The invariants of the loops of `sweep` in `src/sweep.rt`.
 use Rattle.mpw_shapes.proofs.RowSwept.{Sweeping}
 use Rattle.mpw_shapes.proofs.sweep.sweep.Given as goal
 

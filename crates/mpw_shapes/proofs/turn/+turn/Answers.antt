@@ -1,3 +1,4 @@
+-- Answers to the goals of `turn` in `src/turn.rt`.
 use Rattle.std.proofs.Common.{ap, arith, rules, ◌≤ℤ◌}
 use Rattle.std.proofs.lemmas.Int.{ints}
 use Rattle.mpw_shapes.specs.Internal.Rows.{reach, size_of, turn_of}

@@ -1,3 +1,4 @@
+-- The invariants of the loops of `turn` in `src/turn.rt`.
 use Rattle.std.proofs.Common.{◌+◌, ◌-◌, ◌*◌}
 use Rattle.mpw_shapes.proofs.turn.+turn.Given as goal
 

@@ -1,3 +1,4 @@
+-- Answers to the goals of `turn_state` in `src/turn.rt`.
 use Rattle.std.proofs.Common.{arith, rules, FitsSigned}
 use Rattle.std.specs.Int.{w64}
 use Rattle.std.proofs.lemmas.Int.{ints}

@@ -1,3 +1,4 @@
+-- Answers to the goals of `waiver_lines` in `src/lines.rt`.
 use Rattle.std.proofs.Common.{◌∙◌, ◌++◌, ap, sym, arith}
 use Rattle.mpw_signoff.specs.WaiverLines.{shown_line}
 use Rattle.mpw_signoff.proofs.Listed.{one_more, at_end}

@@ -1,3 +1,4 @@
+-- The invariants of the loops of `waiver_lines` in `src/lines.rt`.
 use Rattle.std.proofs.Common.{◌≡◌, ◌≤◌, ◌++◌, length, drop}
 use Rattle.mpw_signoff.specs.WaiverLines.{lines_from}
 use Rattle.mpw_signoff.proofs.lines.waiver_lines.Given as goal

@@ -1,3 +1,4 @@
+-- The invariants of the loops of `is_shown` in `src/sight.rt`.
 use Rattle.std.proofs.Common.{◌≡◌, slice_get, take, true}
 use Rattle.std.specs.List.{list_all}
 use Rattle.mpw_replies.specs.Listing.{is_seen}

@@ -1,3 +1,4 @@
+-- Answers to the goals of `kind_before` in `src/before.rt`.
 use Rattle.std.proofs.Common.{◌∙◌, ◌≤◌, ◌<◌, sym, ap, subst}
 use Rattle.mpw_records.specs.Records.{seen}
 use Rattle.mpw_skipping.specs.Before.{kind_until}

@@ -1,3 +1,4 @@
+-- The invariants of the loops of `kind_before` in `src/before.rt`.
 use Rattle.std.proofs.Common.{◌≡◌, length}
 use Rattle.mpw_skipping.specs.Before.{kind_before, kind_until}
 use Rattle.mpw_skipping.proofs.before.kind_before.Given as goal

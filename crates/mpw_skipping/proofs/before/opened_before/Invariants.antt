@@ -1,3 +1,4 @@
+-- The invariants of the loops of `opened_before` in `src/before.rt`.
 use Rattle.std.proofs.Common.{◌≡◌, length}
 use Rattle.mpw_skipping.specs.Before.{opened_before, opened_until}
 use Rattle.mpw_skipping.proofs.before.opened_before.Given as goal

@@ -1,3 +1,4 @@
+-- Answers to the goals of `original` in `src/cut.rt`.
 use Rattle.mpw_skipping.specs.declared.cut.Cut.{Cut}
 use Rattle.std.proofs.Common.{◌∙◌, ◌≤◌, ◌<◌, ◌-◌, ◌+◌, get_or, drop, sym, ap, subst}
 use Rattle.mpw_skipping.specs.Cuts.{original_from}

@@ -1,3 +1,4 @@
+-- The invariants of the loops of `original` in `src/cut.rt`.
 use Rattle.std.proofs.Common.{◌≡◌, drop}
 use Rattle.mpw_skipping.specs.Cuts.{original_from}
 use Rattle.mpw_skipping.proofs.cut.original.Given as goal

@@ -1,3 +1,4 @@
+-- Answers to the goals of `without` in `src/cut.rt`.
 use Rattle.mpw_skipping.specs.declared.cut.Cut.{Cut}
 use Rattle.std.proofs.Common.{◌∙◌, ◌+◌, ◌++◌, drop, get_or, sym, ap, refl, append_assoc}
 use Rattle.mpw_skipping.specs.Cuts.{left_from}

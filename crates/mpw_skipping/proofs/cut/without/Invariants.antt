@@ -1,3 +1,4 @@
+-- The invariants of the loops of `without` in `src/cut.rt`.
 use Rattle.std.proofs.Common.{◌≡◌, ◌++◌, drop}
 use Rattle.mpw_skipping.specs.Cuts.{left_from}
 use Rattle.mpw_skipping.proofs.cut.without.Given as goal

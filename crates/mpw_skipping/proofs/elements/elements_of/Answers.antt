@@ -1,3 +1,4 @@
+-- Answers to the goals of `elements_of` in `src/elements.rt`.
 use Rattle.std.proofs.Common.{◌∙◌, ◌++◌, sym, ap, append-nil}
 use Rattle.mpw_skipping.proofs.Finding.{in_none}
 use Rattle.mpw_skipping.proofs.elements.elements_of.Goals as goal

@@ -1,3 +1,4 @@
+-- The invariants of the loops of `elements_of` in `src/elements.rt`.
 use Rattle.std.proofs.Common.{◌≡◌, ◌++◌, length}
 use Rattle.mpw_skipping.specs.Elements.{elements_in, elements_of}
 use Rattle.mpw_skipping.proofs.elements.elements_of.Given as goal

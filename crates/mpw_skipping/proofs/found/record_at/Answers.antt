@@ -1,3 +1,4 @@
+-- Answers to the goals of `record_at` in `src/found.rt`.
 use Rattle.std.proofs.Common.{◌∙◌, sym, ap}
 use Rattle.mpw_records.specs.Records.{seen}
 use Rattle.mpw_skipping.proofs.Finding.{front_is, never_none, placed}

@@ -1,3 +1,4 @@
+-- The invariants of the loops of `cuts_among` in `src/layers.rt`.
 use Rattle.std.proofs.Common.{◌≡◌, map, filter, take}
 use Rattle.mpw_skipping.specs.Cuts.{cut_of, is_named}
 use Rattle.mpw_skipping.proofs.layers.cuts_among.Given as goal

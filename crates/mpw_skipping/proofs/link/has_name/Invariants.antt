@@ -1,3 +1,4 @@
+-- The invariants of the loops of `has_name` in `src/link.rt`.
 use Rattle.std.proofs.Common.{◌≡◌, drop, map}
 use Rattle.mpw_skipping.specs.Structures.{has_name}
 use Rattle.mpw_skipping.proofs.link.has_name.Given as goal

@@ -1,3 +1,4 @@
+-- Answers to the goals of `links_of` in `src/link.rt`.
 use Rattle.std.proofs.Common.{◌∙◌, ◌++◌, map, sym, ap, append-nil}
 use Rattle.mpw_skipping.specs.Internal.Passes.{link_of}
 use Rattle.mpw_skipping.proofs.Finding.{links_none}

@@ -1,3 +1,4 @@
+-- The invariants of the loops of `links_of` in `src/link.rt`.
 use Rattle.std.proofs.Common.{◌≡◌, ◌++◌, length, map}
 use Rattle.mpw_skipping.specs.Internal.Passes.{link_of}
 use Rattle.mpw_skipping.specs.Structures.{links_in, links_of}

@@ -1,3 +1,4 @@
+-- Answers to the goals of `pass` in `src/link.rt`.
 use Rattle.std.proofs.Common.{[], ◌∷◌, ◌∙◌, ℕ, List, map, take, get_or, ap, sym, subst, Bor}
 use Rattle.std.proofs.lemmas.List.{map-append, take_more}
 use Rattle.mpw_skipping.specs.Internal.Passes.{IsPass, link_of}

@@ -1,3 +1,4 @@
+-- The invariants of the loops of `pass` in `src/link.rt`.
 use Rattle.std.proofs.Common.{map, take}
 use Rattle.mpw_skipping.specs.Internal.Passes.{IsPass, link_of}
 use Rattle.mpw_skipping.proofs.link.pass.Given as goal

@@ -1,3 +1,4 @@
+-- Answers to the goals of `pass_one` in `src/link.rt`.
 use Rattle.std.proofs.Common.{ℕ, List, [], ◌∷◌, ◌++◌, ◌∙◌, map, ap, sym, subst}
 use Rattle.std.proofs.lemmas.List.{map-append}
 use Rattle.mpw_skipping.specs.Internal.Passes.{IsPass, link_of}

@@ -1,3 +1,4 @@
+-- Answers to the goals of `reached_from` in `src/link.rt`.
 use Rattle.std.proofs.Common.{[], ◌∷◌, ◌++◌, ◌∙◌, ◌≡◌, length, List, ℕ, map, ap, sym, subst, arith}
 use Rattle.std.proofs.lemmas.List.{length-map}
 use Rattle.mpw_skipping.specs.Internal.Passes.{IsPass, link_of}

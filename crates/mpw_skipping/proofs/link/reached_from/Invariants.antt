@@ -1,3 +1,4 @@
+-- The invariants of the loops of `reached_from` in `src/link.rt`.
 use Rattle.std.proofs.Common.{length, map}
 use Rattle.mpw_skipping.specs.Internal.Passes.{link_of}
 use Rattle.mpw_skipping.proofs.Reaching.{IsOnTheWay}

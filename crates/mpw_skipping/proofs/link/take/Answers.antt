@@ -1,3 +1,4 @@
+-- Answers to the goals of `take` in `src/link.rt`.
 use Rattle.std.proofs.Common.{◌∙◌, ◌++◌, map, ap, refl, append_assoc}
 use Rattle.std.proofs.lemmas.List.{map-append}
 use Rattle.mpw_records.specs.Records.{raw}

@@ -1,3 +1,4 @@
+-- Answers to the goals of `names_of` in `src/names.rt`.
 use Rattle.std.proofs.Common.{◌∙◌, ◌++◌, map, sym, ap, append-nil}
 use Rattle.mpw_skipping.proofs.Finding.{names_none}
 use Rattle.mpw_skipping.proofs.names.names_of.Goals as goal

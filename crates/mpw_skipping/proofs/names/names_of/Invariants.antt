@@ -1,3 +1,4 @@
+-- The invariants of the loops of `names_of` in `src/names.rt`.
 use Rattle.std.proofs.Common.{◌≡◌, ◌++◌, length, map}
 use Rattle.mpw_skipping.specs.Names.{names_in, names_of}
 use Rattle.mpw_skipping.proofs.names.names_of.Given as goal

@@ -1,3 +1,4 @@
+-- Answers to the goals of `structures_of` in `src/standing.rt`.
 use Rattle.std.proofs.Common.{◌∙◌, ◌++◌, sym, ap, append-nil}
 use Rattle.mpw_skipping.proofs.Finding.{structures_none}
 use Rattle.mpw_skipping.proofs.standing.structures_of.Goals as goal

@@ -1,3 +1,4 @@
+-- The invariants of the loops of `structures_of` in `src/standing.rt`.
 use Rattle.std.proofs.Common.{◌≡◌, ◌++◌, length}
 use Rattle.mpw_skipping.specs.Structures.{structures_in, structures_of}
 use Rattle.mpw_skipping.proofs.standing.structures_of.Given as goal

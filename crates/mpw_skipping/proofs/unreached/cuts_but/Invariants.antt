@@ -1,3 +1,4 @@
+-- The invariants of the loops of `cuts_but` in `src/unreached.rt`.
 use Rattle.std.proofs.Common.{◌≡◌, filter, map, not, take}
 use Rattle.mpw_skipping.specs.Structures.{cut_of, has_name, name_at}
 use Rattle.mpw_skipping.proofs.unreached.cuts_but.Given as goal

@@ -1,3 +1,4 @@
+-- The invariants of the loops of `read_first` in `src/device.rt`.
 use Rattle.std.proofs.Common.{◌≤◌, ◌≡◌, length}
 use Rattle.mpw_sources.specs.Fronts.{Takes}
 use Rattle.mpw_sources.proofs.device.read_first.Given as goal

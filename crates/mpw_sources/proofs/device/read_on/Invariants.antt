@@ -1,3 +1,4 @@
+-- The invariants of the loops of `read_on` in `src/device.rt`.
 use Rattle.std.proofs.Common.{◌≤◌, ◌≡◌, length}
 use Rattle.mpw_sources.specs.Fronts.{IsPlace, Leads, Takes}
 use Rattle.mpw_sources.proofs.device.read_on.Given as goal

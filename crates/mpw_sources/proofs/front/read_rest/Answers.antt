@@ -1,3 +1,4 @@
+-- Answers to the goals of `read_rest` in `src/front.rt`.
 use Rattle.std.proofs.lemmas.Result.{IfOk-weaker}
 use Rattle.mpw_sources.proofs.Fronts.{none_on, takes_none, whole_on}
 use Rattle.mpw_sources.proofs.front.read_rest.Goals as goal

@@ -1,3 +1,4 @@
+-- The invariants of the loops of `all_look` in `src/looked.rt`.
 use Rattle.std.proofs.Common.{◌≡◌, drop}
 use Rattle.std.specs.Prelude.{is_none}
 use Rattle.std.specs.List.{list_all}

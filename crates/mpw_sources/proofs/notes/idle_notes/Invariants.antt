@@ -1,3 +1,4 @@
+-- The invariants of the loops of `idle_notes` in `src/notes.rt`.
 use Rattle.std.proofs.Common.{◌≡◌, map, take}
 use Rattle.std.specs.List.{flat_map}
 use Rattle.mpw_report.specs.Content.{note_of}

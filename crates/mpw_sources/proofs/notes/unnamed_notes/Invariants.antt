@@ -1,3 +1,4 @@
+-- The invariants of the loops of `unnamed_notes` in `src/notes.rt`.
 use Rattle.std.proofs.Common.{◌≡◌, map, take}
 use Rattle.mpw_report.specs.Content.{note_of}
 use Rattle.mpw_sources.specs.Notes.{unnamed_note}

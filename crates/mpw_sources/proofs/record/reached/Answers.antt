@@ -1,3 +1,4 @@
+-- Answers to the goals of `reached` in `src/record.rt`.
 use Rattle.std.proofs.Common.{◌∙◌, arith, rules, sym, ap}
 use Rattle.mpw_sources.specs.Fronts.{head_of}
 use Rattle.mpw_sources.proofs.Fronts.{records_more, rest_taken}

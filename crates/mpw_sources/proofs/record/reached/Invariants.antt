@@ -1,3 +1,4 @@
+-- The invariants of the loops of `reached` in `src/record.rt`.
 use Rattle.std.proofs.Common.{◌≤◌, length, take}
 use Rattle.mpw_sources.specs.Fronts.{AreRecords}
 use Rattle.mpw_sources.proofs.record.reached.Given as goal

@@ -1,3 +1,4 @@
+-- The invariants of the loops of `all_left` in `src/seen.rt`.
 use Rattle.std.proofs.Common.{◌≡◌, map, take}
 use Rattle.mpw_sources.specs.Seen.{told_left, told_seen}
 use Rattle.mpw_sources.proofs.seen.all_left.Given as goal

@@ -1,3 +1,4 @@
+-- The invariants of the loops of `report_faults` in `src/seen.rt`.
 use Rattle.std.proofs.Common.{◌≡◌, map, take}
 use Rattle.mpw_report.specs.Content.{fault_of}
 use Rattle.mpw_sources.specs.Seen.{told_seen}

@@ -1,3 +1,4 @@
+-- The invariants of the loops of `cut_faults` in `src/told_faults.rt`.
 use Rattle.std.proofs.Common.{◌≡◌, take}
 use Rattle.std.specs.Prelude.{filter}
 use Rattle.mpw_sources.specs.FaultLines.{is_cut}

@@ -1,3 +1,4 @@
+-- The invariants of the loops of `is_cut` in `src/told_faults.rt`.
 use Rattle.std.proofs.Common.{◌≡◌, drop}
 use Rattle.std.specs.List.{list_any}
 use Rattle.mpw_sources.specs.FaultLines.{is_in}

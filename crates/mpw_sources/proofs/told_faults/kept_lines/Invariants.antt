@@ -1,3 +1,4 @@
+-- The invariants of the loops of `kept_lines` in `src/told_faults.rt`.
 use Rattle.std.proofs.Common.{◌≡◌, take}
 use Rattle.std.specs.String.{string_bytes}
 use Rattle.mpw_sources.specs.FaultLines.{kept_lines}

@@ -1,3 +1,4 @@
+-- The invariants of the loops of `left_lines` in `src/told_faults.rt`.
 use Rattle.std.proofs.Common.{◌≡◌, take}
 use Rattle.std.specs.String.{string_bytes}
 use Rattle.mpw_sources.specs.FaultLines.{left_lines}

@@ -1,3 +1,4 @@
+-- The invariants of the loops of `costs_of` in `src/costs.rt`.
 use Rattle.std.proofs.Common.{◌≡◌, ◌≤◌, length}
 use Rattle.std.specs.Prelude.{All}
 use Rattle.mpw_spread.proofs.costs.costs_of.Given as goal

@@ -1,3 +1,4 @@
+-- Answers to the goals of `parts_make_the_layout` in `src/laws.rt`.
 use Rattle.mpw_spread.proofs.Made.{parts_make}
 use Rattle.mpw_spread.proofs.laws.parts_make_the_layout.Goals as goal
 

@@ -1,3 +1,4 @@
+-- Answers to the goals of `check_part` in `src/part.rt`.
 use Rattle.std.proofs.Common.{◌≤◌, List, length, ap, sym, subst, arith}
 use Rattle.std.specs.Prelude.{All}
 use Rattle.std.specs.List.{AllZip}

@@ -1,3 +1,4 @@
+-- Answers to the goals of `border` in `src/range.rt`.
 use Rattle.std.proofs.Common.{◌≡◌, ◌∙◌, ◌≤◌, ◌+◌, ◌-◌, ◌*◌, length, drop, get_or, ap, sym, arith}
 use Rattle.mpw_spread.specs.Ranges.{reach_of}
 use Rattle.mpw_spread.proofs.Reach.{reach_none, reach_step, reach_end}

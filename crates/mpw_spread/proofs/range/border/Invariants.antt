@@ -1,3 +1,4 @@
+-- The invariants of the loops of `border` in `src/range.rt`.
 use Rattle.std.proofs.Common.{◌≡◌, ◌≤◌, ◌+◌, ◌*◌, length, drop}
 use Rattle.mpw_spread.specs.Ranges.{reach_of, border_of}
 use Rattle.mpw_spread.proofs.range.border.Given as goal

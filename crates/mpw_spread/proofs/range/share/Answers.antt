@@ -1,3 +1,4 @@
+-- Answers to the goals of `share` in `src/range.rt`.
 use Rattle.std.proofs.Common.{◌≤◌, ◌-◌, arith}
 use Rattle.mpw_spread.proofs.Shares.{borders_grow}
 use Rattle.mpw_spread.proofs.range.share.Goals as goal

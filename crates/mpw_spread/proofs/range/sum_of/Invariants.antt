@@ -1,3 +1,4 @@
+-- The invariants of the loops of `sum_of` in `src/range.rt`.
 use Rattle.std.proofs.Common.{◌≡◌, ◌≤◌, ◌+◌, ◌*◌, length, drop}
 use Rattle.std.specs.Prelude.{sum}
 use Rattle.mpw_spread.proofs.range.sum_of.Given as goal

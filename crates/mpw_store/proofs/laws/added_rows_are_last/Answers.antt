@@ -1,3 +1,4 @@
+-- Answers to the goals of `added_rows_are_last` in `src/laws.rt`.
 use Rattle.mpw_store.proofs.EntryLemmas.{added_last}
 use Rattle.mpw_store.proofs.laws.added_rows_are_last.Goals as goal
 

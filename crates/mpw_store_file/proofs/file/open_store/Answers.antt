@@ -1,3 +1,4 @@
+-- Answers to the goals of `open_store` in `src/file.rt`.
 use Rattle.mpw_store_file.specs.Terms.{MayRefuse}
 use Rattle.mpw_store_file.proofs.FaultLemmas.{handed_on}
 use Rattle.mpw_store_file.proofs.file.open_store.Goals as goal

@@ -1,3 +1,4 @@
+-- Answers to the goals of `open_announced` in `src/opening.rt`.
 use Rattle.sqlite.specs.Files.{file_state}
 use Rattle.mpw_reopen.proofs.ClosingLemmas.{clean-before}
 use Rattle.mpw_stored_script.proofs.opening.open_announced.Goals as goal

@@ -1,3 +1,4 @@
+-- Answers to the goals of `open_desk` in `src/opening.rt`.
 use Rattle.mpw_stored_script.proofs.ServingLemmas.{idle_of}
 use Rattle.mpw_stored_script.proofs.opening.open_desk.Goals as goal
 

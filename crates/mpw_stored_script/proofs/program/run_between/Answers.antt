@@ -1,3 +1,4 @@
+-- Answers to the goals of `run_between` in `src/program.rt`.
 use Rattle.mpw_stored_script.proofs.program.run_between.Goals as goal
 
 pub returns : goal.returns

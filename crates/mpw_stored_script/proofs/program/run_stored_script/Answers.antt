@@ -1,3 +1,4 @@
+-- Answers to the goals of `run_stored_script` in `src/program.rt`.
 use Rattle.mpw_stored_script.proofs.EndingLemmas.{ends_opened}
 use Rattle.mpw_stored_script.proofs.program.run_stored_script.Goals as goal
 

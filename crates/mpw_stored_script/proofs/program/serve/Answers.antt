@@ -1,3 +1,4 @@
+-- Answers to the goals of `serve` in `src/program.rt`.
 use Rattle.std.proofs.Common.{ap₂}
 use Rattle.mpw_serve.specs.Status.{devices}
 use Rattle.mpw_stored_script.specs.Ending.{EndsAs}

@@ -1,3 +1,4 @@
+-- Answers to the goals of `scale` in `src/coordinates.rt`.
 use Rattle.std.proofs.Common.{◌^◌, pos, ◌*ℤ◌, refl, arith, rules}
 use mir.Syntax.{w32, w64}
 use mir.Val.{SFits}

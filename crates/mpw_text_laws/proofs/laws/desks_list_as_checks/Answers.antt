@@ -1,3 +1,4 @@
+-- Answers to the goals of `desks_list_as_checks` in `src/laws.rt`.
 use Rattle.mpw_text_laws.proofs.Replies.{desks_list}
 use Rattle.mpw_text_laws.proofs.laws.desks_list_as_checks.Goals as goal
 

@@ -1,3 +1,4 @@
+-- Answers to the goals of `listings_are_replies` in `src/laws.rt`.
 use Rattle.mpw_text_laws.proofs.Replies.{listings_are}
 use Rattle.mpw_text_laws.proofs.laws.listings_are_replies.Goals as goal
 

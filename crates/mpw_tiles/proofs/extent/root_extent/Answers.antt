@@ -1,3 +1,4 @@
+-- Answers to the goals of `root_extent` in `src/extent.rt`.
 use Rattle.std.proofs.Common.{◌≡◌, true, Option, Some, sym, subst, ap, ◌∙◌}
 use Rattle.std.specs.Prelude.{IfSome, option_map}
 use Rattle.mpw_geom.specs.declared.plane.Box2.{Box2}

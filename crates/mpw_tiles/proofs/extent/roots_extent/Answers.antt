@@ -1,3 +1,4 @@
+-- Answers to the goals of `roots_extent` in `src/extent.rt`.
 use Rattle.mpw_hier.proofs.Nearness.{near_hull}
 use Rattle.mpw_tiles.proofs.Looking.{hull_more, hull_last}
 use Rattle.mpw_tiles.proofs.extent.roots_extent.Goals as goal

@@ -1,3 +1,4 @@
+-- The invariants of the loops of `roots_extent` in `src/extent.rt`.
 use Rattle.std.proofs.Common.{◌≡◌, true, drop}
 use Rattle.std.specs.Prelude.{IfSome}
 use Rattle.mpw_hier.specs.Boxes.{hull, is_box_near}

@@ -1,3 +1,4 @@
+-- The invariants of the loops of `empty_lists` in `src/fill.rt`.
 use Rattle.std.proofs.Common.{◌≡◌, [], length}
 use Rattle.std.specs.Prelude.{All}
 use Rattle.mpw_tiles.proofs.fill.empty_lists.Given as goal

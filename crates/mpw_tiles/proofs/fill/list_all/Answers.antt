@@ -1,3 +1,4 @@
+-- Answers to the goals of `list_all` in `src/fill.rt`.
 use Rattle.std.proofs.Common.{◌∙◌, List, subst}
 use Rattle.std.proofs.lemmas.List.{take_all}
 use Rattle.mpw_tiles.specs.Listing.{IsListed}

@@ -1,3 +1,4 @@
+-- The invariants of the loops of `list_all` in `src/fill.rt`.
 use Rattle.std.proofs.Common.{take}
 use Rattle.mpw_tiles.specs.Listing.{IsListed}
 use Rattle.mpw_tiles.specs.Internal.Listing.{AddsSquares}

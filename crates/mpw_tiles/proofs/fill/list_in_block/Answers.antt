@@ -1,3 +1,4 @@
+-- Answers to the goals of `list_in_block` in `src/fill.rt`.
 use Rattle.std.proofs.Common.{◌+◌, ◌⊎◌, arith}
 use Rattle.mpw_tiles.specs.Grid.{column_of, row_of, IsInBlock}
 use Rattle.mpw_tiles.specs.Internal.Listing.{IsInRow, IsInRows}

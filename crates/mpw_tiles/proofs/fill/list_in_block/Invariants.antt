@@ -1,3 +1,4 @@
+-- The invariants of the loops of `list_in_block` in `src/fill.rt`.
 use Rattle.std.proofs.Common.{◌≤◌, max}
 use Rattle.mpw_tiles.specs.Internal.Listing.{Lists, IsInRows}
 use Rattle.mpw_tiles.proofs.fill.list_in_block.Given as goal

@@ -1,3 +1,4 @@
+-- Answers to the goals of `list_in_row` in `src/fill.rt`.
 use Rattle.std.proofs.Common.{◌≡◌, ℕ, ◌+◌, ◌*◌, ◌<◌, ◌⊎◌, subst, arith}
 use Rattle.mpw_tiles.specs.Grid.{columns}
 use Rattle.mpw_tiles.specs.Internal.Listing.{Lists, IsInRow}

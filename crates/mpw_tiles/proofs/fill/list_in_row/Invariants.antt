@@ -1,3 +1,4 @@
+-- The invariants of the loops of `list_in_row` in `src/fill.rt`.
 use Rattle.std.proofs.Common.{◌≤◌, max}
 use Rattle.mpw_tiles.specs.Internal.Listing.{Lists, IsInRow}
 use Rattle.mpw_tiles.proofs.fill.list_in_row.Given as goal

@@ -1,3 +1,4 @@
+-- Answers to the goals of `list_rectangle` in `src/fill.rt`.
 use Rattle.std.proofs.Common.{arith}
 use Rattle.std.proofs.lemmas.Int.{ints}
 use Rattle.mpw_tiles.proofs.Lists.{adds_rectangle, adds_nothing, no_width, no_height}

@@ -1,3 +1,4 @@
+-- Answers to the goals of `windows_of` in `src/fill.rt`.
 use Rattle.std.proofs.Common.{◌∙◌}
 use Rattle.mpw_tiles.specs.Listing.{IsListed, AreWindowsOf, ListNear}
 use Rattle.mpw_tiles.proofs.Added.{added_to_none, added_near}

@@ -1,3 +1,4 @@
+-- Answers to the goals of `row_count` in `src/grid.rt`.
 use Rattle.std.proofs.Common.{rules}
 use Rattle.mpw_tiles.proofs.Cells.{counted_rows}
 use Rattle.mpw_tiles.proofs.grid.row_count.Goals as goal

@@ -1,3 +1,4 @@
+-- Answers to the goals of `plans_lie_in_plane` in `src/laws.rt`.
 use Rattle.mpw_tiles.proofs.Planes.{plans_in_plane}
 use Rattle.mpw_tiles.proofs.laws.plans_lie_in_plane.Goals as goal
 

@@ -1,3 +1,4 @@
+-- Answers to the goals of `squares_lie_in_boxes` in `src/laws.rt`.
 use Rattle.mpw_tiles.proofs.Bounds.{in_boxes, in_extents, layers_in_extents, in_plane}
 use Rattle.mpw_tiles.proofs.laws.squares_lie_in_boxes.Goals as goal
 

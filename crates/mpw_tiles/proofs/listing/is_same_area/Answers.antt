@@ -1,3 +1,4 @@
+-- Answers to the goals of `is_same_area` in `src/listing.rt`.
 use Rattle.mpw_geom.proofs.Boxes.{same_area}
 use Rattle.mpw_tiles.proofs.listing.is_same_area.Goals as goal
 

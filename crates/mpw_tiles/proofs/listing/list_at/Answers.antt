@@ -1,3 +1,4 @@
+-- Answers to the goals of `list_at` in `src/listing.rt`.
 use Rattle.std.proofs.Common.{List, [], ◌∷◌, ◌++◌, ap, ◌∙◌}
 use Rattle.std.specs.Prelude.{slice_set}
 use Rattle.std.proofs.lemmas.List.{get_or_default}

@@ -1,3 +1,4 @@
+-- The invariants of the loops of `windows_from` in `src/listing.rt`.
 use Rattle.std.proofs.Common.{◌≡◌, ◌++◌}
 use Rattle.mpw_tiles.proofs.listing.windows_from.Given as goal
 

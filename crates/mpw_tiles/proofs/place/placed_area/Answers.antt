@@ -1,3 +1,4 @@
+-- Answers to the goals of `placed_area` in `src/place.rt`.
 use Rattle.std.proofs.Common.{rules, w64, to_z, of_z}
 use Rattle.std.proofs.lemmas.Int.{to_z-of_z}
 use Rattle.mpw_geom.specs.declared.plane.Point.{Point}

@@ -1,3 +1,4 @@
+-- The invariants of the loops of `greatest_distance` in `src/plan.rt`.
 use Rattle.std.proofs.Common.{◌≡◌, take}
 use Rattle.mpw_tiles.specs.Plan.{greatest_distance}
 use Rattle.mpw_tiles.proofs.plan.greatest_distance.Given as goal

@@ -1,3 +1,4 @@
+-- Answers to the goals of `list_boxes` in `src/shapes.rt`.
 use Rattle.std.proofs.Common.{[], take, ◌∙◌, List, subst, arith}
 use Rattle.std.proofs.lemmas.Int.{ints}
 use Rattle.std.proofs.lemmas.List.{take_all}

@@ -1,3 +1,4 @@
+-- The invariants of the loops of `list_boxes` in `src/shapes.rt`.
 use Rattle.std.proofs.Common.{take}
 use Rattle.mpw_tiles.specs.Internal.Listing.{AddsSquares, HasPlacedSquare}
 use Rattle.mpw_tiles.proofs.shapes.list_boxes.Given as goal

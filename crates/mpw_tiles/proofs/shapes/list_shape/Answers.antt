@@ -1,3 +1,4 @@
+-- Answers to the goals of `list_shape` in `src/shapes.rt`.
 use Rattle.mpw_walk.specs.Way.{item_of}
 use Rattle.mpw_tiles.specs.Internal.Listing.{HasPlacedSquare}
 use Rattle.mpw_tiles.specs.Shown.{ShowsSquare}

@@ -1,3 +1,4 @@
+-- The invariants of the loops of `list_shapes` in `src/shapes.rt`.
 use Rattle.std.proofs.Common.{◌≡◌, ◌++◌, List, length}
 use Rattle.mpw_hier.specs.Items.{Item}
 use Rattle.mpw_walk.specs.Turns.{given}

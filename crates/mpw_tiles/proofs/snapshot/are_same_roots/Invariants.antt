@@ -1,3 +1,4 @@
+-- The invariants of the loops of `are_same_roots` in `src/snapshot.rt`.
 use Rattle.std.proofs.Common.{◌≡◌, take}
 use Rattle.mpw_tiles.proofs.snapshot.are_same_roots.Given as goal
 

@@ -1,3 +1,4 @@
+-- Answers to the goals of `cut` in `src/snapshot.rt`.
 use Rattle.std.proofs.Common.{List, ◌∙◌, sym, subst}
 use Rattle.mpw_hier.specs.Items.{Item}
 use Rattle.mpw_tiles.specs.Internal.Listing.{AddsSquares}

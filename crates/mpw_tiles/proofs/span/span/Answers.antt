@@ -1,3 +1,4 @@
+-- Answers to the goals of `span` in `src/span.rt`.
 use Rattle.std.proofs.Common.{◌≡◌, ◌+◌, ◌∙◌, ap, min, ℕ, pos, ◌-ℤ◌, ◌<ℤ◌, refl, rules, w64, arith, SFits}
 use Rattle.std.specs.Int.{int_max}
 use Rattle.std.proofs.lemmas.Int.{ints, to_z-of_z}

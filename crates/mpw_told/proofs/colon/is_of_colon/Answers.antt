@@ -1,3 +1,4 @@
+-- Answers to the goals of `is_of_colon` in `src/colon.rt`.
 use Rattle.std.proofs.Common.{◌∙◌, map, ap}
 use Rattle.std.specs.Prelude.{slice_get}
 use Rattle.std.proofs.lemmas.Result.{IfOk-weaker}

@@ -1,3 +1,4 @@
+-- The invariants of the loops of `is_parted` in `src/colon.rt`.
 use Rattle.std.proofs.Common.{◌≡◌, ◌==◌, drop}
 use Rattle.std.specs.List.{list_any}
 use Rattle.mpw_told.proofs.colon.is_parted.Given as goal

@@ -1,3 +1,4 @@
+-- The invariants of the loops of `list_of_names` in `src/told.rt`.
 use Rattle.std.proofs.Common.{◌≡◌, take}
 use Rattle.std.specs.String.{string_bytes}
 use Rattle.mpw_told.specs.ToldFaults.{spaced}

@@ -1,3 +1,4 @@
+-- Answers to the goals of `doubled_column` in `src/told_parts.rt`.
 use Rattle.std.proofs.Common.{subst}
 use Rattle.std.specs.String.{string_bytes}
 use Rattle.mpw_told.specs.Told.{Refuses}

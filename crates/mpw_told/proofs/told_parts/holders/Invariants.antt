@@ -1,3 +1,4 @@
+-- The invariants of the loops of `holders` in `src/told_parts.rt`.
 use Rattle.std.proofs.Common.{◌≡◌, take}
 use Rattle.std.specs.String.{string_bytes}
 use Rattle.mpw_told.specs.ToldParts.{names_with}

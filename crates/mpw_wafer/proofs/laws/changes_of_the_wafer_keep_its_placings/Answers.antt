@@ -1,3 +1,4 @@
+-- Answers to the goals of `changes_of_the_wafer_keep_its_placings` in `src/laws.rt`.
 use Rattle.mpw_wafer.proofs.Leaving.{changes_keep}
 use Rattle.mpw_wafer.proofs.laws.changes_of_the_wafer_keep_its_placings.Goals as goal
 

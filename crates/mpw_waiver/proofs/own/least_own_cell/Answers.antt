@@ -1,3 +1,4 @@
+-- Answers to the goals of `least_own_cell` in `src/own.rt`.
 use Rattle.std.proofs.Common.{ℕ, ◌+◌, ◌∙◌, List, Option, ap, subst, sym, take, slice_get}
 use Rattle.std.specs.List.{filter_map}
 use Rattle.std.specs.Option.{option_copied}

@@ -1,3 +1,4 @@
+-- The invariants of the loops of `least_own_cell` in `src/own.rt`.
 use Rattle.std.proofs.Common.{take}
 use Rattle.std.specs.Prelude.{slice_get}
 use Rattle.std.specs.List.{filter_map}

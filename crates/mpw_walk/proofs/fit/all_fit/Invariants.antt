@@ -1,3 +1,4 @@
+-- The invariants of the loops of `all_fit` in `src/fit.rt`.
 use Rattle.std.proofs.Common.{take}
 use Rattle.std.specs.Prelude.{All}
 use Rattle.mpw_walk.specs.Walk.{IsRoot}

@@ -1,3 +1,4 @@
+-- Answers to the goals of `is_placed_near` in `src/fit.rt`.
 use Rattle.std.proofs.Common.{◌≡◌, Bool, false, IsTrue, sym, ◌∙◌}
 use Rattle.mpw_walk.proofs.Close.{far_placed}
 use Rattle.mpw_walk.proofs.fit.is_placed_near.Goals as goal

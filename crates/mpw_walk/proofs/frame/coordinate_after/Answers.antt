@@ -1,3 +1,4 @@
+-- Answers to the goals of `coordinate_after` in `src/frame.rt`.
 use Rattle.std.proofs.Common.{rules, ◌∙◌, ap, ◌+ℤ◌, ◌*ℤ◌, w64, FitsSigned}
 use Rattle.mpw_walk.proofs.Arrays.{computed}
 use Rattle.mpw_walk.proofs.frame.coordinate_after.Goals as goal

@@ -1,3 +1,4 @@
+-- Answers to the goals of `instance` in `src/frame.rt`.
 use Rattle.mpw_walk.proofs.Arrays.{within_first, within_column}
 use Rattle.mpw_walk.proofs.frame.instance.Goals as goal
 

@@ -1,3 +1,4 @@
+-- Answers to the goals of `point_after` in `src/frame.rt`.
 use Rattle.std.proofs.Common.{rules}
 use Rattle.mpw_walk.proofs.frame.point_after.Goals as goal
 

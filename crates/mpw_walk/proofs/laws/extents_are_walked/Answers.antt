@@ -1,3 +1,4 @@
+-- Answers to the goals of `extents_are_walked` in `src/laws.rt`.
 use Rattle.mpw_walk.proofs.laws.extents_are_walked.Goals as goal
 
 pub returns : goal.returns

@@ -1,3 +1,4 @@
+-- Answers to the goals of `missed_instances_show_nothing_met` in `src/laws.rt`.
 use Rattle.mpw_walk.proofs.Missed.{roots_carry, instances_carry, roots_missed, instances_missed}
 use Rattle.mpw_walk.proofs.Taken.{meeting}
 use Rattle.mpw_walk.proofs.laws.missed_instances_show_nothing_met.Goals as goal

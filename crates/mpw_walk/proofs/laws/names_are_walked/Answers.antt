@@ -1,3 +1,4 @@
+-- Answers to the goals of `names_are_walked` in `src/laws.rt`.
 use Rattle.mpw_walk.specs.Internal.Named.{own_turns}
 use Rattle.mpw_walk.specs.Turns.{placed_turns}
 use Rattle.mpw_walk.proofs.laws.names_are_walked.Goals as goal

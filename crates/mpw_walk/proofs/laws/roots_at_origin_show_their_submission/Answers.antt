@@ -1,3 +1,4 @@
+-- Answers to the goals of `roots_at_origin_show_their_submission` in `src/laws.rt`.
 use Rattle.mpw_walk.proofs.Roots.{unmoved_fits, unmoved_shapes}
 use Rattle.mpw_walk.proofs.laws.roots_at_origin_show_their_submission.Goals as goal
 

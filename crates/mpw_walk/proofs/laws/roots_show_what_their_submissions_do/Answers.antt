@@ -1,3 +1,4 @@
+-- Answers to the goals of `roots_show_what_their_submissions_do` in `src/laws.rt`.
 use Rattle.mpw_walk.proofs.Roots.{roots_reach, roots_counted}
 use Rattle.mpw_walk.proofs.laws.roots_show_what_their_submissions_do.Goals as goal
 

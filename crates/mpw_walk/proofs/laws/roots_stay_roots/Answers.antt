@@ -1,3 +1,4 @@
+-- Answers to the goals of `roots_stay_roots` in `src/laws.rt`.
 use Rattle.mpw_walk.proofs.Roots.{root_stays, roots_stay}
 use Rattle.mpw_walk.proofs.laws.roots_stay_roots.Goals as goal
 

@@ -1,3 +1,4 @@
+-- Answers to the goals of `columns_missed` in `src/skip.rt`.
 use Rattle.std.proofs.Common.{rules, w64, SFits, sym, subst}
 use Rattle.std.proofs.lemmas.Int.{to_z-of_z}
 use Rattle.mpw_walk.specs.Internal.Skips.{MissColumns}

@@ -1,3 +1,4 @@
+-- Answers to the goals of `rows_along` in `src/skip.rt`.
 use Rattle.std.proofs.Common.{w64, SFits}
 use Rattle.std.proofs.lemmas.Int.{to_z-of_z}
 use Rattle.mpw_walk.proofs.skip.rows_along.Goals as goal

@@ -1,3 +1,4 @@
+-- Answers to the goals of `spans_missed` in `src/skip.rt`.
 use Rattle.std.proofs.Common.{rules, ◌≡◌, ◌*ℤ◌, ◌-ℤ◌, ◌<ℤ◌, pos, neg_ℤ, w64, arith, SFits, subst}
 use Rattle.std.specs.Prelude.{unsigned_abs}
 use Rattle.std.proofs.lemmas.Int.{ints, to_z-of_z}

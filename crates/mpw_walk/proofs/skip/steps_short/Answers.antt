@@ -1,3 +1,4 @@
+-- Answers to the goals of `steps_short` in `src/skip.rt`.
 use Rattle.std.proofs.Common.{◌≡◌, ◌-◌, ◌/◌, ◌<ℤ◌, pos, ap, w64, arith, SFits}
 use Rattle.std.specs.Prelude.{unsigned_abs}
 use Rattle.std.proofs.lemmas.Int.{ints, to_z-of_z}

@@ -1,3 +1,4 @@
+-- Answers to the goals of `do_meet` in `src/window.rt`.
 use Rattle.mpw_walk.proofs.Taken.{told_meeting}
 use Rattle.mpw_walk.proofs.window.do_meet.Goals as goal
 

@@ -1,3 +1,4 @@
+-- Answers to the goals of `cut_last` in `src/key.rt`.
 use Rattle.std.proofs.Common.{rules, arith}
 use Rattle.mpw_wire.proofs.KeyLemmas.{cut_none, cut_on, cut_found}
 use Rattle.mpw_wire.proofs.key.cut_last.Goals as goal

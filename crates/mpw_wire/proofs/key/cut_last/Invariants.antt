@@ -1,3 +1,4 @@
+-- The invariants of the loops of `cut_last` in `src/key.rt`.
 use Rattle.std.proofs.Common.{◌≡◌, ◌≤◌, None, drop, length}
 use Rattle.mpw_wire.specs.Keys.{cut_last}
 use Rattle.mpw_wire.proofs.key.cut_last.Given as goal

@@ -1,3 +1,4 @@
+-- Answers to the goals of `take_bytes` in `src/line.rt`.
 use Rattle.std.proofs.Common.{rules, arith, ◌<◌, ◌≡◌, ◌++◌, ◌∷◌, ◌+◌, [], length, refl, ap, ◌∙◌}
 use Rattle.std.proofs.KnownBytes.{Consumes-kept}
 use Rattle.std.specs.Io.Iter.{u64_saturate}

@@ -1,3 +1,4 @@
+-- The invariants of the loops of `take_line` in `src/line.rt`.
 use Rattle.std.proofs.Common.{◌≡◌, length}
 use Rattle.std.specs.Io.KnownBytes.{Consumes}
 use Rattle.mpw_wire.specs.Reading.{IsUnbroken}

@@ -1,3 +1,4 @@
+-- Answers to the goals of `names` in `src/operand.rt`.
 use Rattle.std.proofs.Common.{rules, ◌∙◌, sym, ap, map, length, append-nil, drop, ◌≤◌, subst, [], Some, ◌<◌, ◌+◌}
 use Rattle.std.proofs.lemmas.List.{get_or-map, length-map}
 use Rattle.std.proofs.Math.ListN.{drop_of_length-le}

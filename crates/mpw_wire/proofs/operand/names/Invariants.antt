@@ -1,3 +1,4 @@
+-- The invariants of the loops of `names` in `src/operand.rt`.
 use Rattle.std.proofs.Common.{◌≡◌, drop, map}
 use Rattle.mpw_wire.specs.Request.{names_of}
 use Rattle.mpw_wire.proofs.ReadingLemmas.{with_names}

@@ -1,3 +1,4 @@
+-- Answers to the goals of `read_upload` in `src/read.rt`.
 use Rattle.std.proofs.Common.{sym, subst, refl}
 use Rattle.std.specs.Prelude.{option_map}
 use Rattle.mpw_wire.specs.declared.request.LineAsk.TheVariants as ask

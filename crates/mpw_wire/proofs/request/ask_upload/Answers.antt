@@ -1,3 +1,4 @@
+-- Answers to the goals of `ask_upload` in `src/request.rt`.
 use Rattle.std.proofs.Common.{◌≡◌, ◌∙◌, ◌-◌, [], None, map, length, take, get_or, sym, ap}
 use Rattle.mpw_requests.specs.Parts.{upload_of}
 use Rattle.mpw_requests.specs.Table.{verb_shape}

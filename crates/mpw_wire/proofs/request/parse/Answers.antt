@@ -1,3 +1,4 @@
+-- Answers to the goals of `parse` in `src/request.rt`.
 use Rattle.std.proofs.Common.{◌≡◌, ◌∙◌, map, IfOk, ap, subst}
 use Rattle.mpw_wire.specs.Words.{words}
 use Rattle.mpw_wire.specs.Request.{ask_by}

@@ -1,3 +1,4 @@
+-- Answers to the goals of `tile_answer` in `src/answer.rt`.
 use Rattle.mpw_job.proofs.Filled.{all_filled}
 use Rattle.mpw_work.proofs.answer.tile_answer.Goals as goal
 

@@ -1,3 +1,4 @@
+-- Answers to the goals of `add_keys` in `src/find.rt`.
 use Rattle.std.proofs.Common.{◌∙◌, ◌++◌, map, ap}
 use Rattle.std.proofs.lemmas.List.{take_all}
 use Rattle.mpw_job.specs.Answers.{key_at}

@@ -1,3 +1,4 @@
+-- The invariants of the loops of `add_keys` in `src/find.rt`.
 use Rattle.std.proofs.Common.{◌≡◌, ◌++◌, map, take}
 use Rattle.mpw_job.specs.Answers.{key_at}
 use Rattle.mpw_work.proofs.find.add_keys.Given as goal

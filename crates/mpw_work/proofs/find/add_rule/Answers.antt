@@ -1,3 +1,4 @@
+-- Answers to the goals of `add_rule` in `src/find.rt`.
 use Rattle.std.proofs.Common.{◌≡◌, ◌++◌, List, map, subst}
 use Rattle.mpw_edges.specs.declared.run.Piece.{Piece}
 use Rattle.mpw_job.specs.Answers.{key_at}

@@ -1,3 +1,4 @@
+-- Answers to the goals of `found` in `src/find.rt`.
 use Rattle.std.proofs.Common.{List, sym, subst, ◌∙◌}
 use Rattle.std.specs.Prelude.{All}
 use Rattle.mpw_geom.specs.Plane.{IsOrdered}

@@ -1,3 +1,4 @@
+-- The invariants of the loops of `keys_found` in `src/find.rt`.
 use Rattle.std.specs.Prelude.{IfSome}
 use Rattle.mpw_job.specs.Answers.{listed_on}
 use Rattle.mpw_work.specs.Internal.Found.{AreFirstKeys}

@@ -1,3 +1,4 @@
+-- Answers to the goals of `areas_of` in `src/layers.rt`.
 use Rattle.mpw_job.proofs.Areas.{none_yet, one_more, passed_over, all_of}
 use Rattle.std.proofs.Common.{◌∙◌, sym}
 use Rattle.mpw_work.proofs.layers.areas_of.Goals as goal

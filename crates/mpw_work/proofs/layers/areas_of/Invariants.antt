@@ -1,3 +1,4 @@
+-- The invariants of the loops of `areas_of` in `src/layers.rt`.
 use Rattle.mpw_job.proofs.Areas.{HaveSquares}
 use Rattle.mpw_work.proofs.layers.areas_of.Given as goal
 

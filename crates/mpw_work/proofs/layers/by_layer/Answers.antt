@@ -1,3 +1,4 @@
+-- Answers to the goals of `by_layer` in `src/layers.rt`.
 use Rattle.std.proofs.Common.{rules}
 use Rattle.std.proofs.lemmas.List.Sorted.{IsNonDecreasingBy-from_sort_by_key}
 use Rattle.mpw_work.proofs.ByLayer.{code_of}

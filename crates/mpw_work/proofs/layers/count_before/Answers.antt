@@ -1,3 +1,4 @@
+-- Answers to the goals of `count_before` in `src/layers.rt`.
 use Rattle.std.proofs.Common.{rules}
 use Rattle.std.proofs.lemmas.List.Sorted.{IsPartitionedBy-ltb, IsPartitionPoint-from_clause}
 use Rattle.mpw_work.proofs.ByLayer.{code_of, IsFront, before, behind}

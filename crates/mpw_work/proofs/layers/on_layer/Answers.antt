@@ -1,3 +1,4 @@
+-- Answers to the goals of `on_layer` in `src/layers.rt`.
 use Rattle.std.proofs.Common.{◌-◌, length, take, drop}
 use Rattle.std.proofs.lemmas.List.{take_rest}
 use Rattle.mpw_work.proofs.ByLayer.{found_between}

@@ -1,3 +1,4 @@
+-- Answers to the goals of `closed_boxes` in `src/met.rt`.
 use Rattle.std.proofs.Common.{◌∙◌, ◌++◌, [], ◌∷◌, map, ap, sym}
 use Rattle.std.proofs.lemmas.List.{take_all, map_more}
 use Rattle.mpw_job.specs.Internal.Keys.{key_box}

@@ -1,3 +1,4 @@
+-- Answers to the goals of `markers_of` in `src/met.rt`.
 use Rattle.mpw_work.proofs.Meeting.{of_one}
 use Rattle.mpw_work.proofs.met.markers_of.Goals as goal
 

@@ -1,3 +1,4 @@
+-- Answers to the goals of `mets_of` in `src/met.rt`.
 use Rattle.std.proofs.Common.{List, sym, subst, ◌∙◌}
 use Rattle.std.specs.Prelude.{All}
 use Rattle.std.proofs.lemmas.List.Elements.{All-map}

@@ -1,3 +1,4 @@
+-- Answers to the goals of `with_area` in `src/met.rt`.
 use Rattle.mpw_work.proofs.Meeting.{yes_area, no_area, none_yet, one_more, passed_over, all_of}
 use Rattle.mpw_work.proofs.met.with_area.Goals as goal
 use Rattle.mpw_work.proofs.met.with_area.Goals.{then-has_area+in_ok-push, else-has_area}

@@ -1,3 +1,4 @@
+-- Answers to the goals of `with_mets` in `src/met.rt`.
 use Rattle.std.proofs.Common.{◌∙◌, ◌++◌, [], ◌∷◌, map, ap, sym, arith}
 use Rattle.std.proofs.lemmas.List.{take_all, take_more, map_push}
 use Rattle.mpw_markers.specs.Markers.{key_of}

@@ -1,3 +1,4 @@
+-- The invariants of the loops of `with_mets` in `src/met.rt`.
 use Rattle.std.proofs.Common.{◌≡◌, map, take}
 use Rattle.mpw_markers.specs.Markers.{key_of}
 use Rattle.mpw_work.specs.Internal.Found.{met_of}

@@ -1,3 +1,4 @@
+-- The invariants of the loops of `with_origin` in `src/met.rt`.
 use Rattle.std.proofs.Common.{◌≡◌, [], ◌∷◌, map, take}
 use Rattle.std.specs.Prelude.{All}
 use Rattle.mpw_markers.specs.Markers.{key_of}

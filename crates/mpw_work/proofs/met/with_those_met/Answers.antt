@@ -1,3 +1,4 @@
+-- Answers to the goals of `with_those_met` in `src/met.rt`.
 use Rattle.std.proofs.Common.{◌∙◌}
 use Rattle.mpw_work.proofs.Meeting.{are_markers}
 use Rattle.mpw_work.proofs.met.with_those_met.Goals as goal

@@ -1,3 +1,4 @@
+-- The invariants of the loops of `is_ascending` in `src/markers/asked.rt`.
 use Rattle.std.proofs.Common.{ℕ, ◌<◌, ◌+◌, get_or}
 use Rattle.gate_checks.proofs.markers.asked.is_ascending.Given as goal
 

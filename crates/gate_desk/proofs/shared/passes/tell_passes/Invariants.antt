@@ -1,3 +1,4 @@
+-- The invariants of the loops of `tell_passes` in `src/shared/passes.rt`.
 use Rattle.std.specs.Prelude.{None}
 use Rattle.mpw_events.specs.History.{kept_desk}
 use Rattle.gate_desk.proofs.shared.passes.tell_passes.Given as goal

@@ -1,3 +1,4 @@
+-- The invariants of the loops of `serve_session` in `src/shared/session.rt`.
 use Rattle.std.specs.Prelude.{None}
 use Rattle.mpw_events.specs.History.{kept_desk}
 use Rattle.gate_desk.proofs.shared.session.serve_session.Given as goal

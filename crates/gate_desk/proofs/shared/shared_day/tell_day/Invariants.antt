@@ -1,3 +1,4 @@
+-- The invariants of the loops of `tell_day` in `src/shared/shared_day.rt`.
 use Rattle.std.specs.Prelude.{None}
 use Rattle.mpw_events.specs.History.{kept_desk}
 use Rattle.gate_desk.proofs.shared.shared_day.tell_day.Given as goal

@@ -1,3 +1,4 @@
+-- Answers to the goals of `Pail::wait` in `src/lines.rt`.
 use Rattle.std.proofs.Common.{◌≡◌, rules}
 use Rattle.mpw_admission.specs.Pail.{wait_of}
 use Rattle.mpw_admission.proofs.Filling.{line_flows_in}

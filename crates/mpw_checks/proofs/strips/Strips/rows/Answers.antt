@@ -1,3 +1,4 @@
+-- Answers to the goals of `Strips::rows` in `src/strips.rt`.
 use Rattle.mpw_checks.proofs.strips.Strips.rows.Goals as goal
 
 pub returns-clause-banded : goal.returns-clause-banded

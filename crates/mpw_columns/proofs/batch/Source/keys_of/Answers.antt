@@ -1,3 +1,4 @@
+-- Answers to the goals of `Source::keys_of` in `src/batch.rt`.
 use Rattle.std.proofs.Common.{subst, IfOk}
 use Rattle.std.specs.Prelude.{Contains, ◌↔◌}
 use Rattle.mpw_geom.specs.declared.plane.Box2.{Box2}

@@ -1,3 +1,4 @@
+-- Answers to the goals of `Source::things_of` in `src/batch.rt`.
 use Rattle.std.proofs.Common.{sym, subst, IfSome}
 use Rattle.mpw_edges.specs.declared.run.Axis.{Axis}
 use Rattle.mpw_columns.specs.Internal.Checked.{HasThings}

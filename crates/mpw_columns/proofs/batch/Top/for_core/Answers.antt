@@ -1,3 +1,4 @@
+-- Answers to the goals of `Top::for_core` in `src/batch.rt`.
 use Rattle.std.proofs.Common.{sym, subst, IfSome}
 use Rattle.mpw_geom.specs.declared.plane.Box2.{Box2}
 use Rattle.mpw_columns.specs.Internal.Checked.{AreAllThings}

@@ -1,3 +1,4 @@
+-- Answers to the goals of `Columns::are_like` in `src/block.rt`.
 use Rattle.mpw_columns.proofs.Blocked.{all_alike}
 use Rattle.mpw_columns.proofs.block.Columns.are_like.Goals as goal
 

@@ -1,3 +1,4 @@
+-- The invariants of the loops of `Columns::part` in `src/block.rt`.
 use Rattle.std.proofs.Common.{◌<◌}
 use Rattle.mpw_columns.proofs.block.Columns.part.Given as goal
 

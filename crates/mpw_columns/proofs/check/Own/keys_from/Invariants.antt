@@ -1,3 +1,4 @@
+-- The invariants of the loops of `Own::keys_from` in `src/check.rt`.
 use Rattle.std.proofs.Common.{◌≡◌, ◌≤◌, length, sum_by, take}
 use Rattle.std.specs.List.{range_with_len}
 use Rattle.mpw_keys.specs.Firsts.{capped}

@@ -1,3 +1,4 @@
+-- Answers to the goals of `Earlier::add` in `src/earlier.rt`.
 use Rattle.std.proofs.Common.{ℕ, Option, length, subst, IfSome}
 use Rattle.mpw_columns.specs.Internal.Like.{AreAlike}
 use Rattle.mpw_columns.proofs.Blocked.{told_block}

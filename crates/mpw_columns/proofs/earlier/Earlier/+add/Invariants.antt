@@ -1,3 +1,4 @@
+-- The invariants of the loops of `Earlier::add` in `src/earlier.rt`.
 use Rattle.mpw_columns.proofs.earlier.Earlier.+add.Given as goal
 
 abbrev pub decreases-add : goal.decreases-add

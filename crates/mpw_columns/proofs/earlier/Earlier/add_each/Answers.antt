@@ -1,3 +1,4 @@
+-- Answers to the goals of `Earlier::add_each` in `src/earlier.rt`.
 use Rattle.std.proofs.Common.{length}
 use Rattle.mpw_columns.proofs.Blocked.{told_one}
 use Rattle.mpw_columns.proofs.earlier.Earlier.add_each.Goals as goal

@@ -1,3 +1,4 @@
+-- The invariants of the loops of `Earlier::add_each` in `src/earlier.rt`.
 use Rattle.std.proofs.Common.{◌+◌, length}
 use Rattle.mpw_columns.specs.Internal.Like.{IsTold}
 use Rattle.mpw_columns.proofs.earlier.Earlier.add_each.Given as goal

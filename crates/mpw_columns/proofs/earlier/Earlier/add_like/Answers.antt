@@ -1,3 +1,4 @@
+-- Answers to the goals of `Earlier::add_like` in `src/earlier.rt`.
 use Rattle.std.proofs.Common.{◌≡◌, ◌∙◌, ◌++◌, ℕ, refl, sym, ap, arith}
 use Rattle.std.proofs.lemmas.List.{append-nil}
 use Rattle.mpw_columns.specs.Internal.Like.{places_from}

@@ -1,3 +1,4 @@
+-- The invariants of the loops of `Earlier::add_like` in `src/earlier.rt`.
 use Rattle.std.proofs.Common.{◌≡◌, ◌++◌}
 use Rattle.mpw_columns.specs.Internal.Like.{places_from}
 use Rattle.mpw_columns.proofs.earlier.Earlier.add_like.Given as goal

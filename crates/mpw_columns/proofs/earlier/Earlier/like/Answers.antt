@@ -1,3 +1,4 @@
+-- Answers to the goals of `Earlier::like` in `src/earlier.rt`.
 use Rattle.std.proofs.Common.{sym, subst, arith}
 use Rattle.mpw_columns.specs.Internal.Like.{IsKept}
 use Rattle.mpw_columns.proofs.earlier.Earlier.like.Goals as goal

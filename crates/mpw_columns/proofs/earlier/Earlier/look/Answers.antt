@@ -1,3 +1,4 @@
+-- Answers to the goals of `Earlier::look` in `src/earlier.rt`.
 use Rattle.std.proofs.Common.{List, Option, subst, IfSome}
 use Rattle.mpw_contents.specs.declared.thing.Thing.{Thing}
 use Rattle.mpw_columns.specs.Internal.Like.{AreContentsOf}

@@ -1,3 +1,4 @@
+-- Answers to the goals of `Kept::keep` in `src/kept.rt`.
 use Rattle.std.proofs.Common.{refl}
 use Rattle.mpw_columns.specs.declared.kept.Solved.{Solved}
 use Rattle.mpw_columns.proofs.Solving.{solved_new, solved_more}

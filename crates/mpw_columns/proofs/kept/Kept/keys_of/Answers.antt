@@ -1,3 +1,4 @@
+-- Answers to the goals of `Kept::keys_of` in `src/kept.rt`.
 use Rattle.std.proofs.Common.{sym, subst, arith}
 use Rattle.mpw_columns.specs.Internal.Pieces.{IsSolved}
 use Rattle.mpw_columns.proofs.kept.Kept.keys_of.Goals as goal

@@ -1,3 +1,4 @@
+-- Answers to the goals of `Solved::keys_of` in `src/kept.rt`.
 use Rattle.std.proofs.lemmas.Result.{IfOk-weaker}
 use Rattle.mpw_columns.proofs.Solving.{some_weaker, solved_moved}
 use Rattle.mpw_columns.proofs.kept.Solved.keys_of.Goals as goal

@@ -1,3 +1,4 @@
+-- Answers to the goals of `Ready::layout` in `src/layout.rt`.
 use Rattle.std.proofs.Common.{◌∙◌, ap, rules, subst, sym}
 use Rattle.std.specs.Prelude.{All}
 use Rattle.mpw_deck.specs.declared.rule.Rule.{Rule}

@@ -1,3 +1,4 @@
+-- Answers to the goals of `Boxes::of` in `src/boxes.rt`.
 use Rattle.std.proofs.Common.{subst, sym}
 use Rattle.std.specs.List.{AllZip}
 use Rattle.mpw_structures.specs.Library.{IsLibrary}

@@ -1,3 +1,4 @@
+-- Answers to the goals of `Contents::on_layers` in `src/layers.rt`.
 use Rattle.std.proofs.Common.{take, ◌+◌, sym, subst, ◌∙◌}
 use Rattle.std.specs.Prelude.{All}
 use Rattle.std.proofs.lemmas.List.{take_all}

@@ -1,3 +1,4 @@
+-- The invariants of the loops of `Contents::on_layers` in `src/layers.rt`.
 use Rattle.std.proofs.Common.{take}
 use Rattle.std.specs.Prelude.{All}
 use Rattle.mpw_contents.specs.Contents.{IsBoxed}

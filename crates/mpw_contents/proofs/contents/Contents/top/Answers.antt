@@ -1,3 +1,4 @@
+-- Answers to the goals of `Contents::top`.
 use Rattle.mpw_contents.proofs.Tops.{top_alone}
 use Rattle.mpw_contents.proofs.contents.Contents.top.Goals as goal
 

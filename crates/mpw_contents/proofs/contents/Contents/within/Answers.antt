@@ -1,3 +1,4 @@
+-- Answers to the goals of `Contents::within` in `src/part.rt`.
 use Rattle.std.proofs.Common.{subst}
 use Rattle.mpw_contents.specs.Contents.{AreSound}
 use Rattle.mpw_contents.specs.Things.{things_items}

@@ -1,3 +1,4 @@
+-- Answers to the goals of `Layout::fill` in `src/making.rt`.
 use Rattle.std.proofs.lemmas.Result.{IfOk-weaker}
 use Rattle.mpw_hier.specs.Values.{flat}
 use Rattle.mpw_contents.specs.Things.{things_items}

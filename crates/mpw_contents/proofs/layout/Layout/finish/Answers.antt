@@ -1,3 +1,4 @@
+-- Answers to the goals of `Layout::finish` in `src/making.rt`.
 use Rattle.std.proofs.Common.{[], subst}
 use Rattle.mpw_contents.specs.Things.{things_items}
 use Rattle.mpw_contents.specs.Internal.Making.{Adds}

@@ -1,3 +1,4 @@
+-- The invariants of the loops of `Layout::finish` in `src/making.rt`.
 use Rattle.std.proofs.Common.{[]}
 use Rattle.mpw_contents.specs.Things.{things_items}
 use Rattle.mpw_contents.specs.Internal.Making.{Adds}

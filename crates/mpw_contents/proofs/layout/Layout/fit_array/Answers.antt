@@ -1,3 +1,4 @@
+-- Answers to the goals of `Layout::fit_array` in `src/part.rt`.
 use Rattle.std.proofs.Common.{arith}
 use Rattle.std.proofs.lemmas.Result.{on_ok_weaker}
 use Rattle.mpw_walk.proofs.Fronts.{found}

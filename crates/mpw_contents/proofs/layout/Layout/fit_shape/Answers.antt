@@ -1,3 +1,4 @@
+-- Answers to the goals of `Layout::fit_shape` in `src/part.rt`.
 use Rattle.std.proofs.Common.{refl, sym, subst}
 use Rattle.mpw_contents.specs.Contents.{IsBoxed, IsNear}
 use Rattle.mpw_contents.specs.Internal.Making.{Adds, IsThing}

@@ -1,3 +1,4 @@
+-- Answers to the goals of `Layout::fit_single` in `src/part.rt`.
 use Rattle.std.proofs.Common.{rules}
 use Rattle.mpw_contents.proofs.Arrays.{near, none_left}
 use Rattle.mpw_contents.proofs.layout.Layout.fit_single.Goals as goal

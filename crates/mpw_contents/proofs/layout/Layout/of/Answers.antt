@@ -1,3 +1,4 @@
+-- Answers to the goals of `Layout::of` in `src/layout.rt`.
 use Rattle.mpw_contents.proofs.Tops.{layout_is}
 use Rattle.mpw_contents.proofs.layout.Layout.of.Goals as goal
 

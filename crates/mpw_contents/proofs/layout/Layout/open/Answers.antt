@@ -1,3 +1,4 @@
+-- Answers to the goals of `Layout::open` in `src/opening.rt`.
 use Rattle.std.proofs.Common.{◌≡◌, ℕ, map, sym, ap, subst, ◌∙◌, arith}
 use Rattle.std.specs.Prelude.{slice_get}
 use Rattle.std.specs.List.{flat_map, range_with_len}

@@ -1,3 +1,4 @@
+-- The invariants of the loops of `Layout::open` in `src/opening.rt`.
 use Rattle.std.specs.List.{flat_map, range_with_len}
 use Rattle.mpw_hier.specs.Items.{row_of}
 use Rattle.mpw_contents.specs.Things.{reference_of}

@@ -1,3 +1,4 @@
+-- Answers to the goals of `Layout::open_instance` in `src/opening.rt`.
 use Rattle.std.proofs.Common.{map}
 use Rattle.std.specs.Prelude.{slice_get}
 use Rattle.std.proofs.lemmas.Result.{on_ok_weaker}

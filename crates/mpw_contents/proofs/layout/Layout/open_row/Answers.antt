@@ -1,3 +1,4 @@
+-- Answers to the goals of `Layout::open_row` in `src/opening.rt`.
 use Rattle.std.proofs.Common.{map, subst}
 use Rattle.mpw_geom.specs.declared.placing.Placing.{Placing}
 use Rattle.mpw_hier.specs.Items.{placed_item, instance}

@@ -1,3 +1,4 @@
+-- The invariants of the loops of `Layout::open_row` in `src/opening.rt`.
 use Rattle.std.proofs.Common.{map}
 use Rattle.std.specs.List.{range_with_len}
 use Rattle.mpw_hier.specs.Items.{instance}

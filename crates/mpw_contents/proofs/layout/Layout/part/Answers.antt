@@ -1,3 +1,4 @@
+-- Answers to the goals of `Layout::part` in `src/part.rt`.
 use Rattle.std.proofs.lemmas.Result.{IfOk-weaker}
 use Rattle.mpw_contents.specs.Things.{things_items}
 use Rattle.mpw_contents.proofs.Adding.{adds_shows, shows_again}

@@ -1,3 +1,4 @@
+-- Answers to the goals of `Layout::pass` in `src/making.rt`.
 use Rattle.std.proofs.Common.{[]}
 use Rattle.mpw_contents.specs.Things.{thing_items, things_items}
 use Rattle.mpw_contents.proofs.Adding.{adds_more}

@@ -1,3 +1,4 @@
+-- The invariants of the loops of `Layout::pass` in `src/making.rt`.
 use Rattle.std.proofs.Common.{[], take}
 use Rattle.mpw_contents.specs.Things.{things_items}
 use Rattle.mpw_contents.specs.Internal.Making.{Adds}

@@ -1,3 +1,4 @@
+-- Answers to the goals of `Layout::pass_array` in `src/making.rt`.
 use Rattle.std.proofs.Common.{◌∙◌, ◌++◌, ◌∷◌, [], ap, refl}
 use Rattle.mpw_contents.specs.declared.thing.Thing.TheVariants as things
 use Rattle.mpw_contents.specs.Things.{thing_items}

@@ -1,3 +1,4 @@
+-- Answers to the goals of `Layout::pass_thing` in `src/making.rt`.
 use Rattle.std.proofs.Common.{refl}
 use Rattle.std.proofs.lemmas.Result.{on_ok_weaker}
 use Rattle.mpw_contents.specs.Things.{thing_items}

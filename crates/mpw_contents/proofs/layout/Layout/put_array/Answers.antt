@@ -1,3 +1,4 @@
+-- Answers to the goals of `Layout::put_array` in `src/opening.rt`.
 use Rattle.std.proofs.lemmas.Result.{on_ok_weaker}
 use Rattle.mpw_walk.proofs.Fronts.{found}
 use Rattle.mpw_contents.proofs.Arrays.{near, nothing_shown, none_left, some_left}

@@ -1,3 +1,4 @@
+-- Answers to the goals of `Layout::put_child` in `src/opening.rt`.
 use Rattle.std.proofs.Common.{[], map, ap}
 use Rattle.std.specs.Prelude.{slice_get}
 use Rattle.mpw_hier.specs.Items.{placed_item}

@@ -1,3 +1,4 @@
+-- Answers to the goals of `Layout::put_children` in `src/opening.rt`.
 use Rattle.std.proofs.Common.{map}
 use Rattle.std.specs.Prelude.{slice_get}
 use Rattle.mpw_hier.specs.declared.node.Child.{Child}

@@ -1,3 +1,4 @@
+-- The invariants of the loops of `Layout::put_children` in `src/opening.rt`.
 use Rattle.std.proofs.Common.{take}
 use Rattle.std.specs.Prelude.{slice_get}
 use Rattle.mpw_contents.specs.Internal.Making.{Adds}

@@ -1,3 +1,4 @@
+-- Answers to the goals of `Layout::put_shape` in `src/opening.rt`.
 use Rattle.std.proofs.Common.{Some, ap, sym, ◌∙◌}
 use Rattle.std.specs.Prelude.{slice_get, option_map}
 use Rattle.std.proofs.lemmas.Result.{on_ok_weaker}

@@ -1,3 +1,4 @@
+-- Answers to the goals of `Layout::put_shapes` in `src/opening.rt`.
 use Rattle.std.proofs.Common.{ℕ, subst, arith}
 use Rattle.std.specs.Prelude.{slice_get}
 use Rattle.mpw_contents.specs.Internal.Making.{Adds}

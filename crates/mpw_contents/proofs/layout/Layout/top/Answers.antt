@@ -1,3 +1,4 @@
+-- Answers to the goals of `Layout::top`.
 use Rattle.std.proofs.Common.{length, ◌-◌, refl}
 use Rattle.mpw_contents.proofs.Read.{copied_some}
 use Rattle.mpw_contents.proofs.Tops.{here_in_plane, top_shown}

@@ -1,3 +1,4 @@
+-- The invariants of the loops of `Locked::finish` in `src/locked.rt`.
 use Rattle.std.proofs.Common.{◌≡◌}
 use Rattle.mpw_desk.proofs.Sums.{AreTaken}
 use Rattle.mpw_desk.proofs.locked.Locked.finish.Given as goal

@@ -1,3 +1,4 @@
+-- The invariants of the loops of `Locked::new` in `src/locked.rt`.
 use Rattle.std.proofs.Common.{◌≡◌, []}
 use Rattle.mpw_desk.proofs.locked.Locked.new.Given as goal
 

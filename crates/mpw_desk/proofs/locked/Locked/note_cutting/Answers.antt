@@ -1,3 +1,4 @@
+-- Answers to the goals of `Locked::note_cutting` in `src/locked.rt`.
 use Rattle.mpw_events.specs.History.{state_of}
 use Rattle.mpw_desk.proofs.Hinting.{as-fit}
 use Rattle.mpw_desk.proofs.locked.Locked.note_cutting.Goals as goal

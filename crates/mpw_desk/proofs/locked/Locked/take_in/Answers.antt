@@ -1,3 +1,4 @@
+-- Answers to the goals of `Locked::take_in` in `src/locked.rt`.
 use Rattle.std.proofs.Common.{◌≡◌, ◌∙◌, ap, sym, subst}
 use Rattle.mpw_receipts.specs.Calls.{calls_of}
 use Rattle.mpw_receipts.specs.Owner.{owner_of}

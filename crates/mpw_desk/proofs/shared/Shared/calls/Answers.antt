@@ -1,3 +1,4 @@
+-- Answers to the goals of `Shared::calls` in `src/shared.rt`.
 use Rattle.mpw_desk.proofs.shared.Shared.calls.Goals as goal
 
 pub returns : goal.returns

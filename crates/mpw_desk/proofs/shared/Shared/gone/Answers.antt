@@ -1,3 +1,4 @@
+-- Answers to the goals of `Shared::gone` in `src/shared.rt`.
 use Rattle.mpw_desk.proofs.Growing.{gone-grows}
 use Rattle.mpw_desk.proofs.shared.Shared.gone.Goals as goal
 

@@ -1,3 +1,4 @@
+-- Answers to the goals of `Shared::hand_in`.
 use Rattle.mpw_desk.proofs.Working.{works}
 use Rattle.mpw_desk.proofs.shared.Shared.hand_in.Goals as goal
 

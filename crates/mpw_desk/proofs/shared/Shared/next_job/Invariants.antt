@@ -1,3 +1,4 @@
+-- The invariants of the loops of `Shared::next_job` in `src/worker.rt`.
 use Rattle.mpw_desk.specs.Passes.{Works}
 use Rattle.mpw_desk.proofs.shared.Shared.next_job.Given as goal
 

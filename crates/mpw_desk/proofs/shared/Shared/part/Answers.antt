@@ -1,3 +1,4 @@
+-- Answers to the goals of `Shared::part` in `src/shared.rt`.
 use Rattle.mpw_desk.proofs.Parting.{parted-by-counts}
 use Rattle.mpw_desk.proofs.shared.Shared.part.Goals as goal
 

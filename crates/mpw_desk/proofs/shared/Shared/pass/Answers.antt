@@ -1,3 +1,4 @@
+-- Answers to the goals of `Shared::pass` in `src/shared.rt`.
 use Rattle.mpw_desk.proofs.shared.Shared.pass.Goals as goal
 
 pub returns-clause-admits : goal.returns-clause-admits

@@ -1,3 +1,4 @@
+-- The invariants of the loops of `Shared::worker` in `src/worker.rt`.
 use Rattle.mpw_desk.specs.Passes.{Works}
 use Rattle.mpw_desk.proofs.shared.Shared.worker.Given as goal
 

@@ -1,3 +1,4 @@
+-- Answers to the goals of `Names::copy` in `src/names.rt`.
 use Rattle.std.proofs.Common.{◌∙◌, ◌++◌, [], ◌∷◌, take, List, ap, sym}
 use Rattle.std.proofs.lemmas.List.{take_all, take_more}
 use Rattle.mpw_geom.proofs.names.Names.copy.Goals as goal

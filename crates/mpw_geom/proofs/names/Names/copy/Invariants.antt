@@ -1,3 +1,4 @@
+-- The invariants of the loops of `Names::copy` in `src/names.rt`.
 use Rattle.std.proofs.Common.{◌≡◌, take}
 use Rattle.mpw_geom.proofs.names.Names.copy.Given as goal
 

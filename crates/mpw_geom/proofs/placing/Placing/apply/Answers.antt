@@ -1,3 +1,4 @@
+-- Answers to the goals of `Placing::apply` in `src/placing.rt`.
 use Rattle.std.proofs.Common.{arith}
 use Rattle.std.proofs.lemmas.Int.{ints}
 use Rattle.mpw_geom.specs.Placing.{placed_point}

@@ -1,3 +1,4 @@
+-- Answers to the goals of `Placing::apply_box` in `src/placing.rt`.
 use Rattle.std.proofs.Common.{rules, w64}
 use Rattle.std.proofs.lemmas.Int.{to_z-of_z}
 use Rattle.mpw_geom.proofs.Turns.{placed_points_at, placed_squares_at}

@@ -1,3 +1,4 @@
+-- Answers to the goals of `Placing::then` in `src/placing.rt`.
 use Rattle.mpw_geom.proofs.Chains.{placed-placed_point, placed-placed_square}
 use Rattle.mpw_geom.proofs.placing.Placing.then.Goals as goal
 

@@ -1,3 +1,4 @@
+-- Answers to the goals of `Box2::meets` in `src/plane.rt`.
 use Rattle.std.proofs.Common.{◌∙◌, sym}
 use Rattle.std.proofs.lemmas.Bool.{both_ways}
 use Rattle.mpw_geom.proofs.Meets.{common_point, spans_from_point}

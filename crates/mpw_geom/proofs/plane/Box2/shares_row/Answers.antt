@@ -1,3 +1,4 @@
+-- Answers to the goals of `Box2::shares_row` in `src/plane.rt`.
 use Rattle.std.proofs.Common.{rules}
 use Rattle.mpw_geom.proofs.Meets.{spans_meet}
 use Rattle.mpw_geom.proofs.plane.Box2.shares_row.Goals as goal

@@ -1,3 +1,4 @@
+-- Answers to the goals of `Orient::inverse` in `src/placing.rt`.
 use Rattle.mpw_geom.proofs.Undone.{undone_point, undone_square, point_undone, square_undone}
 use Rattle.mpw_geom.proofs.plane.Orient.inverse.Goals as goal
 

@@ -1,3 +1,4 @@
+-- Answers to the goals of `Group::part` in `src/part.rt`.
 use Rattle.std.proofs.Common.{◌∙◌, ap, subst}
 use Rattle.std.specs.Prelude.{IfSome}
 use Rattle.mpw_groups.specs.Layers.{is_among}

@@ -1,3 +1,4 @@
+-- Answers to the goals of `Hierarchy::add` in `src/hierarchy.rt`.
 use Rattle.std.proofs.Common.{◌≡◌, List, length, refl, sym, ap, subst, ◌∙◌, arith}
 use Rattle.std.proofs.lemmas.Option.{slice_get_within}
 use Rattle.mpw_structures.specs.declared.element.Element.{Element}

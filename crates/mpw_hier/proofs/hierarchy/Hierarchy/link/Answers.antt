@@ -1,3 +1,4 @@
+-- Answers to the goals of `Hierarchy::link` in `src/hierarchy.rt`.
 use Rattle.std.proofs.Common.{length, refl, sym, ap, subst, ◌∙◌, arith}
 use Rattle.std.specs.Option.{IfSome, option_copied}
 use Rattle.std.proofs.lemmas.Option.{slice_get_read}

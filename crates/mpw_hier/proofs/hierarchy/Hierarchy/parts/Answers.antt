@@ -1,3 +1,4 @@
+-- Answers to the goals of `Hierarchy::parts` in `src/hierarchy.rt`.
 use Rattle.std.proofs.Common.{◌≡◌, ◌++◌, [], drop, sym, ap, subst, ◌∙◌, append-nil}
 use Rattle.std.proofs.lemmas.List.{at_drop_all}
 use Rattle.mpw_structures.specs.declared.element.Element.TheVariants as elements

@@ -1,3 +1,4 @@
+-- The invariants of the loops of `Hierarchy::parts` in `src/hierarchy.rt`.
 use Rattle.std.proofs.Common.{◌≡◌, ◌++◌, List, drop, take}
 use Rattle.mpw_hier.specs.declared.node.Child.{Child}
 use Rattle.mpw_hier.specs.Nodes.{AreChildren, shape_places}

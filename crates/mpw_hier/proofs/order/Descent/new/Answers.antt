@@ -1,3 +1,4 @@
+-- Answers to the goals of `Descent::new` in `src/order.rt`.
 use Rattle.mpw_hier.proofs.Steps.{begun_at}
 use Rattle.mpw_hier.proofs.order.Descent.new.Goals as goal
 

@@ -1,3 +1,4 @@
+-- Answers to the goals of `Descent::step` in `src/order.rt`.
 use Rattle.std.proofs.Common.{◌≡◌, ◌-◌, ◌+◌, length, get_or, refl, ap, arith, ◌∙◌}
 use Rattle.mpw_hier.proofs.Steps.{ended, passed, entered_next, cycle_found, work_ended, work_passed, work_entered}
 use Rattle.mpw_hier.proofs.StepReads.{read, at_place, at_target}

@@ -1,3 +1,4 @@
+-- Answers to the goals of `Outline::new` in `src/outline.rt`.
 use Rattle.std.proofs.Common.{ℕ, ◌<◌, List, length, Option, IfSome, IfNone, Vec, Global, All, sym, ap, subst, ◌∙◌, arith}
 use Rattle.mpw_geom.specs.Names.{contains_name, by_name}
 use Rattle.mpw_hier.specs.Graph.{IsFromBelow}

@@ -1,3 +1,4 @@
+-- Answers to the goals of `Places::at` in `src/places.rt`.
 use Rattle.std.proofs.Common.{◌<◌, arith}
 use Rattle.mpw_hier.proofs.Runs.{run_length, run_within, run_place}
 use Rattle.mpw_hier.proofs.places.Places.at.Goals as goal

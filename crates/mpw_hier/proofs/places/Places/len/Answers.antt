@@ -1,3 +1,4 @@
+-- Answers to the goals of `Places::len` in `src/places.rt`.
 use Rattle.mpw_hier.proofs.Runs.{run_length}
 use Rattle.mpw_hier.proofs.places.Places.len.Goals as goal
 

@@ -1,3 +1,4 @@
+-- Answers to the goals of `Shelf::bind` in `src/shelf.rt`.
 use Rattle.std.proofs.Common.{◌+◌, drop, sym, ap, ◌∙◌, append-nil}
 use Rattle.std.proofs.lemmas.List.{at_drop_all}
 use Rattle.mpw_hier.specs.Shelf.{bound_before, bound_to}

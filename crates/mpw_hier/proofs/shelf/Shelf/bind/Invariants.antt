@@ -1,3 +1,4 @@
+-- The invariants of the loops of `Shelf::bind` in `src/shelf.rt`.
 use Rattle.std.proofs.Common.{◌≡◌, drop}
 use Rattle.mpw_hier.specs.Shelf.{bound_to}
 use Rattle.mpw_hier.proofs.Bound.{bound_behind}

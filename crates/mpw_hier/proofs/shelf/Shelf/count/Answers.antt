@@ -1,3 +1,4 @@
+-- Answers to the goals of `Shelf::count` in `src/shelf.rt`.
 use Rattle.std.proofs.Common.{length, sym, ap}
 use Rattle.mpw_hier.proofs.Tops.{no_items}
 use Rattle.mpw_hier.proofs.shelf.Shelf.count.Goals as goal

@@ -1,3 +1,4 @@
+-- Answers to the goals of `Shelf::extent` in `src/shelf.rt`.
 use Rattle.std.proofs.Common.{sym, ap, ◌∙◌}
 use Rattle.mpw_hier.specs.Boxes.{extent_of}
 use Rattle.mpw_hier.proofs.Tops.{no_items}

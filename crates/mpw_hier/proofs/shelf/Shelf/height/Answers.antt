@@ -1,3 +1,4 @@
+-- Answers to the goals of `Shelf::height` in `src/shelf.rt`.
 use Rattle.std.proofs.Common.{sym}
 use Rattle.mpw_hier.proofs.Tops.{no_levels}
 use Rattle.mpw_hier.proofs.shelf.Shelf.height.Goals as goal

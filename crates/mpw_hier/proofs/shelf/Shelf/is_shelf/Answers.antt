@@ -1,3 +1,4 @@
+-- Answers to the goals of `Shelf::is_shelf` in `src/shelf.rt`.
 use Rattle.std.proofs.Common.{◌≡◌, subst, rules}
 use Rattle.mpw_hier.specs.Limits.{IsShelf}
 use Rattle.mpw_hier.proofs.shelf.Shelf.is_shelf.Goals as goal

@@ -1,3 +1,4 @@
+-- Answers to the goals of `Shelf::put` in `src/shelf.rt`.
 use Rattle.std.proofs.Common.{ℕ, List, subst}
 use Rattle.mpw_hier.specs.declared.submission.Submission.{Submission}
 use Rattle.mpw_hier.specs.Limits.{KeepsLimits, IsRefused}

@@ -1,3 +1,4 @@
+-- Answers to the goals of `Size::plus` in `src/size.rt`.
 use Rattle.std.proofs.Common.{◌≡◌, ◌+◌, ◌^◌, min, arith}
 use Rattle.mpw_hier.proofs.Told.{told_together}
 use Rattle.mpw_hier.proofs.size.Size.plus.Goals as goal

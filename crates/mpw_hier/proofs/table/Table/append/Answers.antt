@@ -1,3 +1,4 @@
+-- Answers to the goals of `Table::append` in `src/table.rt`.
 use Rattle.std.proofs.Common.{◌≡◌, List, length, sym, subst, arith}
 use Rattle.mpw_hier.specs.declared.submission.Submission.{Submission}
 use Rattle.mpw_hier.specs.Nodes.{AreNodesOf}

@@ -1,3 +1,4 @@
+-- Answers to the goals of `Table::copy` in `src/table.rt`.
 use Rattle.std.proofs.Common.{◌<◌, length, take, sym, ap, ◌∙◌, arith}
 use Rattle.mpw_hier.proofs.Shelving.{shelved_at}
 use Rattle.mpw_hier.proofs.table.Table.copy.Goals as goal

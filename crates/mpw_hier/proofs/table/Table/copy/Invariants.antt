@@ -1,3 +1,4 @@
+-- The invariants of the loops of `Table::copy` in `src/table.rt`.
 use Rattle.std.proofs.Common.{◌≡◌, take}
 use Rattle.mpw_hier.proofs.table.Table.copy.Given as goal
 

@@ -1,3 +1,4 @@
+-- Answers to the goals of `Table::has_room` in `src/table.rt`.
 use Rattle.std.proofs.Common.{◌≡◌, Bool, true, false, ◌&&◌, ◌||◌, nat_lt, is_some, length, refl, ap, subst, ◌∙◌, rules}
 use Rattle.mpw_hier.specs.Shelf.{present}
 use Rattle.mpw_hier.specs.Limits.{has_room_for}

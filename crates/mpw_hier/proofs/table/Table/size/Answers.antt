@@ -1,3 +1,4 @@
+-- Answers to the goals of `Table::size` in `src/table.rt`.
 use Rattle.std.proofs.Common.{◌-◌, ◌<◌, length, arith}
 use Rattle.std.proofs.lemmas.Option.{slice_get-get_or}
 use Rattle.mpw_hier.proofs.Tops.{shelf_size}

@@ -1,3 +1,4 @@
+-- Answers to the goals of `Table::test_limits` in `src/table.rt`.
 use Rattle.std.proofs.Common.{sym, ◌∙◌}
 use Rattle.mpw_hier.proofs.Pushing.{measured, large, small, deep, low, kept}
 use Rattle.mpw_hier.proofs.table.Table.test_limits.Goals as goal

@@ -1,3 +1,4 @@
+-- The invariants of the loops of `Firsts::of` in `src/first.rt`.
 use Rattle.std.proofs.Common.{◌≡◌, ℕ, ◌<◌, ◌≤◌, get_or, length}
 use Rattle.std.specs.Prelude.{filter}
 use Rattle.mpw_keys.specs.Keys.{is_of_list}

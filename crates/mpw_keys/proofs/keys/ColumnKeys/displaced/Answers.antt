@@ -1,3 +1,4 @@
+-- Answers to the goals of `ColumnKeys::displaced` in `src/keys.rt`.
 use Rattle.std.proofs.Common.{◌∙◌, map, ap, sym, subst}
 use Rattle.mpw_keys.specs.Keys.{AreInOrder, displaced_key}
 use Rattle.mpw_keys.proofs.KeyOrder.{order_kept}

@@ -1,3 +1,4 @@
+-- Answers to the goals of `ColumnKeys::list` in `src/keys.rt`.
 use Rattle.std.proofs.Common.{◌≡◌, ◌∙◌, ◌≤◌, true, false, List, ltb, leb, length, take, ap, sym, subst, rules}
 use Rattle.std.specs.Prelude.{filter}
 use Rattle.std.specs.List.Sorted.{IsNonDecreasingBy, IsPartitionPoint}

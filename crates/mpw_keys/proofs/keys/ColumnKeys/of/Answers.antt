@@ -1,3 +1,4 @@
+-- Answers to the goals of `ColumnKeys::of` in `src/keys.rt`.
 use Rattle.std.proofs.Common.{sym, subst}
 use Rattle.std.specs.Prelude.{Contains}
 use Rattle.std.proofs.lemmas.List.Sorted.{Contains-permutation, IsPermutation-sym}

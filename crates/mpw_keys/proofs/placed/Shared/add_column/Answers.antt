@@ -1,3 +1,4 @@
+-- Answers to the goals of `Shared::add_column` in `src/placed.rt`.
 use Rattle.std.proofs.Common.{ℤ, w64, List, Option, map, ap, subst, rules}
 use Rattle.std.proofs.lemmas.Int.{to_z-of_z}
 use Rattle.std.proofs.lemmas.Result.{on_ok_weaker}

@@ -1,3 +1,4 @@
+-- Answers to the goals of `Shared::add_list` in `src/placed.rt`.
 use Rattle.mpw_keys.specs.Firsts.{placed_keys}
 use Rattle.mpw_keys.proofs.Room.{adds_none, adds_next, adds_all}
 use Rattle.mpw_keys.proofs.placed.Shared.add_list.Goals as goal

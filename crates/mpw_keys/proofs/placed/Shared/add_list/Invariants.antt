@@ -1,3 +1,4 @@
+-- The invariants of the loops of `Shared::add_list` in `src/placed.rt`.
 use Rattle.std.proofs.Common.{take}
 use Rattle.std.specs.List.{flat_map}
 use Rattle.mpw_keys.specs.Firsts.{AddsFirst, placed_keys}

@@ -1,3 +1,4 @@
+-- Answers to the goals of `Shared::add_rule` in `src/placed.rt`.
 use Rattle.std.proofs.lemmas.Result.{on_ok_weaker}
 use Rattle.mpw_keys.specs.Firsts.{sides_placed}
 use Rattle.mpw_keys.proofs.Room.{adds_more}

@@ -1,3 +1,4 @@
+-- Answers to the goals of `Shared::add_sides` in `src/placed.rt`.
 use Rattle.std.proofs.Common.{◌+◌, ◌*◌}
 use Rattle.std.specs.List.{flat_map}
 use Rattle.std.proofs.lemmas.Result.{on_ok_weaker}

@@ -1,3 +1,4 @@
+-- Answers to the goals of `Shared::count_list` in `src/placed.rt`.
 use Rattle.std.proofs.Common.{ap}
 use Rattle.mpw_keys.specs.Firsts.{capped, placed_count}
 use Rattle.mpw_keys.proofs.Room.{counted_more, counted_all}

@@ -1,3 +1,4 @@
+-- The invariants of the loops of `Shared::count_list` in `src/placed.rt`.
 use Rattle.std.proofs.Common.{◌≡◌, take, sum_by}
 use Rattle.mpw_keys.specs.Firsts.{capped, placed_count}
 use Rattle.mpw_keys.proofs.placed.Shared.count_list.Given as goal

@@ -1,3 +1,4 @@
+-- Answers to the goals of `Shared::counts` in `src/placed.rt`.
 use Rattle.std.proofs.Common.{◌≡◌, ◌∙◌, ℕ, map, ap, arith}
 use Rattle.std.specs.List.{range_with_len}
 use Rattle.mpw_keys.specs.Firsts.{capped, rule_counted}

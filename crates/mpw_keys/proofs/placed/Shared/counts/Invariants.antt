@@ -1,3 +1,4 @@
+-- The invariants of the loops of `Shared::counts` in `src/placed.rt`.
 use Rattle.std.proofs.Common.{◌≡◌, ◌≤◌, map}
 use Rattle.std.specs.List.{range_with_len}
 use Rattle.mpw_keys.specs.Firsts.{capped, rule_counted}

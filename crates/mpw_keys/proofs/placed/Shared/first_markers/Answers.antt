@@ -1,3 +1,4 @@
+-- Answers to the goals of `Shared::first_markers` in `src/placed.rt`.
 use Rattle.std.proofs.Common.{◌≡◌, ◌∙◌, ℕ, map, ap, refl, arith}
 use Rattle.mpw_keys.specs.Keys.{of_first}
 use Rattle.mpw_keys.specs.Firsts.{first_placed}

@@ -1,3 +1,4 @@
+-- The invariants of the loops of `Shared::first_markers` in `src/placed.rt`.
 use Rattle.std.proofs.Common.{◌≡◌, ◌≤◌, map}
 use Rattle.mpw_keys.specs.Keys.{of_first}
 use Rattle.mpw_keys.specs.Firsts.{first_placed}

@@ -1,3 +1,4 @@
+-- Answers to the goals of `Together::add_keys` in `src/placed.rt`.
 use Rattle.std.proofs.Common.{◌∙◌, ◌-◌, ℕ, ℤ, w64, map, take, length, ap, subst, rules}
 use Rattle.std.proofs.lemmas.Int.{to_z-of_z}
 use Rattle.mpw_keys.specs.Keys.{displaced_key, of_first}

@@ -1,3 +1,4 @@
+-- The invariants of the loops of `Together::add_keys` in `src/placed.rt`.
 use Rattle.std.proofs.Common.{◌≡◌, ◌++◌, map, take}
 use Rattle.mpw_keys.specs.Keys.{displaced_key, of_first}
 use Rattle.mpw_keys.proofs.placed.Together.add_keys.Given as goal

@@ -1,3 +1,4 @@
+-- The invariants of the loops of `Layers::add_all` in `src/layers.rt`.
 use Rattle.std.proofs.Common.{◌≡◌, take}
 use Rattle.mpw_layers.specs.Internal.Gathered.{with_layers}
 use Rattle.mpw_layers.proofs.layers.Layers.add_all.Given as goal

@@ -1,3 +1,4 @@
+-- The invariants of the loops of `Layers::add_shapes` in `src/layers.rt`.
 use Rattle.std.proofs.Common.{◌≡◌, take}
 use Rattle.mpw_layers.specs.Internal.Gathered.{with_shapes}
 use Rattle.mpw_layers.proofs.layers.Layers.add_shapes.Given as goal

@@ -1,3 +1,4 @@
+-- Answers to the goals of `LibraryText::read` in `src/text.rt`.
 use Rattle.std.proofs.Common.{◌≡◌, ℕ, List, Result, Ok, Err, sym, ap, subst, ◌∙◌}
 use Rattle.std.specs.Prelude.{IfOk}
 use Rattle.mpw_structures.specs.declared.structures.Structure.{Structure}

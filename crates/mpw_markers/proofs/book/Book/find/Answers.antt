@@ -1,3 +1,4 @@
+-- Answers to the goals of `Book::find` in `src/book.rt`.
 use Rattle.std.proofs.Common.{◌∙◌, ap, slice_get, sym}
 use Rattle.std.specs.Option.{option_copied}
 use Rattle.mpw_markers.proofs.Found.{found_some, found_none}

@@ -1,3 +1,4 @@
+-- Answers to the goals of `Book::place` in `src/book.rt`.
 use Rattle.std.proofs.Common.{Ok, Err, rules}
 use Rattle.mpw_markers.proofs.Found.{search_is, place_ok, place_none}
 use Rattle.mpw_markers.proofs.book.Book.place.Goals as goal

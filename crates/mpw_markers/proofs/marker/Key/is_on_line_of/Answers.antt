@@ -1,3 +1,4 @@
+-- Answers to the goals of `Key::is_on_line_of` in `src/stitching.rt`.
 use Rattle.std.proofs.Common.{◌∙◌, sym}
 use Rattle.mpw_markers.proofs.Order.{same_lines_test}
 use Rattle.mpw_markers.proofs.marker.Key.is_on_line_of.Goals as goal

@@ -1,3 +1,4 @@
+-- Answers to the goals of `Met::from_vec` in `src/met.rt`.
 use Rattle.std.proofs.Common.{subst, sym, ◌∙◌, List, ℕ}
 use Rattle.std.specs.Prelude.{Contains, ◌↔◌}
 use Rattle.std.proofs.lemmas.Result.{IfOk-weaker}

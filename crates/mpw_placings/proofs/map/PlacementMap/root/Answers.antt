@@ -1,3 +1,4 @@
+-- Answers to the goals of `PlacementMap::root` in `src/map.rt`.
 use Rattle.std.proofs.Common.{◌≡◌, ◌∙◌, List, ap, rules}
 use Rattle.mpw_placings.specs.declared.placement.Placement.{Placement}
 use Rattle.mpw_placings.specs.Internal.Maps.{placements_of, root_at}

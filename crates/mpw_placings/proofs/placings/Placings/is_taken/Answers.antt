@@ -1,3 +1,4 @@
+-- Answers to the goals of `Placings::is_taken` in `src/placings.rt`.
 use Rattle.std.proofs.Common.{◌∙◌, is_some, ap}
 use Rattle.mpw_placings.proofs.Maps.{taken_is}
 use Rattle.mpw_placings.proofs.placings.Placings.is_taken.Goals as goal

@@ -1,3 +1,4 @@
+-- Answers to the goals of `Placings::place` in `src/placings.rt`.
 use Rattle.std.proofs.Common.{◌∙◌, ◌++◌, [], ◌∷◌, Ok, ap, sym}
 use Rattle.mpw_walk.specs.declared.root.Root.{Root}
 use Rattle.mpw_placings.specs.Placements.{is_taken}

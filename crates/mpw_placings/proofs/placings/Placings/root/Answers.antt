@@ -1,3 +1,4 @@
+-- Answers to the goals of `Placings::root` in `src/placings.rt`.
 use Rattle.std.proofs.Common.{◌∙◌, List, ap}
 use Rattle.mpw_placings.specs.declared.placement.Placement.{Placement}
 use Rattle.mpw_placings.specs.Internal.Maps.{root_at}

@@ -1,3 +1,4 @@
+-- The invariants of the loops of `Policy::are_roles` in `src/separation.rt`.
 use Rattle.std.proofs.Common.{◌≡◌, true, take}
 use Rattle.std.specs.List.{list_all}
 use Rattle.mpw_roles.specs.Hierarchy.{is_role}

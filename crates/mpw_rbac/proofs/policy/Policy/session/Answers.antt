@@ -1,3 +1,4 @@
+-- Answers to the goals of `Policy::session` in `src/policy.rt`.
 use Rattle.mpw_rbac.proofs.policy.Policy.session.Goals as goal
 
 pub returns : goal.returns

@@ -1,3 +1,4 @@
+-- Answers to the goals of `Policy::user` in `src/policy.rt`.
 use Rattle.std.proofs.Common.{◌∙◌, ap}
 use Rattle.mpw_geom.specs.Names.{name_eq}
 use Rattle.mpw_rbac.specs.Table.{value_at}

@@ -1,3 +1,4 @@
+-- Answers to the goals of `Roster::contains` in `src/roster.rt`.
 use Rattle.std.proofs.Common.{◌∙◌, ap, is_some}
 use Rattle.mpw_rbac.proofs.RosterLemmas.{key-place}
 use Rattle.mpw_rbac.proofs.roster.Roster.contains.Goals as goal

@@ -1,3 +1,4 @@
+-- Answers to the goals of `Roster::len` in `src/roster.rt`.
 use Rattle.std.proofs.Common.{◌∙◌}
 use Rattle.mpw_rbac.proofs.RosterLemmas.{zip-length}
 use Rattle.mpw_rbac.proofs.roster.Roster.len.Goals as goal

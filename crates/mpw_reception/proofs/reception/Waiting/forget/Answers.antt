@@ -1,3 +1,4 @@
+-- Answers to the goals of `Waiting::forget` in `src/reception.rt`.
 use Rattle.std.proofs.Common.{rules, not, eqb}
 use Rattle.std.proofs.lemmas.Fn.{filter_same}
 use Rattle.mpw_reception.proofs.reception.Waiting.forget.Goals as goal

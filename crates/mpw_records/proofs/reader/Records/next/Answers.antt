@@ -1,3 +1,4 @@
+-- Answers to the goals of `Records::next` in `src/reader.rt`.
 use Rattle.std.proofs.Common.{sym, ap, ◌∙◌}
 use Rattle.mpw_records.specs.Records.{raw, seen}
 use Rattle.mpw_records.proofs.Fronts.{next_ok, next_err}

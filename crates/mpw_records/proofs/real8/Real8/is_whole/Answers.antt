@@ -1,3 +1,4 @@
+-- Answers to the goals of `Real8::is_whole` in `src/real8.rt`.
 use Rattle.std.proofs.Common.{◌*◌, ◌^◌, sym, ap, ◌∙◌, arith}
 use Rattle.std.proofs.lemmas.Bool.{eqb-true}
 use Rattle.std.proofs.lemmas.Int.{to_z-of_z}

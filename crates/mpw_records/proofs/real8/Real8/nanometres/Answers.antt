@@ -1,3 +1,4 @@
+-- Answers to the goals of `Real8::nanometres` in `src/real8.rt`.
 use Rattle.std.proofs.Common.{◌≡◌, ◌*◌, ◌^◌, ◌⊎◌, false, inl, inr, ap, sym, ◌∙◌, arith}
 use Rattle.std.proofs.lemmas.Nat.{mul-le}
 use Rattle.mpw_records.specs.Real.{nanometres}

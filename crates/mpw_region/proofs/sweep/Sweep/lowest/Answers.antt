@@ -1,3 +1,4 @@
+-- Answers to the goals of `Sweep::lowest` in `src/sweep.rt`.
 use Rattle.std.proofs.Common.{List, get_or, ◌≤ℤ◌, subst, sym, rules, w64}
 use Rattle.std.specs.Prelude.{All}
 use mir.Val.{SFits}

@@ -1,3 +1,4 @@
+-- Answers to the goals of `Sweep::next_border` in `src/sweep.rt`.
 use Rattle.std.proofs.Common.{List, get_or, length, ◌≡◌, ◌∙◌, ◌<◌, subst, rules, arith, w64}
 use Rattle.std.specs.Prelude.{Contains}
 use mir.Val.{SFits}

@@ -1,3 +1,4 @@
+-- Answers to the goals of `Sweep::step` in `src/sweep.rt`.
 use Rattle.std.proofs.Common.{◌≤ℤ◌, ◌<ℤ◌, ◌≤◌, List, length, subst, sym, arith, w64}
 use Rattle.std.specs.Prelude.{All, AllPairs, take}
 use mir.Val.{to_z, of_z}

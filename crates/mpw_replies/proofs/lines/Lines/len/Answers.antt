@@ -1,3 +1,4 @@
+-- Answers to the goals of `Lines::len` in `src/lines.rt`.
 use Rattle.std.proofs.Common.{◌∙◌, sym, ap, length}
 use Rattle.mpw_replies.specs.Told.{kept_lines}
 use Rattle.mpw_replies.proofs.TrailLemmas.{numbered_length}

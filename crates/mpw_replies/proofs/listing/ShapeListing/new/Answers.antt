@@ -1,3 +1,4 @@
+-- Answers to the goals of `ShapeListing::new` in `src/listing.rt`.
 use Rattle.std.proofs.Common.{◌∙◌, ap}
 use Rattle.mpw_hier.specs.Values.{flat}
 use Rattle.mpw_seen.specs.Seen.{seen_items}

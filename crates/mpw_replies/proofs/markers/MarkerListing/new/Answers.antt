@@ -1,3 +1,4 @@
+-- Answers to the goals of `MarkerListing::new` in `src/markers.rt`.
 use Rattle.std.proofs.Common.{◌≡◌, length, ap, ◌∙◌, subst}
 use Rattle.mpw_replies.specs.Internal.Ranks.{AreNumbers, AreRanks}
 use Rattle.mpw_replies.proofs.RankLemmas.{met_are}

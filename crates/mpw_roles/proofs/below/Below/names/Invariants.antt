@@ -1,3 +1,4 @@
+-- The invariants of the loops of `Below::names` in `src/below.rt`.
 use Rattle.std.proofs.Common.{◌≡◌, ◌++◌, drop, length}
 use Rattle.mpw_roles.specs.Marks.{marked_names}
 use Rattle.mpw_roles.specs.Places.{marks_from}

@@ -1,3 +1,4 @@
+-- Answers to the goals of `Mask::add` in `src/mask.rt`.
 use Rattle.std.proofs.Common.{arith}
 use Rattle.mpw_roles.proofs.MaskLemmas.{has-joined}
 use Rattle.mpw_roles.proofs.mask.Mask.add.Goals as goal

@@ -1,3 +1,4 @@
+-- The invariants of the loops of `Mask::add` in `src/mask.rt`.
 use Rattle.std.proofs.Common.{◌≡◌, ℕ, ◌<◌, ◌≤◌, get_or}
 use Rattle.std.specs.Prelude.{bit_or}
 use Rattle.mpw_roles.proofs.mask.Mask.add.Given as goal

@@ -1,3 +1,4 @@
+-- The invariants of the loops of `Mask::common` in `src/mask.rt`.
 use Rattle.std.proofs.Common.{◌≡◌, ◌*◌}
 use Rattle.mpw_roles.proofs.CommonLemmas.{common_upto}
 use Rattle.mpw_roles.proofs.mask.Mask.common.Given as goal

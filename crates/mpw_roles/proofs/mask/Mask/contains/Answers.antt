@@ -1,3 +1,4 @@
+-- Answers to the goals of `Mask::contains` in `src/mask.rt`.
 use Rattle.mpw_roles.proofs.MaskLemmas.{has-bit, has-past}
 use Rattle.mpw_roles.proofs.mask.Mask.contains.Goals as goal
 

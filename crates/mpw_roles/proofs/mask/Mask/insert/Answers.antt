@@ -1,3 +1,4 @@
+-- Answers to the goals of `Mask::insert` in `src/mask.rt`.
 use Rattle.std.proofs.Common.{arith}
 use Rattle.mpw_roles.proofs.MaskLemmas.{has-inserted}
 use Rattle.mpw_roles.proofs.mask.Mask.insert.Goals as goal

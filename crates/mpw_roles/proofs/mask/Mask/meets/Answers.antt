@@ -1,3 +1,4 @@
+-- Answers to the goals of `Mask::meets` in `src/mask.rt`.
 use Rattle.std.proofs.Common.{arith, get_or}
 use Rattle.std.proofs.lemmas.Nat.{and_le_l}
 use Rattle.mpw_roles.proofs.MaskLemmas.{some-bit, no-bit}

@@ -1,3 +1,4 @@
+-- The invariants of the loops of `Mask::meets` in `src/mask.rt`.
 use Rattle.std.proofs.Common.{◌≡◌, ℕ, ◌<◌, get_or}
 use Rattle.std.specs.Prelude.{bit_and}
 use Rattle.mpw_roles.proofs.mask.Mask.meets.Given as goal

@@ -1,3 +1,4 @@
+-- Answers to the goals of `Mask::new` in `src/mask.rt`.
 use Rattle.std.proofs.Common.{◌≡◌, ℕ, zero, suc, get_or, [], ◌∷◌, refl}
 use Rattle.mpw_roles.proofs.MaskLemmas.{has-none}
 use Rattle.mpw_roles.proofs.mask.Mask.new.Goals as goal

@@ -1,3 +1,4 @@
+-- Answers to the goals of `Roles::contains` in `src/roles.rt`.
 use Rattle.std.proofs.Common.{◌∙◌}
 use Rattle.mpw_roles.proofs.roles.Roles.contains.Goals as goal
 

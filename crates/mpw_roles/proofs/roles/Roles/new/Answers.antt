@@ -1,3 +1,4 @@
+-- Answers to the goals of `Roles::new` in `src/roles.rt`.
 use Rattle.std.proofs.Common.{sym, subst, arith}
 use Rattle.mpw_roles.specs.Places.{IsRoles}
 use Rattle.mpw_roles.proofs.RoleLemmas.{IsHierarchy-empty}

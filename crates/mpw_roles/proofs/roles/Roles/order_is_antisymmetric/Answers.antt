@@ -1,3 +1,4 @@
+-- Answers to the goals of `Roles::order_is_antisymmetric` in `src/roles.rt`.
 use Rattle.std.proofs.Common.{subst}
 use Rattle.mpw_roles.specs.Order.{IsHierarchy}
 use Rattle.mpw_roles.proofs.RoleLemmas.{antisymmetric}

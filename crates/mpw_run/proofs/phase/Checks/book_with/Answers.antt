@@ -1,3 +1,4 @@
+-- Answers to the goals of `Checks::book_with` in `src/phase.rt`.
 use Rattle.std.proofs.Common.{List, sym, subst, ap}
 use Rattle.mpw_run.specs.Internal.Prepared.{answers_with}
 use Rattle.mpw_run.specs.Run.{Tile, Checks}

@@ -1,3 +1,4 @@
+-- Answers to the goals of `Run::check_begun` in `src/run.rt`.
 use Rattle.std.proofs.Common.{ap, ◌∙◌}
 use Rattle.mpw_run.specs.Step.{new_tiles}
 use Rattle.mpw_run.proofs.Answering.{cut_is}

@@ -1,3 +1,4 @@
+-- Answers to the goals of `Run::prepare_cut` in `src/run.rt`.
 use Rattle.std.proofs.Common.{sym, ap, ◌∙◌}
 use Rattle.mpw_job.specs.declared.job.CutJob.{CutJob}
 use Rattle.mpw_run.proofs.Exactness.{snapshots}

@@ -1,3 +1,4 @@
+-- Answers to the goals of `Run::prepare_kept` in `src/run.rt`.
 use Rattle.std.proofs.Common.{sym, ap, ◌∙◌}
 use Rattle.mpw_run.specs.Step.{Run, job_of_tile}
 use Rattle.mpw_run.proofs.Exactness.{tile_jobs}

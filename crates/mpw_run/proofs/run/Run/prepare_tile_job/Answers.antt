@@ -1,3 +1,4 @@
+-- Answers to the goals of `Run::prepare_tile_job` in `src/run.rt`.
 use Rattle.std.proofs.Common.{sym, ap, ◌∙◌}
 use Rattle.mpw_run.specs.Step.{job_of_tile}
 use Rattle.mpw_run.proofs.Changes.{offered_within, take_is}

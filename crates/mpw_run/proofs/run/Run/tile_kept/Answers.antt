@@ -1,3 +1,4 @@
+-- Answers to the goals of `Run::tile_kept` in `src/run.rt`.
 use Rattle.std.proofs.Common.{◌∙◌, sym, subst, ap, arith, List}
 use Rattle.mpw_markers.specs.declared.marker.Marker.{Marker}
 use Rattle.mpw_run.specs.Internal.Prepared.{answers_with}

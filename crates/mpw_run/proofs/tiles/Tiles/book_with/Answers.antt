@@ -1,3 +1,4 @@
+-- Answers to the goals of `Tiles::book_with` in `src/tiles.rt`.
 use Rattle.std.proofs.Common.{◌≡◌, List, subst, ◌∙◌}
 use Rattle.mpw_markers.specs.declared.marker.Marker.{Marker}
 use Rattle.mpw_markers.specs.Stitched.{IsStitched}

@@ -1,3 +1,4 @@
+-- Answers to the goals of `Tiles::lists_with` in `src/tiles.rt`.
 use Rattle.std.proofs.Common.{◌≡◌, ◌<◌, ◌++◌, [], ◌∷◌, length, take, ap, ◌∙◌, arith}
 use Rattle.mpw_run.specs.Run.{answers_of}
 use Rattle.mpw_run.specs.Internal.Prepared.{answers_with}

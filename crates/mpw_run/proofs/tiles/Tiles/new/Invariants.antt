@@ -1,3 +1,4 @@
+-- The invariants of the loops of `Tiles::new` in `src/tiles.rt`.
 use Rattle.std.proofs.Common.{◌≡◌}
 use Rattle.mpw_run.specs.Step.{new_tiles}
 use Rattle.mpw_run.proofs.tiles.Tiles.new.Given as goal

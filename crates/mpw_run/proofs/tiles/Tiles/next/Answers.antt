@@ -1,3 +1,4 @@
+-- Answers to the goals of `Tiles::next` in `src/tiles.rt`.
 use Rattle.std.proofs.Common.{length, sym, ap, arith}
 use Rattle.std.specs.Prelude.{option_map}
 use Rattle.mpw_run.specs.Step.{handed_out}

@@ -1,3 +1,4 @@
+-- The invariants of the loops of `Tiles::next` in `src/tiles.rt`.
 use Rattle.std.proofs.Common.{◌≡◌, ◌≤◌, length, drop}
 use Rattle.std.specs.Prelude.{option_map}
 use Rattle.mpw_run.specs.Step.{handed_out, next_from}

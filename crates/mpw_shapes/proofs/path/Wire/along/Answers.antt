@@ -1,3 +1,4 @@
+-- Answers to the goals of `Wire::along` in `src/path.rt`.
 use Rattle.std.proofs.Common.{rules, arith}
 use Rattle.std.proofs.lemmas.Int.{ints}
 use Rattle.mpw_geom.proofs.Tests.{test_from_lt}

@@ -1,3 +1,4 @@
+-- Answers to the goals of `Wire::box_along` in `src/path.rt`.
 use Rattle.std.proofs.Common.{◌∙◌, sym, rules, arith}
 use Rattle.std.proofs.lemmas.Int.{ints}
 use Rattle.mpw_shapes.proofs.Wires.{wire_level, wire_upright}

@@ -1,3 +1,4 @@
+-- Answers to the goals of `Gap::hides` in `src/rows.rt`.
 use Rattle.std.proofs.Common.{rules}
 use Rattle.std.proofs.lemmas.Int.{ints}
 use Rattle.mpw_shapes.proofs.rows.Gap.hides.Goals as goal

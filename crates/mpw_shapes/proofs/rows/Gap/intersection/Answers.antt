@@ -1,3 +1,4 @@
+-- Answers to the goals of `Gap::intersection` in `src/rows.rt`.
 use Rattle.std.proofs.Common.{inl, inr, arith}
 use Rattle.std.proofs.lemmas.Int.{ints, clamps}
 use Rattle.mpw_shapes.proofs.rows.Gap.intersection.Goals as goal

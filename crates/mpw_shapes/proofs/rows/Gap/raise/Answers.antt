@@ -1,3 +1,4 @@
+-- Answers to the goals of `Gap::raise` in `src/rows.rt`.
 use Rattle.std.proofs.Common.{◌≡◌, inl, inr, arith, rules, FitsSigned, ℤ, ◌+ℤ◌, ◌≤ℤ◌, to_z, of_z}
 use Rattle.std.specs.Int.{w64, saturate_signed}
 use Rattle.std.proofs.lemmas.Int.{ints}

@@ -1,3 +1,4 @@
+-- Answers to the goals of `Rows::raise` in `src/rows.rt`.
 use Rattle.std.proofs.Common.{◌∙◌, arith, ap, ℤ, ◌+ℤ◌, ◌≤ℤ◌}
 use Rattle.std.proofs.lemmas.Int.{ints}
 use Rattle.mpw_shapes.specs.declared.rows.Rows.{Rows}

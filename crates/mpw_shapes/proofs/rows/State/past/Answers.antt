@@ -1,3 +1,4 @@
+-- Answers to the goals of `State::past` in `src/rows.rt`.
 use Rattle.std.proofs.Common.{◌∙◌, ap, arith, rules, FitsSigned}
 use Rattle.std.specs.Int.{w64}
 use Rattle.std.proofs.lemmas.Int.{ints}

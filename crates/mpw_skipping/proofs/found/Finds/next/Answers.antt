@@ -1,3 +1,4 @@
+-- Answers to the goals of `Finds::next` in `src/found.rt`.
 use Rattle.std.proofs.Common.{◌≡◌, ◌∙◌, ◌+◌, ◌-◌, ◌∷◌, [], drop, suc, sym, ap, arith, refl, true, false}
 use Rattle.mpw_records.specs.Records.{front, seen, told_length}
 use Rattle.mpw_skipping.specs.Found.{found_from, goes_on}

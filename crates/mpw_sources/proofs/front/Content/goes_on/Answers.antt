@@ -1,3 +1,4 @@
+-- Answers to the goals of `Content::goes_on` in `src/front.rt`.
 use Rattle.mpw_sources.proofs.Fronts.{place_first, place_if_known}
 use Rattle.mpw_sources.proofs.front.Content.goes_on.Goals as goal
 

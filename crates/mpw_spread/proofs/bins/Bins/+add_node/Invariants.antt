@@ -1,3 +1,4 @@
+-- The invariants of the loops of `Bins::add_node` in `src/bins.rt`.
 use Rattle.mpw_spread.proofs.bins.Bins.+add_node.Given as goal
 
 abbrev pub decreases-add_node : goal.decreases-add_node

@@ -1,3 +1,4 @@
+-- Answers to the goals of `Text::has` in `src/coordinates.rt`.
 use Rattle.std.proofs.Common.{sym, ◌∙◌}
 use Rattle.mpw_structures.proofs.TextPoints.{points_next, same_if_not_apart}
 use Rattle.mpw_structures.proofs.coordinates.Text.has.Goals as goal

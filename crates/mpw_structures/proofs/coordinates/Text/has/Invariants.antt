@@ -1,3 +1,4 @@
+-- The invariants of the loops of `Text::has` in `src/coordinates.rt`.
 use Rattle.std.proofs.Common.{◌≡◌, take}
 use Rattle.mpw_structures.specs.Internal.Coordinates.{points_from}
 use Rattle.mpw_structures.proofs.coordinates.Text.has.Given as goal

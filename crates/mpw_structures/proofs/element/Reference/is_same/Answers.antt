@@ -1,3 +1,4 @@
+-- Answers to the goals of `Reference::is_same` in `src/element.rt`.
 use Rattle.std.proofs.Common.{◌≡◌, ◌↔◌, Bool, true, false, ◌&&◌, IsTrue, refl, ap}
 use Rattle.mpw_structures.specs.declared.element.Reference.{Reference}
 use Rattle.mpw_structures.proofs.element.Reference.is_same.Goals as goal

@@ -1,3 +1,4 @@
+-- Answers to the goals of `Points::at` in `src/points.rt`.
 use Rattle.std.proofs.Common.{◌∙◌, ◌<◌, sym, arith}
 use Rattle.mpw_structures.specs.Internal.Coordinates.{IsWithin}
 use Rattle.mpw_structures.proofs.TextPoints.{shared_length, shared_within, shared_point}

@@ -1,3 +1,4 @@
+-- The invariants of the loops of `Points::is_same` in `src/points.rt`.
 use Rattle.std.proofs.Common.{◌≡◌, take}
 use Rattle.mpw_structures.proofs.points.Points.is_same.Given as goal
 

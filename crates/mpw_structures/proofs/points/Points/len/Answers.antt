@@ -1,3 +1,4 @@
+-- Answers to the goals of `Points::len` in `src/points.rt`.
 use Rattle.std.proofs.Common.{sym, ◌∙◌}
 use Rattle.mpw_structures.proofs.TextPoints.{shared_length}
 use Rattle.mpw_structures.proofs.points.Points.len.Goals as goal

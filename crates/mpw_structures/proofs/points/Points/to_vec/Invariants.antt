@@ -1,3 +1,4 @@
+-- The invariants of the loops of `Points::to_vec` in `src/points.rt`.
 use Rattle.std.proofs.Common.{◌≡◌, take}
 use Rattle.mpw_structures.proofs.points.Points.to_vec.Given as goal
 

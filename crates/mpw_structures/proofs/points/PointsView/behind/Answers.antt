@@ -1,3 +1,4 @@
+-- Answers to the goals of `PointsView::behind` in `src/points.rt`.
 use Rattle.std.proofs.Common.{ap, sym, ◌∙◌, drop}
 use Rattle.std.proofs.Math.Seq.{drop-drop}
 use Rattle.mpw_structures.proofs.points.PointsView.behind.Goals as goal

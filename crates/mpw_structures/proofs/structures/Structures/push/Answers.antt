@@ -1,3 +1,4 @@
+-- Answers to the goals of `Structures::push` in `src/structures.rt`.
 use Rattle.std.proofs.Common.{◌≡◌, ℕ, List, cond, Some, None, subst, sym, arith}
 use Rattle.std.specs.BTreeMap as tree
 use Rattle.std.specs.Cmp.Lexicographic.{slice_cmp}

@@ -1,3 +1,4 @@
+-- Answers to the goals of `Grid::bottom_of` in `src/grid.rt`.
 use Rattle.std.proofs.Common.{arith}
 use Rattle.std.proofs.lemmas.Int.{ints}
 use Rattle.mpw_tiles.specs.Grid.{row_of}

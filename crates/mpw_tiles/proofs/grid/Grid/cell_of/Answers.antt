@@ -1,3 +1,4 @@
+-- Answers to the goals of `Grid::cell_of` in `src/grid.rt`.
 use Rattle.std.proofs.Common.{◌≡◌, ℕ, ◌+◌, ◌*◌, ◌∙◌, sym, ap, subst}
 use Rattle.mpw_geom.specs.declared.plane.Point.{Point}
 use Rattle.mpw_tiles.specs.Grid.{Cells, columns, sides_between, found_cell, IsOnlyCell}

@@ -1,3 +1,4 @@
+-- Answers to the goals of `Grid::core` in `src/grid.rt`.
 use Rattle.std.proofs.Common.{◌<◌, ◌+◌, ◌^◌, ◌∙◌, ap, sym, subst}
 use Rattle.std.specs.Prelude.{ℤ, pos, neg_ℤ, ◌+ℤ◌, ◌≤ℤ◌}
 use Rattle.mpw_geom.specs.declared.plane.Box2.{Box2}

@@ -1,3 +1,4 @@
+-- Answers to the goals of `Grid::meeting` in `src/grid.rt`.
 use Rattle.std.proofs.Common.{ℕ, ◌<◌, sym, subst}
 use Rattle.std.specs.Prelude.{pos, ◌+ℤ◌, ◌-ℤ◌, ◌↔◌}
 use Rattle.mpw_tiles.specs.declared.grid.Block.{Block}

@@ -1,3 +1,4 @@
+-- Answers to the goals of `Grid::row_at` in `src/grid.rt`.
 use Rattle.std.proofs.Common.{rules, arith}
 use Rattle.mpw_tiles.specs.Grid.{rows}
 use Rattle.mpw_tiles.proofs.Cells.{IsBelow, counted_below, found_rows, rows_few}

@@ -1,3 +1,4 @@
+-- Answers to the goals of `Grid::window` in `src/grid.rt`.
 use Rattle.std.proofs.Common.{ap, arith}
 use Rattle.std.proofs.lemmas.Int.{ints}
 use Rattle.mpw_geom.proofs.Boxes.{same_box}

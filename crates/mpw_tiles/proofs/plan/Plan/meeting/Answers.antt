@@ -1,3 +1,4 @@
+-- Answers to the goals of `Plan::meeting` in `src/plan.rt`.
 use Rattle.std.proofs.Common.{◌<◌, sym, subst}
 use Rattle.std.specs.Prelude.{◌↔◌}
 use Rattle.mpw_tiles.specs.Grid.{column_of, row_of, IsInBlock, ShareSquare}

@@ -1,3 +1,4 @@
+-- Answers to the goals of `Snapshot::plan` in `src/snapshot.rt`.
 use Rattle.std.proofs.Common.{subst, sym}
 use Rattle.std.specs.Prelude.{IfSome}
 use Rattle.mpw_tiles.specs.Plan.{plan_of}

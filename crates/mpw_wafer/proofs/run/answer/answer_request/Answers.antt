@@ -1,3 +1,4 @@
+-- Answers to the goals of `answer_request` in `src/run/answer.rt`.
 use Rattle.std.proofs.Common.{rules}
 use Rattle.mpw_wafer.specs.Run.Checking.{begun}
 use Rattle.mpw_wafer.proofs.run.answer.answer_request.Goals as goal

@@ -1,3 +1,4 @@
+-- Answers to the goals of `Frame::behind_box` in `src/frame.rt`.
 use Rattle.std.proofs.Common.{inr}
 use Rattle.mpw_walk.proofs.Skipping.{skips_columns}
 use Rattle.mpw_walk.proofs.frame.Frame.behind_box.Goals as goal

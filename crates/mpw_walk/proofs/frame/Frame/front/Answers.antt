@@ -1,3 +1,4 @@
+-- Answers to the goals of `Frame::front` in `src/frame.rt`.
 use Rattle.std.proofs.Common.{◌≡◌, ◌<◌, length, Option, Some, refl, sym, ap, subst, ◌∙◌}
 use Rattle.std.proofs.Common.{rules}
 use Rattle.std.specs.Prelude.{slice_get, option_copied}

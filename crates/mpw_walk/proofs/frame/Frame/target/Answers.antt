@@ -1,3 +1,4 @@
+-- Answers to the goals of `Frame::target` in `src/frame.rt`.
 use Rattle.mpw_walk.proofs.Targets.{own_within, own_shows, outer_within, outer_target}
 use Rattle.mpw_walk.proofs.frame.Frame.target.Goals as goal
 

@@ -1,3 +1,4 @@
+-- Answers to the goals of `Frame::top` in `src/frame.rt`.
 use Rattle.std.proofs.Common.{◌-◌, length}
 use Rattle.mpw_walk.specs.Internal.Frames.{IsFront}
 use Rattle.mpw_walk.proofs.Targets.{top_target, top_low}

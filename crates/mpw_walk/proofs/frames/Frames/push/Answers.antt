@@ -1,3 +1,4 @@
+-- Answers to the goals of `Frames::push` in `src/frames.rt`.
 use Rattle.mpw_walk.proofs.Stacked.{is_place, put_behind, all_with}
 use Rattle.mpw_walk.proofs.frames.Frames.push.Goals as goal
 

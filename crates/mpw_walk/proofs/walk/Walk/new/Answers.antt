@@ -1,3 +1,4 @@
+-- Answers to the goals of `Walk::new` in `src/walk.rt`.
 use Rattle.std.proofs.Common.{ap, ◌∙◌}
 use Rattle.mpw_walk.specs.Turns.{given, roots_turns}
 use Rattle.mpw_walk.proofs.Starts.{all_given}

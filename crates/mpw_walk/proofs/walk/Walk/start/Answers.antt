@@ -1,3 +1,4 @@
+-- Answers to the goals of `Walk::start` in `src/walk.rt`.
 use Rattle.std.proofs.Common.{List, sym, ap, subst, ◌∙◌}
 use Rattle.mpw_walk.specs.Way.{left_in, IsOnWay}
 use Rattle.mpw_walk.specs.declared.frame.Frame.{Frame}

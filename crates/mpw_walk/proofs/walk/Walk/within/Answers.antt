@@ -1,3 +1,4 @@
+-- Answers to the goals of `Walk::within` in `src/walk.rt`.
 use Rattle.std.proofs.Common.{ap, ◌∙◌}
 use Rattle.mpw_walk.specs.Turns.{given}
 use Rattle.mpw_walk.proofs.Starts.{met_given}

@@ -1,3 +1,4 @@
+-- Answers to the goals of `Way::begin` in `src/way.rt`.
 use Rattle.std.proofs.Common.{length, arith}
 use Rattle.mpw_walk.proofs.EnteredRoots.{ended, root_present, passes_root}
 use Rattle.mpw_walk.proofs.Fronts.{found, none_within}

@@ -1,3 +1,4 @@
+-- Answers to the goals of `Way::enter` in `src/way.rt`.
 use Rattle.std.proofs.Common.{refl, arith, sym, ◌∙◌}
 use Rattle.mpw_walk.proofs.Arrays.{in_plane}
 use Rattle.mpw_walk.proofs.EnteredInstances.{grid, child_within, array_near, frames_room, near, short, enters_instance, misses_instances, read}

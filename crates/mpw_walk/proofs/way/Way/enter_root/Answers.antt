@@ -1,3 +1,4 @@
+-- Answers to the goals of `Way::enter_root` in `src/way.rt`.
 use Rattle.std.proofs.Common.{arith, sym, ◌∙◌}
 use Rattle.mpw_walk.proofs.EnteredRoots.{root_near, root_short, enters_root, misses_root}
 use Rattle.mpw_walk.proofs.way.Way.enter_root.Goals as goal

@@ -1,3 +1,4 @@
+-- Answers to the goals of `Way::give` in `src/way.rt`.
 use Rattle.std.proofs.Common.{arith, sym, ◌∙◌}
 use Rattle.mpw_walk.proofs.GivenShapes.{given_placeable, given_near, given_short, gives_shape, passes_shape}
 use Rattle.mpw_walk.proofs.Nexts.{shape_within}

@@ -1,3 +1,4 @@
+-- Answers to the goals of `Way::go_on` in `src/way.rt`.
 use Rattle.std.proofs.Common.{◌≡◌, ◌≤◌, length, arith, subst}
 use Rattle.std.specs.Prelude.{Option, None, IfNone}
 use Rattle.mpw_walk.proofs.LeftFrames.{leaves}

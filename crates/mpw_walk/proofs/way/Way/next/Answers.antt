@@ -1,3 +1,4 @@
+-- Answers to the goals of `Way::next` in `src/way.rt`.
 use Rattle.mpw_walk.specs.Way.{walked}
 use Rattle.mpw_walk.proofs.Starts.{last_gives, gives_item, last_ends}
 use Rattle.mpw_walk.proofs.way.Way.next.Goals as goal

@@ -1,3 +1,4 @@
+-- The invariants of the loops of `Way::next` in `src/way.rt`.
 use Rattle.mpw_walk.specs.Way.{IsWay, walked}
 use Rattle.mpw_walk.specs.Internal.Way.{GoesOn, work}
 use Rattle.mpw_walk.proofs.way.Way.next.Given as goal

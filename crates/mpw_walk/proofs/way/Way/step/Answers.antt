@@ -1,3 +1,4 @@
+-- Answers to the goals of `Way::step` in `src/way.rt`.
 use Rattle.std.proofs.Common.{◌≡◌, [], ◌∷◌, ◌++◌, List, Option, Some, None, sym, ap, subst, ◌∙◌}
 use Rattle.std.specs.Prelude.{IfNone}
 use Rattle.std.specs.Option.{option_to_list}

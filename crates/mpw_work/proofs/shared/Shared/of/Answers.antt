@@ -1,3 +1,4 @@
+-- Answers to the goals of `Shared::of` in `src/shared.rt`.
 use Rattle.std.proofs.Common.{◌≡◌, ◌∙◌, ap, subst}
 use mathlib.Core.Path.{fun_ext}
 use Rattle.mpw_region.specs.Squares.{covers}
