@@ -18,6 +18,7 @@ use Rattle.mpw_waiver.specs.declared.fault.WaiverFault.TheVariants.{Known, NoWai
 use Rattle.mpw_laws.specs.WaiverLaws.{SignersAreApart}
 use Rattle.mpw_waiver.specs.Signing.{ask_test, sign_test}
 use Rattle.mpw_laws.specs.Signing.{if_passed, signed}
+use Rattle.mpw_waiver.specs.declared.waiver.Waiver.{Waiver}
 use Rattle.mpw_waiver.specs.Waivers.{waiver_at, with_signer}
 use Rattle.mpw_signoff.specs.declared.ending.SignOffEnding.{SignOffEnding}
 use Rattle.mpw_signoff.specs.declared.ending.SignOffEnding.TheVariants.{Refused}
@@ -72,6 +73,10 @@ passes_is (Err NoWaiver) x e = absurd cc
 passes_is (Err (Submitter cell)) x e = absurd cc
 passes_is (Err Asker) x e = absurd cc
 
+unasked_is : (waiver : Option Waiver) → ask_test waiver ≡ Ok tt → waiver ≡ None
+unasked_is None e = refl
+unasked_is (Some waiver) e = absurd cc
+
 -- ---- accepted requests
 
 -- a table's marker is full, and the rest of its parts pass
@@ -104,7 +109,7 @@ asked_are_shown keys policy wafer run waivers connection name change lines e =
     let by =
     changed Asked (λ by. []) (waive_row policy run waivers connection name) change lines e in
     let p = named_by keys policy run connection name _ by.0 by.1 in
-    let free = passed (passes (ask_test (waiver_at waivers p.n.place))) _ by.0 p.later in
+    let unasked = passed (passes (ask_test (waiver_at waivers p.n.place))) _ by.0 p.later in
     let is : by.0 ≡ by_user policy connection p.n = cc in
     record {
       checked = p.f;
@@ -112,6 +117,8 @@ asked_are_shown keys policy wafer run waivers connection name change lines e =
       marker = p.n.marker;
       finished = p.phase;
       shown = p.shown;
+      free = unasked_is (waiver_at waivers p.n.place)
+          (passes_is (ask_test (waiver_at waivers p.n.place)) unasked.0 unasked.1);
       left = ap (waivers_after waivers) (sym by.2 ∙ ap Asked is);
     }
 

@@ -1,5 +1,5 @@
 -- Laws of the sign-off requests.
-use Rattle.std.specs.Prelude.{[], ◌≡◌, ◌<◌, ℕ, true, false, List, ◌∷◌, length, slice_get, All, Option, Some, Ok, Err, IfOk}
+use Rattle.std.specs.Prelude.{[], ◌≡◌, ◌<◌, ℕ, true, false, List, ◌∷◌, length, slice_get, All, Option, None, Some, Ok, Err, IfOk}
 use Rattle.std.specs.Ordering.{is_lt}
 use Rattle.mpw_geom.specs.Names.{name_cmp}
 use Rattle.mpw_deck.specs.declared.rule.Rule.{Rule}
@@ -41,7 +41,7 @@ pub record IsShownInFull (policy : Policy) (connection : ℕ) (f : Checked) (nam
   pub named : name ≡ name_for rule.name marker
   pub full : is_full (seen_by policy connection f.planned.snapshot.shelf) marker ≡ true
 
--- An accepted request is of such a marker, and the session's user asked for its waiver.
+-- An accepted request is of such a marker without a waiver, and the session's user asked for one.
 pub record IsRightlyAsked (policy : Policy) (run : Run) (waivers : List (Option Waiver))
     (connection : ℕ)
     (name : MarkerName) (after : List (Option Waiver)) : Type 0 where
@@ -50,6 +50,7 @@ pub record IsRightlyAsked (policy : Policy) (run : Run) (waivers : List (Option 
   pub marker : Marker
   pub finished : run.phase ≡ Finished checked
   pub shown : IsShownInFull policy connection checked name place marker
+  pub free : waiver_at waivers place ≡ None
   pub left : after ≡ with_asker waivers place (user_of policy connection)
 
 -- Or the session's user signed it, and may do so: the user neither asked for it nor submitted what the marker
