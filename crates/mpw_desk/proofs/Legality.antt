@@ -1,7 +1,10 @@
--- A call that is added is legal, and the store writer failed exactly if it wasn't stored.
-use Rattle.std.proofs.Common.{◌≡◌, ◌∙◌, ◌==◌, ℕ, Bool, true, false, cond, List, [], ◌∷◌, ◌++◌, length, Option, None, Some, nat_lt, is_some, refl, sym, ap, subst}
+-- A call that is added is legal, the history had room for it, and the store writer failed exactly if it wasn't
+-- stored.
+use Rattle.std.proofs.Common.{◌≡◌, ◌≤◌, ◌<◌, ◌+◌, ◌∙◌, ◌==◌, ℕ, Bool, true, false, cond, List, [], ◌∷◌, ◌++◌, length, length-append, Option, None, Some, nat_lt, is_some, refl, sym, ap, subst, arith}
 use Rattle.std.specs.Prelude.{⊤, ◌||◌, ◌&&◌, not, if◌then◌else◌}
+use Rattle.std.proofs.lemmas.Bool.{ltb-true}
 use Rattle.std.proofs.lemmas.List.{append_cancel_left}
+use Rattle.std.proofs.lemmas.List.Elements.{All-nil, All-push}
 use Rattle.mpw_job.specs.Jobs.{CutWindows}
 use Rattle.mpw_run.specs.declared.phase.Phase.{Phase}
 use Rattle.mpw_run.specs.declared.phase.Phase.TheVariants.{Idle, Cutting, Checking, Finished}
@@ -20,7 +23,7 @@ use Rattle.mpw_events.specs.History.{Desk, Handled, IsCall, IsHandled, IsLegal, 
 use Rattle.mpw_events.specs.Keeping.{change_to_keep, failed_after}
 use Rattle.mpw_events.specs.Step.{Outcome, State, after, event_outcome, new_state, no_change, not_kept_response, response_of, step}
 use Rattle.mpw_desk.specs.Legal.{GoesLegally, failures_after}
-use Rattle.mpw_desk.specs.Steps.{IsToldAs, call_of}
+use Rattle.mpw_desk.specs.Steps.{IsToldAs, MayHandIn, call_of}
 use Rattle.mpw_desk.proofs.Coming.{longer, state_after-on, step-normal}
 
 -- ---- an event's changes must be stored, whatever the event
@@ -85,6 +88,10 @@ asked-change s event.Restart = refl
 
 -- ---- the call that was added
 
+abbrev IsFalse : Bool → Type 0
+IsFalse true = ⊥
+IsFalse false = ⊤
+
 unkept : (changes kept : Bool) → (changes && not kept) ≡ not (kept || not changes)
 unkept true true = refl
 unkept true false = refl
@@ -106,16 +113,22 @@ same-kept d e r r' was kept is =
     ap (first-kept was) (append_cancel_left d.history (call_of e r was ∷ [])
     (call_of e r' kept ∷ []) (ap (λ (x : Desk). x.history) is))
 
--- it is legal, and the store writer failed exactly if it wasn't stored
+room-left : (restart room : Bool) → (restart || room) ≡ true → restart ≡ false → room ≡ true
+room-left true room is none = absurd (subst IsFalse (sym none) tt)
+room-left false room is none = is
+
+-- it is legal, the history had room for it, unless it is a restart, and the store writer failed exactly if it
+-- wasn't stored
 pub record IsAdded (d d' : KeptDesk) (call : Call) : Type 0 where
   pub is : IsCall (state_of d.desk) call
+  pub room : restarts call.event ≡ false → length d.desk.history < max_events
   pub failures : d'.failures ≡ failed_after d.failures (not call.kept)
 
 pub is_added : (d d' : KeptDesk) (e : Event) (r : Response) (was : Bool) → IsHandled d e r d'
     → d'.desk ≡ with_call d.desk e was r → IsAdded d d' (call_of e r was)
 unfolding handling answering
 is_added d d' e r was is added =
-    go (state_of d.desk).closed (restarts e || nat_lt (length d.desk.history) max_events) refl
+    go (state_of d.desk).closed (restarts e || nat_lt (length d.desk.history) max_events) refl refl
     is.1.told is.1.desk is.1.failures
   where
     s : State
@@ -126,12 +139,14 @@ is_added d d' e r was is added =
         then answering d.desk e is.0
         else nothing_added (limit_response e) d.desk
 
-    go : (c o : Bool) → s.closed ≡ c → r ≡ (out c o).response → d'.desk ≡ (out c o).desk
+    go : (c o : Bool) → s.closed ≡ c → (restarts e || nat_lt (length d.desk.history) max_events) ≡ o
+        → r ≡ (out c o).response → d'.desk ≡ (out c o).desk
         → d'.failures ≡ failed_after d.failures (out c o).failed
         → IsAdded d d' (call_of e r was)
-    go true o closed told desk failures = absurd (longer d.desk e was r (sym added ∙ desk))
-    go false false closed told desk failures = absurd (longer d.desk e was r (sym added ∙ desk))
-    go false true closed told desk failures =
+    go true o closed room told desk failures = absurd (longer d.desk e was r (sym added ∙ desk))
+    go false false closed room told desk failures =
+        absurd (longer d.desk e was r (sym added ∙ desk))
+    go false true closed room told desk failures =
         let changes = (event_outcome s e).changes in
         let kept = is.0 || not changes in
         let same : was ≡ kept = same-kept d.desk e r (step s e is.0).response was kept
@@ -143,6 +158,8 @@ is_added d d' e r was is added =
                 ∙ ap (λ k. response_of s e k) (sym same);
             nothing = λ none. same ∙ always is.0 changes none;
           };
+          room = λ none. ltb-true (length d.desk.history) max_events
+              (room-left (restarts e) (nat_lt (length d.desk.history) max_events) room none);
           failures = failures ∙ ap (λ (b : Bool). failed_after d.failures b)
               (ap (λ (b : Bool). b && not is.0) (asked-change s e) ∙ unkept changes is.0
               ∙ ap not (sym same));
@@ -170,10 +187,6 @@ left-failures d d' e r is left =
         (step (state_of d.desk) e is.0).response (sym desk ∙ left))
 
 -- ---- its response
-
-abbrev IsFalse : Bool → Type 0
-IsFalse true = ⊥
-IsFalse false = ⊤
 
 not-kept : (b was : Bool) (o : Outcome) (s : State) (r : Response) → (b ≡ false → was ≡ true)
     → was ≡ false → (if b && not was then no_change r s else o).response ≡ r
@@ -219,7 +232,12 @@ pub none_since : (begun kept : KeptDesk) (calls : List Call) → begun ≡ kept 
 none_since begun kept calls same none =
     subst (λ (k : KeptDesk). GoesLegally begun k calls) same
     (subst (λ (c : List Call). GoesLegally begun begun c) (sym none)
-    (record { legal = tt; failures = refl }))
+    (record {
+      legal = tt;
+      no_restart = All-nil (λ (call : Call). restarts call.event ≡ false);
+      within = λ some. absurd (some refl);
+      failures = refl;
+    }))
 
 reached : (begun kept : KeptDesk) (calls : List Call) → GoesOnTo begun kept
     → kept.desk.history ≡ begun.desk.history ++ calls
@@ -242,16 +260,42 @@ failures-push : (n : ℕ) (calls : List Call) (call : Call)
 failures-push n [] call = refl
 failures-push n (c ∷ cs) call = failures-push (failed_after n (not c.kept)) cs call
 
+-- if a history has room, it has no more calls than its greatest number with the next one
+one-more-within : (before calls now : List Call) (call : Call) (most : ℕ) → now ≡ before ++ calls
+    → length now < most → length before + length (calls ++ call ∷ []) ≤ most
+one-more-within before calls now call most is room =
+    omega (
+      arith,
+      room,
+      ap (λ (l : List Call). length l) is,
+      length-append before calls,
+      length-append calls (call ∷ []),
+    )
+
+-- no pass hands a restart in
+pub no-restart : (connection : ℕ) (e : Event) → MayHandIn connection e → restarts e ≡ false
+no-restart connection (event.Ask asker request) may = refl
+no-restart connection (event.Gone gone) may = refl
+no-restart connection (event.Take worker) may = refl
+no-restart connection (event.Cut answer) may = refl
+no-restart connection (event.Tile answer) may = refl
+no-restart connection event.Restart may = absurd may
+
 pub legally-on : (begun old new : KeptDesk) (calls : List Call) (e : Event) (r : Response)
-    (was : Bool) → GoesOnTo begun old → old.desk.history ≡ begun.desk.history ++ calls
+    (was : Bool) → restarts e ≡ false → GoesOnTo begun old
+    → old.desk.history ≡ begun.desk.history ++ calls
     → GoesLegally begun old calls → IsHandled old e r new → new.desk ≡ with_call old.desk e was r
     → GoesLegally begun new (calls ++ call_of e r was ∷ [])
-legally-on begun old new calls e r was goes history before is added =
+legally-on begun old new calls e r was none goes history before is added =
     let call = call_of e r was in
     let one = is_added old new e r was is added in
     record {
       legal = legal-push (state_of begun.desk) calls call before.legal
           (subst (λ (s : State). IsCall s call) (reached begun old calls goes history) one.is);
+      no_restart = All-push (λ (c : Call). restarts c.event ≡ false) calls call before.no_restart
+          none;
+      within = λ some. one-more-within begun.desk.history calls old.desk.history call max_events
+          history (one.room none);
       failures = one.failures ∙ ap (λ n. failed_after n (not was)) before.failures
           ∙ sym (failures-push begun.failures calls call);
     }
@@ -260,4 +304,9 @@ pub legally-left : (begun old new : KeptDesk) (calls : List Call) (e : Event) (r
     → GoesLegally begun old calls → IsHandled old e r new → new.desk ≡ old.desk
     → GoesLegally begun new calls
 legally-left begun old new calls e r before is left =
-    record { legal = before.legal; failures = left-failures old new e r is left ∙ before.failures }
+    record {
+      legal = before.legal;
+      no_restart = before.no_restart;
+      within = before.within;
+      failures = left-failures old new e r is left ∙ before.failures;
+    }

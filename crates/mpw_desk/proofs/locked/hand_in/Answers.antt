@@ -10,7 +10,7 @@ use Rattle.mpw_desk.specs.Values.{LockedDesk}
 use Rattle.mpw_desk.specs.declared.hints.Hints.{Hints}
 use Rattle.mpw_desk.proofs.Coming.{added-answers}
 use Rattle.mpw_desk.proofs.Hinting.{handled-fits, noted-stays, same-fits}
-use Rattle.mpw_desk.proofs.Legality.{added-told}
+use Rattle.mpw_desk.proofs.Legality.{added-told, no-restart}
 use Rattle.mpw_desk.proofs.Locking.{counted-within, locked-adds, locked-stays}
 use Rattle.mpw_desk.proofs.locked.hand_in.Goals as goal
 
@@ -189,7 +189,8 @@ invariant_of-locked-2 g c =
     let kept_so : IsLocked g.N.Room.begun new (since ++ call ∷ []) l.base (l.book.total + 1)
     g.N.Room.all l.rest.parts l.rest.amount l.made = locked-adds law.handled law.on
     g.N.Room.begun old new since l.base l.book.total g.N.Room.all l.rest.parts l.rest.amount l.made
-    event response added.0 c.locked.invariant.1 handled added.1 in
+    event response added.0 (no-restart c.args.pass.now.connection event c.requires.own)
+    c.locked.invariant.1 handled added.1 in
     let counted = subst (λ n. IsLocked g.N.Room.begun new (since ++ call ∷ []) l.base n
     g.N.Room.all l.rest.parts l.rest.amount l.made) (sym c.record.ensures.total) kept_so in (
       record {
