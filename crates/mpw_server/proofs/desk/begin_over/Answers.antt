@@ -1,7 +1,7 @@
+-- Answers to the goals of `begin_over` in `src/desk.rt`.
 use Rattle.std.proofs.Common.{◌≡◌, ◌∙◌, Err, ap, rules, subst, sym}
 use Rattle.sqlite.specs.Held.{state}
 use Rattle.mpw_keeper.specs.Kept.{failures_of, kept_by, kept_in}
-use Rattle.mpw_reopen.proofs.ClosingLemmas.{clean-before}
 use Rattle.mpw_stored_script.proofs.ServingLemmas.{begins, holds, known_clean, unopened_by}
 use Rattle.mpw_stored_script.specs.Serving.{IsUnopened}
 use Rattle.mpw_server.proofs.Numbers.{above-greatest}
@@ -11,9 +11,8 @@ pub new-requires : goal.new-requires
 new-requires g c clean =
     let old = state g.S.Store c.args.conn in
     let opened = state g.S.Store c.reopen.new.conn in
-    let idle = c.requires (clean-before old opened c.in-Ok.ensures.clean clean) in
     holds c.args.officer.name c.args.officer.digest old opened
-    (g.H.Handler.desk c.in-Ok.reopened.core.value) c.in-Ok.reopened.rows (c.in-Ok.ensures.ok clean idle)
+    (g.H.Handler.desk c.in-Ok.reopened.core.value) c.in-Ok.reopened.rows (c.in-Ok.ensures.ok clean)
 
 pub returns-in-Some-clause-begins : goal.returns-in-Some-clause-begins
 returns-in-Some-clause-begins g c =
@@ -27,8 +26,7 @@ returns-in-Some-clause-begins g c =
       begins = λ known is.
           let now = sym kept ∙ is in
           let clean = known_clean opened rows known now in
-          let idle = c.requires (clean-before old opened c.in-Ok.ensures.clean clean) in
-          begins c.args.officer old opened desk rows known clean (c.in-Ok.ensures.ok clean idle) now;
+          begins c.args.officer old opened desk rows known clean (c.in-Ok.ensures.ok clean) now;
       whole = ap failures_of c.of-keeper.ensures ∙ c.new.ensures.failures;
     }
 
@@ -37,8 +35,7 @@ returns-in-Err-clause-unopened g c =
     let old = state g.S.Store c.args.conn in
     let new = state g.S.Store c.reopen.new.conn in
     subst (IsUnopened c.args.officer old new) (sym c.refused.ensures)
-    (unopened_by c.args.officer old new c.in-Err.fault (λ clean.
-    c.in-Err.ensures.rows clean (c.requires (clean-before old new c.in-Err.ensures.clean clean)))
+    (unopened_by c.args.officer old new c.in-Err.fault c.in-Err.ensures.rows
     (λ is. c.reopen.ensures.other.0 (c.in-Err.is ∙ ap Err is)))
 
 pub returns-in-Some-clause-above : goal.returns-in-Some-clause-above
