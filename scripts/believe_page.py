@@ -109,8 +109,10 @@ def faults():
     return [f"{PAGE}:{number}: {fault}" for number, fault in sorted(found)]
 
 
-def spoken(text):
-    """How many words a text has if it is read aloud, without the targets of its links. A name like `is_visible` has two."""
+def spoken(line):
+    """How many words a line has if it is read aloud: of a row the names and the sentence, of a link its text. A name like `is_visible` has two."""
+    cells = line.split("|")
+    text = "|".join(cells[2:-2]) if line.startswith("|") and len(cells) >= 6 else line
     text = re.sub(r"\]\([^)]*\)", "]", text)
     return len(WORD.findall(text))
 

@@ -91,7 +91,7 @@ FORBIDDEN = [(re.compile(rf"\b(?:{words})\b", re.I), instead) for words, instead
 def pages():
     """The documents, by their paths from the top."""
     found = ["README.md", "CHANGELOG.md", "CONTRIBUTING.md", "examples/README.md", "bench/README.md"]
-    found += glob.glob("docs/**/*.md", root_dir=TOP, recursive=True) + glob.glob("crates/*/README.md", root_dir=TOP)
+    found += glob.glob("docs/**/*.md", root_dir=TOP, recursive=True) + [path for name in ("README", "CLAUSES") for path in glob.glob(f"crates/*/{name}.md", root_dir=TOP)]
     return sorted(found)
 
 

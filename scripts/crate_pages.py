@@ -9,6 +9,7 @@
 Each crates/mpw_*/README.md has its crate's name as title, a line of links to its sections and to what explains them, and the sections of SECTIONS. Its example is a
 block of code, found verbatim, up to indentation, in the file that the link before it leads to. It uses a call of the page, and the golden tests that
 are named with it are of programs that use the file's crate.
+A README of more than a screen keeps the first of its tables of calls. The others are in CLAUSES.md beside it, to which its section Clauses leads.
 In a table of calls, each function of the first column is one of the crate's, and each clause of the second column is one of a function of its row.
 Each public function of a library that has a clause must have a row.
 Each mutant and each part of a golden test that docs/tests.md names must be there.
@@ -28,6 +29,8 @@ SECTIONS = ("Example", "Clauses", "What only tests show", "What nothing shows")
 CONTENTS = " · ".join([*(f"[{name}](#{name.lower().replace(' ', '-')})" for name in SECTIONS),
                        "[Words](../../docs/SPECIFICATION.md#words)", "[How to read a table](../../docs/proved.md#how-to-read-a-table)"])
 HEAD = "| Call | Clause | What it says |"
+# The most lines of a README: a screen, and the rows of its table.
+MOST_LINES = 72
 QUOTED = re.compile(r"`([^`]+)`")
 PATH = re.compile(r"`((?:specs|src|proofs)/[\w/.-]+\.\w+)`(?! of `mpw_)(?! of its)")
 GOLDEN = re.compile(r"`(gate_\w+)/(\w+)(?:: ([\w -]+))?`")
@@ -36,8 +39,8 @@ EXAMPLE = re.compile(r"\]\(([^)#]+\.rt)\)[^\n]*\n(?:[^`\n][^\n]*\n)*\n```rust\n(
 CONTRACT = re.compile(r"\bfn (\w+)|\b(?:requires|ensures)(?: (\w+))? *\{")
 BEFORE = """# Calls and clauses
 
-Each public call and each law of the product's crates, with the names of its contract's clauses. The README of its crate says what each clause
-says. `scripts/crate_pages.py` makes this page from these READMEs. [How to read a table](proved.md#how-to-read-a-table) explains the words.
+Each public call and each law of the product's crates, with the names of its contract's clauses. The README of its crate, or CLAUSES.md beside it, says
+what each clause says. `scripts/crate_pages.py` makes this page from these pages. [How to read a table](proved.md#how-to-read-a-table) explains the words.
 
 - [The crates](#the-crates) · [Calls and laws](#calls-and-laws) · [Clauses by name](#clauses-by-name)
 """
@@ -78,6 +81,27 @@ def crates():
 
 def page_of(crate):
     return f"crates/{crate}/README.md"
+
+
+def pages_of(crate):
+    """The pages with a crate's tables of calls: its README, and CLAUSES.md if there is one."""
+    more = f"crates/{crate}/CLAUSES.md"
+    return [page_of(crate), more] if os.path.isfile(f"{TOP}/{more}") else [page_of(crate)]
+
+
+def tables_of(crate):
+    """The text of all these pages."""
+    return "".join(map(read, pages_of(crate)))
+
+
+def place_of(crate, number):
+    """The page and the line there of a line of that text."""
+    for page in pages_of(crate):
+        lines = read(page).count("\n")
+        if number <= lines:
+            return f"{page}:{number}"
+        number -= lines
+    return f"{page_of(crate)}:1"
 
 
 @functools.cache
@@ -226,7 +250,7 @@ def faults_of_example(crate, text):
     sentence, own = text[text.rindex("## Example", 0, example.start(2)):example.start(2)], path.split("/")[1]
     programs = [program for program, _, _ in GOLDEN.findall(sentence) if own not in uses(program)]
     yield from ((number, f"{program} doesn't use {own}, whose example it runs") for program in programs)
-    used = {path.split("::")[-1] for _, functions, _, _ in rows_of(text) for path in functions}
+    used = {path.split("::")[-1] for _, functions, _, _ in rows_of(tables_of(crate)) for path in functions}
     others = {other for name, other in re.findall(r"\b(\w+) as (\w+)", read(path)) if name in used}
     if not (used | others) & set(re.findall(r"\w+", example[2])):
         yield number, "the example uses no call of the page's tables"
@@ -245,9 +269,13 @@ def faults_of(crate):
     sections = tuple(re.findall(r"^## (.+)$", text, re.M))
     if sections != SECTIONS:
         yield 1, f"its sections aren't {', '.join(SECTIONS)}"
+    if text.count("\n") > MOST_LINES:
+        yield 1, f"it has more than {MOST_LINES} lines: move tables of calls to CLAUSES.md"
+    if len(pages_of(crate)) > 1 and "](CLAUSES.md)" not in text:
+        yield 1, "no link to CLAUSES.md"
     yield from faults_of_example(crate, text)
-    yield from faults_of_tables(crate, text)
-    yield from faults_of_names(crate, text)
+    yield from faults_of_tables(crate, tables_of(crate))
+    yield from faults_of_names(crate, tables_of(crate))
 
 
 def lost_tests(line):
@@ -282,7 +310,7 @@ def link_of(crate):
 def calls_of(crate):
     """The calls of a crate's tables, each with the names of its clauses, in the order of the page."""
     found = {}
-    for _, functions, clauses, _ in rows_of(read(page_of(crate))):
+    for _, functions, clauses, _ in rows_of(tables_of(crate)):
         owner = ""
         for path in functions:
             path = with_owner(crate, path, owner)
@@ -314,7 +342,7 @@ def index():
 
 def faults():
     """The faults of all READMEs and of the index, a line each."""
-    found = [f"{page_of(crate)}:{number}: {fault}" for crate in crates() for number, fault in faults_of(crate)]
+    found = [f"{place_of(crate, number)}: {fault}" for crate in crates() for number, fault in faults_of(crate)]
     for number, line in enumerate(read(TESTS).splitlines(), 1):
         found += [f"{TESTS}:{number}: {fault}" for fault in (*lost_tests(line), *lost_mutants(line))]
     if not found and index() != read(INDEX):

@@ -21,7 +21,7 @@ TOOLS = tuple(manual_pages.TOOLS)
 COMMANDS = "script", "serve", "check", "stitch", "trail", "store"
 PROVED, UNPROVED = "proved", "unproved, for tests alone"
 # The pages, with what they link to.
-PAGES = "*.md", "docs/**/*.md", "docs/images/*", "clients/python/README.md", "bench/README.md", "crates/*/README.md", "examples/**/*"
+PAGES = "*.md", "docs/**/*.md", "docs/images/*", "clients/python/README.md", "bench/README.md", "crates/*/README.md", "crates/*/CLAUSES.md", "examples/**/*"
 
 
 class Layout(NamedTuple):

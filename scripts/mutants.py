@@ -129,14 +129,15 @@ def owner_at(text):
 
 
 def batches_of(mutants):
-    """Batches of the mutants of one crate, no two of which change one function, and the mutants that have to be tried alone."""
+    """Batches of the mutants of one crate, and the mutants that have to be tried alone. No two of a batch change one function, and each one's text
+    is still found once after the others' changes."""
     batches, alone = [], []
     for mutant in mutants:
         function = mutant.function()
         if function is None or mutant.texts()[1]:
             alone.append(mutant)
             continue
-        batch = next((it for it in batches if function not in it and len(it) < MOST), None)
+        batch = next((it for it in batches if function not in it and len(it) < MOST and changed({**it, function: mutant}, TOP)), None)
         if batch is None:
             batches.append(batch := {})
         batch[function] = mutant
