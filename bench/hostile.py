@@ -108,7 +108,7 @@ def end(_jobs):
         for number in range(1, 128):
             script.ask(b"run", b"OK 1", b"run %d" % number)
             calls += calls_of(4096)
-    # The last call of the history is answered, and none behind it.
+    # The last call of the history is answered, and none after it.
     exactly.ask(b"deck", b"OK 0", payload=b"tile 278\nspace sp 1/0 5\n")
     exactly.ask(b"run", b"OK 1", b"run 128")
     exactly.ask(b"status", b"OK 1", b"finished 128")

@@ -1,36 +1,38 @@
-"""The four checks of a library's structure TOP by KLayout, with the time that they take:
-klayout -b -r klayout_runs.py -rd library=FILE -rd mode=flat|tiled|deep -rd side=NM -rd threads=N -rd shielded=yes|no [-rd listed=yes]
+"""The checks of a library's structure TOP by KLayout, with the time that they take:
+klayout -b -r klayout_runs.py -rd library=FILE -rd mode=flat|tiled|deep -rd side=NM -rd threads=N -rd shielded=yes|no [-rd listed=yes] [-rd deck=FILE]
 
-Listed, the pairs of the deep mode are made flat, as those of the others are: a list of all of them, and not of each once for all instances of its cell.
+Without a deck the checks are the four of `gate_bench job`. With listed=yes the pairs of the deep mode are made flat, as those of the others
+are: a list of all of them, and not of each once for all instances of its cell.
 
-Shielded, KLayout leaves out a pair of edges with another edge between them, as of the rules of `gate_bench job` `width` alone does: so that is shielded
-whatever is asked."""
+Shielded, KLayout leaves out a pair of edges with another edge between them. Of our rules `width` alone does so. So KLayout's `width` is
+always shielded."""
 import time
 
 import pya
 
-CHECKS = [('width', 56), ('space', 51), ('separation', 9), ('enclosing', 10)]
+FOUR = 'width a 1/0 56\nspace b 1/0 51\nseparation c 1/0 2/0 9\nenclosing d 1/0 2/0 10'
 FARTHEST = 2**30
 MARGIN = 100
 
+text = open(deck).read() if 'deck' in globals() else FOUR  # noqa: F821, given by -rd
+CHECKS = [(words[0], words[2:-1], int(words[-1])) for words in map(str.split, text.splitlines()) if words and words[0] != 'tile']
 layout = pya.Layout()
 layout.read(library)  # noqa: F821, given by -rd
 top = layout.cell('TOP')
-numbers = [layout.find_layer(layer, 0) for layer in (1, 2)]
+layers = sorted({layer for _, used, _ in CHECKS for layer in used})
+numbers = {layer: layout.find_layer(*map(int, layer.split('/'))) for layer in layers}
 is_shielded = shielded == 'yes'  # noqa: F821
 
 
-def regions(*store):
-    return [pya.Region(top.begin_shapes_rec(number), *store) for number in numbers]
-
-
-def whole(first, second):
-    """Counts by one pass over all of both layers."""
-    options = (False, pya.Region.Projection, 90, 0, FARTHEST, is_shielded)
-    first.merge()
-    second.merge()
-    found = [first.width_check(CHECKS[0][1], *options[:-1], True), first.space_check(CHECKS[1][1], *options),
-             first.separation_check(second, CHECKS[2][1], *options), first.enclosing_check(second, CHECKS[3][1], *options)]
+def whole(*store):
+    """Counts by one pass over all of the layers."""
+    regions = {layer: pya.Region(top.begin_shapes_rec(number), *store) for layer, number in numbers.items()}
+    for region in regions.values():
+        region.merge()
+    found = []
+    for kind, (first, *others), distance in CHECKS:
+        check = getattr(regions[first], f'{kind}_check')
+        found.append(check(*(regions[it] for it in others), distance, False, pya.Region.Projection, 90, 0, FARTHEST, is_shielded or kind == 'width'))
     if globals().get('listed') == 'yes':
         for pairs in found:
             pairs.flatten()
@@ -44,26 +46,27 @@ def tiled():
     processor.tile_size(int(side) * nanometre, int(side) * nanometre)  # noqa: F821
     processor.tile_border(MARGIN * nanometre, MARGIN * nanometre)
     processor.threads = int(threads)  # noqa: F821
-    for name, number in zip('ab', numbers):
-        processor.input(name, layout, top.cell_index(), number)
+    names = {layer: f'layer{place}' for place, layer in enumerate(layers)}
+    for layer, number in numbers.items():
+        processor.input(names[layer], layout, top.cell_index(), number)
     outputs = []
-    for name, distance in CHECKS:
+    for place, (kind, (first, *others), distance) in enumerate(CHECKS):
         outputs.append(pya.EdgePairs())
-        processor.output(name, outputs[-1])
-        other = 'b, ' if name in ('separation', 'enclosing') else ''
-        options = f'false, Region.Projection, 90, 0, {FARTHEST}, {str(is_shielded or name == "width").lower()}'
-        processor.queue(f'_output({name}, a.{name}_check({other}{distance}, {options}))')
+        processor.output(f'rule{place}', outputs[-1])
+        other = ''.join(f'{names[it]}, ' for it in others)
+        options = f'false, Region.Projection, 90, 0, {FARTHEST}, {str(is_shielded or kind == "width").lower()}'
+        processor.queue(f'_output(rule{place}, {names[first]}.{kind}_check({other}{distance}, {options}))')
     processor.execute('checks')
     return [output.count() for output in outputs]
 
 
 start = time.time()
 if mode == 'flat':  # noqa: F821
-    counts = whole(*regions())
+    counts = whole()
 elif mode == 'deep':  # noqa: F821
     store = pya.DeepShapeStore()
     store.threads = int(threads)  # noqa: F821
-    counts = whole(*regions(store))
+    counts = whole(store)
 else:
     counts = tiled()
 taken = time.time() - start

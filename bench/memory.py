@@ -6,13 +6,13 @@
   memory.py store [SESSION ..] [--jobs J] [--step S]    each allocation of a session over a store, which is then opened again
   memory.py serve [SESSION ..] [--jobs J] [--step S]    each allocation of a service whose one connection is served a session
   memory.py check [--jobs J] [--step S]                 each allocation of `mpw check` of examples/, alone and with all that come after it
-  memory.py stored [--jobs J] [--step S]                each allocation of stored runs: answers to a run that come late, twice and by others (gate_desk/desk), and a store in
+  memory.py stored [--jobs J] [--step S]                each allocation of golden tests: answers to a run that come late, twice and by others (gate_desk/desk), and a store in
                                                         memory that is reopened (gate_store/store); such a program ends where memory is wanting
   memory.py refused [--jobs J] [--step S]               each allocation of the golden test gate_desk/refused, whose desk is asked once more then; the gate does it, by
                                                         clients/python/tests/test_hostile.py
 
-Sessions: first, firms, sight, duties, late. Behind each stand lines by which every user looks at all that there is. A line that is told `17 memory` is left out
-of what the model's desk is asked, so all other replies have to be those of a desk that never had it. A run for whose work memory was wanting
+Sessions: first, firms, sight, duties, late. After each come lines by which every user looks at all that there is. A line that is answered `17 memory` is left out
+of what the model's desk is asked, so all other replies have to be those of a desk that never had it. A run for whose work memory ran out
 is one that cuts or checks; the session `late` leaves each run, and runs again.
 
 Allocations are refused by refuse.c, which stands before the C library's malloc; S tries each Sth alone. The programs are MPW_PROGRAM and MPW_FIRM, else those that the gate
@@ -181,7 +181,7 @@ def asked_of(text):
 
 
 def run_state(asked, told, place):
-    """What is told of the run that the reply of that place began: the first line of `status` behind it, before another run or its end; none where it is finished
+    """What is reported of the run that the reply of that place began: the first line of `status` after it, before another run or its end; none if it is finished
     or nobody tells."""
     for (line, request, _), reply in zip(asked[place + 1:], told[place + 1:]):
         if request.verb in ("run", "cancel") and reply[0] != MEMORY:
@@ -200,7 +200,7 @@ def judge(asked, told, may_close=False):
             refused += 1
             continue
         if may_close and reply == [STORE]:
-            # Where there is no room to read a line, the connection ends.
+            # If there is no memory to read a line, the connection ends.
             rest = told[place + 1:-1] if told[-1] == [MEMORY] else told[place + 1:]
             if any(later != [CLOSED] for later in rest):
                 raise Difference(f"after {STORE}: {told[place + 1:][:3]}")
@@ -492,7 +492,7 @@ def checks(pool, shim, _names, step):
     return wrong
 
 
-# Stored runs.
+# Golden tests.
 
 CRATES = os.environ.get("MPW_CRATES", os.path.join(TOP, "crates"))
 # How many lines of a table are served, and the program that serves it.

@@ -4,7 +4,7 @@
   bench/runs.py [ROUNDS] [KIND N SIDE]..     at least one round; KIND is wires or array; the four layouts where none is given
 
 Needs crates/gate_bench/out/gate_bench (`scripts/build.py gate_bench`). In each round a layout is run twice, with its jobs on one thread
-and on all, each in a process of its own, and the rounds go on until ours took 20 seconds, since short runs swing. Where klayout is installed, its flat, tiled and deep modes stand behind them in the same round,
+and on all, each in a process of its own, and the rounds go on until ours took 20 seconds, since short runs swing. If klayout is installed, its flat, tiled and deep modes come after them in the same round,
 each on one thread, until they have taken two minutes: times and memory of shielded checks, which are KLayout's faster ones. Its counts on up
 to 20,000 wires are those of unshielded ones, which are those of our rules. All times are those in the middle of the rounds, and ratios are those of
 such times, with that of the least times in brackets for threads. They are of wall time without reading, on a machine that should be idle; megabytes are the most that a process held, in the first round.

@@ -4,13 +4,13 @@
   bench/threads.py [ROUNDS [KIND N SIDE]..]     7 rounds and the four layouts of runs.py where none are given
 
 Needs crates/gate_bench/out/gate_bench (`scripts/build.py gate_bench`). In each round each layout is run twice, on one thread and on as many as there are
-processors, by turns which of them first. Milliseconds are medians and, in brackets, the best; behind them stand the
-seconds of processor in the system and the page faults of the whole process, which tell what memory costs. Two
+processors, by turns which of them first. Milliseconds are medians and, in brackets, the best; after them are the
+seconds of processor in the system and the page faults of the whole process, which show what memory costs. Two
 columns of ours are how many times as fast all threads are, by medians and by bests.
 
 Then a run on one thread stands on each processor, all at once: what the jobs of each take so. Processors that share a core, as
 those of a virtual machine may, slow one another: how many times the work of one alone, at its best, all of them do, is what the
-machine gives, and the column behind tells how much of it all threads of one run get.
+machine gives, and the next column shows how much of it all threads of one run get.
 
 In the same rounds threads.c, which `cc`
 builds, computes for as long as our jobs take on one thread, in as many parts as there are tiles, and then the same in threads
@@ -31,7 +31,7 @@ HEADS = ['Layout', 'Tiles', 'Cut', 'Jobs, one thread', 'Jobs, all threads', 'Sti
          'Computing in C, by medians', 'By bests']
 PROCESSORS = len(os.sched_getaffinity(0))
 FIGURES = ['one', 'all', 'each', 'computed one', 'computed all']
-# The jobs' threads, where there are as many tiles.
+# The jobs' threads, if there are as many tiles.
 THREADS = PROCESSORS + 2
 
 
