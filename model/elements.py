@@ -161,7 +161,7 @@ def without_repeats(points):
 
 def reference_behind(reader, is_array, unit):
     """Target and orientation, of an array its columns and rows, and the points: the origin, and of an array also
-    that behind its last column and that behind its last row, so its steps are whole."""
+    that after its last column and that after its last row, so its steps are whole."""
     name = reader.need_of_element(kinds.SNAME)
     target = name_in(name)
     mirrored, angle, record = orientation_behind(reader)
@@ -191,7 +191,7 @@ def step_to(point, origin, number, record):
 
 
 def orientation_behind(reader):
-    """Whether a reference is mirrored, its angle, and the record behind these; a magnification has to be 1."""
+    """Whether a reference is mirrored, its angle, and the record after these; a magnification has to be 1."""
     record = reader.next_of_element()
     if record.kind != kinds.STRANS:
         return False, 0, record

@@ -324,7 +324,7 @@ class Damaged(Folder):
         self.assertTrue(told.startswith(f"error: the store isn't sound: its log was cut off or is damaged after {frames - 3} frames. 3 further frames "), told)
 
     def test_a_commit_that_was_not_finished(self):
-        """Frames behind the mark of the last commit belong to a change whose reply wasn't written. They are counted, and the store is sound."""
+        """Frames after the mark of the last commit belong to a change whose reply wasn't written. They are counted, and the store is sound."""
         log = bytearray(self.killed("desk.db", LINES.splitlines(keepends=True)))
         frames = int(self.run_auditor("store", "check", "desk.db")[1].split("log frames ")[1].split()[0])
         log[32 + (frames - 1) * (24 + 4096) + 8] = 0

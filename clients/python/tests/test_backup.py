@@ -112,7 +112,7 @@ class Logs(Folder):
             self.assertEqual(self.committed(bytes(damaged)), found, place)
 
     def test_begun_again(self):
-        """Frames of an earlier log stay behind the new ones, and don't count."""
+        """Frames of an earlier log stay after the new ones, and don't count."""
         with closing(open_store(self.store, 40)) as store:
             old = len(self.log())
             store.execute("PRAGMA wal_checkpoint(RESTART)").fetchall()

@@ -25,7 +25,7 @@ NOTE = record((0x0C, 0)) + record(LAYER, short(1)) + record((0x16, 2), short(0))
 
 @contextmanager
 def folder():
-    """A folder in memory, where there is one: a killed program leaves what it has written."""
+    """A folder in memory, if there is one: a killed program leaves what it has written."""
     with tempfile.TemporaryDirectory(prefix="mpw-folding-", dir="/dev/shm" if os.path.isdir("/dev/shm") else None) as path:
         yield lambda name: os.path.join(path, name)
 
