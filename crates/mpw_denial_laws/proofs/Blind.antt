@@ -2,17 +2,17 @@
 use Rattle.std.proofs.Common.{◌≡◌, ℕ, Bool, true, false, cond, not, ◌&&◌, List, [], ◌∷◌, map, Option, Result, Ok, Err, refl, sym, ap, ap₂, subst, ◌∙◌, true≢false}
 use Rattle.std.specs.List.{flat_map}
 use Rattle.mpw_hier.specs.declared.submission.Submission.{Submission}
-use Rattle.mpw_permissions.specs.declared.permission.Operation.{Operation}
 use Rattle.mpw_permissions.specs.declared.permission.Operation.TheVariants as operation
-use Rattle.mpw_permissions.specs.declared.permission.Object.{Object}
 use Rattle.mpw_permissions.specs.declared.permission.Object.TheVariants as object
-use Rattle.mpw_rbac.specs.Policy.{Policy, permits}
+use Rattle.mpw_rbac.specs.Policy.{Policy}
+use Rattle.mpw_requests.specs.declared.need.Need.{Need}
+use Rattle.mpw_requests.specs.declared.need.Need.TheVariants.{Nothing, Session, Permission}
 use Rattle.mpw_requests.specs.declared.request.Request.{Request}
 use Rattle.mpw_requests.specs.declared.request.Request.TheVariants as ask
-use Rattle.mpw_requests.specs.declared.layouts.LayoutRequest.TheVariants.{Submit, Cells, Shapes}
+use Rattle.mpw_requests.specs.declared.layouts.LayoutRequest.TheVariants.{Cells}
 use Rattle.mpw_requests.specs.declared.run.RunRequest.TheVariants as run_ask
 use Rattle.mpw_requests.specs.declared.sign_off.SignOffRequest.TheVariants as sign
-use Rattle.mpw_requests.specs.declared.wafer.WaferRequest.TheVariants.{Place, Unplace, Deck}
+use Rattle.mpw_requests.specs.declared.wafer.WaferRequest.TheVariants.{Deck}
 use Rattle.mpw_requests.specs.Needs.{need_of}
 use Rattle.mpw_replies.specs.Listing.{stored}
 use Rattle.mpw_replies.specs.declared.reply.Line.{Line}
@@ -83,10 +83,25 @@ module _ (a b : State) where
       of (Ok (Changes part lines)) = record { response = refl; changes = refl }
       of (Err why) = record { response = refl; changes = refl }
 
+-- ---- requests that need a permission
+
+abbrev needs_permission : Need → Bool
+needs_permission Nothing = false
+needs_permission Session = false
+needs_permission (Permission operation object) = true
+
+-- a connection that may do nothing doesn't have what they need
+lacks_permission : (policy : Policy) (connection : ℕ) → MayNothing policy connection → (need : Need)
+    → needs_permission need ≡ true → Has policy connection need → ⊥
+lacks_permission policy connection none Nothing is met = true≢false (sym is)
+lacks_permission policy connection none Session is met = true≢false (sym is)
+lacks_permission policy connection none (Permission operation object) is met =
+    true≢false (sym met.1 ∙ none operation object)
+
 module _ (has : EnteredHas) (a b : State) (connection : ℕ) (d : DifferInLayouts a b)
     (nothing : MayNothing a.policy connection) where
-  never : (asked : Operation) (on : Object) → permits a.policy connection asked on ≡ true → ⊥
-  never asked on may = true≢false (sym may ∙ nothing asked on)
+  stops : (need : Need) → needs_permission need ≡ true → Has a.policy connection need → ⊥
+  stops = lacks_permission a.policy connection nothing
 
   cells_alike : layouts.cells a.policy a.shelf connection
       ≡ layouts.cells b.policy b.shelf connection
@@ -95,40 +110,30 @@ module _ (has : EnteredHas) (a b : State) (connection : ℕ) (d : DifferInLayout
       ∙ sym (no_cells b.policy connection
       (subst (λ (p : Policy). MayNothing p connection) d.policy nothing) b.shelf)
 
-  -- a request that needs a permission gets no further than the guard
+  -- a line for each request that needs a session alone, or nothing. The last line is for all others: the guard
+  -- stops them. The line before it splits the requests of the wafer, so that the last one computes at each
   row_alike : (request : Request) → Has a.policy connection (need_of request)
       → Alike (row_outcome a connection request) (row_outcome b connection request)
   row_alike (ask.Policy request) met =
       alike_by a b _ _ _ _ _ (ap (λ (p : Policy). policy_row p connection request) d.policy)
   row_alike ask.Whoami met =
       alike_by a b _ _ _ _ _ (ap (λ (p : Policy). whoami_row p connection) d.policy)
-  row_alike (ask.Layout (Submit cell top text)) met =
-      absurd (never operation.Submit (object.Cell cell) met.1)
   row_alike (ask.Layout Cells) met =
       record { response = ap (λ ls. response.Told (reply.Ok ls)) cells_alike; changes = refl }
-  row_alike (ask.Layout (Shapes cell)) met = absurd (never operation.Read (object.Cell cell) met.1)
-  row_alike (ask.Wafer (Place cell label placing)) met =
-      absurd (never operation.Place (object.Cell cell) met.1)
-  row_alike (ask.Wafer (Unplace cell label)) met =
-      absurd (never operation.Place (object.Cell cell) met.1)
-  row_alike (ask.Wafer (Deck text)) met = absurd (never operation.Deck object.Desk met.1)
-  row_alike (ask.Run run_ask.Run) met = absurd (never operation.Run object.Desk met.1)
-  row_alike (ask.Run run_ask.Cancel) met = absurd (never operation.Run object.Desk met.1)
   row_alike (ask.Run run_ask.Status) met =
       alike_by a b ending.Refused (over_run a) (over_run b) _ _ (ap (λ (r : Run).
       checking.row_of a.policy a.shelf a.wafer r connection run_ask.Status) d.run)
   row_alike (ask.Run run_ask.Markers) met =
       alike_by a b ending.Refused (over_run a) (over_run b) _ _ (ap₂ (λ (p : Policy) (r : Run).
       checking.row_of p a.shelf a.wafer r connection run_ask.Markers) d.policy d.run)
-  row_alike (ask.SignOff (sign.Waive name)) met = absurd (never operation.Waive object.Desk met.1)
-  row_alike (ask.SignOff (sign.Sign name)) met = absurd (never operation.Sign object.Desk met.1)
   row_alike (ask.SignOff sign.Waivers) met =
       alike_by a b signing.ending_of (over_waivers a) (over_waivers b) _ _ (ap₂ (λ (p : Policy) (r : Run).
       signing.row_of p a.wafer r a.waivers connection sign.Waivers) d.policy d.run
       ∙ ap (λ (w : List (Option Waiver)).
       signing.row_of b.policy b.wafer b.run w connection sign.Waivers) d.waivers)
-  row_alike (ask.SignOff sign.Verdict) met = absurd (never operation.Verdict object.Desk met.1)
-  row_alike ask.Trail met = absurd (never operation.Audit object.Desk met.1)
+  row_alike (ask.Wafer (Deck text)) met =
+      absurd (stops (need_of (ask.Wafer (Deck text))) refl met)
+  row_alike request met = absurd (stops (need_of request) refl met)
 
   alike : (request : Request)
       → Alike (outcome_of a connection request) (outcome_of b connection request)

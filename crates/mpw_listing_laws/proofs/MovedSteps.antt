@@ -81,19 +81,17 @@ put_moved put here there trail s row second e = ap out e ∙ go second
     go (Ok by) = refl
     go (Err why) = refl
 
+-- a line for each request that a view decides; the last line is for all others
 row_moved : (here there : ℕ) (trail : List Entry) (s : State) (request : Request)
     → is_of_view request ≡ true
     → row_outcome (moved here there trail s) here request
     ≡ moved_outcome here there trail (row_outcome s there request)
-row_moved here there trail s (ask.Policy request) is = absurd (true≢false (sym is))
 row_moved here there trail s ask.Whoami is =
     list_moved ending_of (over_policy (moved here there trail s)) (over_policy s) lines here there
     trail s _ (rows.whoami s.policy there) (ap (listing lines) (whoami_moved here there s.policy))
   where
     lines : Identity → List Listed
     lines identity = map stored (identity_lines identity)
-row_moved here there trail s (ask.Layout (layout.Submit cell top text)) is =
-    absurd (true≢false (sym is))
 row_moved here there trail s (ask.Layout layout.Cells) is =
     ap (λ lines. no_change (response.Told (reply.Ok lines)) (moved here there trail s))
     (cells_moved here there s.policy s.shelf)
@@ -101,9 +99,6 @@ row_moved here there trail s (ask.Layout (layout.Shapes cell)) is =
     list_moved layouts.ending_of (over_shelf (moved here there trail s)) (over_shelf s)
     (λ lines. lines) here there trail s _ (layouts.shapes s.policy s.shelf there cell)
     (ap (listing (λ lines. lines)) (shapes_moved here there s.policy s.shelf cell))
-row_moved here there trail s (ask.Wafer request) is = absurd (true≢false (sym is))
-row_moved here there trail s (ask.Run run.Run) is = absurd (true≢false (sym is))
-row_moved here there trail s (ask.Run run.Cancel) is = absurd (true≢false (sym is))
 row_moved here there trail s (ask.Run run.Status) is = refl
 row_moved here there trail s (ask.Run run.Markers) is =
     list_moved ending.Refused (over_run (moved here there trail s)) (over_run s)
@@ -121,8 +116,7 @@ row_moved here there trail s (ask.SignOff sign.Waivers) is =
     (λ f. map stored (signing.waiver_lines s.policy there f s.waivers)) here there trail s _
     (signing.finished s.run)
     (waivers_moved here there s.policy s.run s.waivers)
-row_moved here there trail s (ask.SignOff sign.Verdict) is = absurd (true≢false (sym is))
-row_moved here there trail s ask.Trail is = absurd (true≢false (sym is))
+row_moved here there trail s request is = absurd (true≢false (sym is))
 
 asked_moved : (here there : ℕ) (trail : List Entry) (s : State) (request : Request)
     → is_of_view request ≡ true → IsMoved here there trail s request

@@ -1,17 +1,14 @@
 -- A request changes the desk if it is accepted and is no listing.
 use Rattle.std.proofs.Common.{◌≡◌, ℕ, ◌+◌, Bool, true, false, List, [], ◌∷◌, Result, Ok, Err, refl}
 use Rattle.std.specs.Prelude.{◌&&◌}
-use Rattle.mpw_rbac.specs.Rows as rows
 use Rattle.mpw_access.specs.Guard.{entered}
 use Rattle.mpw_layouts.specs.Layouts as layouts
 use Rattle.mpw_wafer.specs.Wafers as wafers
 use Rattle.mpw_wafer.specs.Run.Checking as checking
 use Rattle.mpw_deck.specs.Reading.{deck_of}
-use Rattle.mpw_run.specs.Step.{findings}
 use Rattle.mpw_signoff.specs.SigningOff as signing
 use Rattle.mpw_replies.specs.Listing.{Listed}
-use Rattle.mpw_replies.specs.Rows.{changing, ended_by, listing, needed}
-use Rattle.mpw_replies.specs.declared.reply.Code.TheVariants as code
+use Rattle.mpw_replies.specs.Rows.{changing, ended_by, listing}
 use Rattle.mpw_replies.specs.declared.reply.Line.{Line}
 use Rattle.mpw_replies.specs.declared.reply.Line.TheVariants as line
 use Rattle.mpw_replies.specs.declared.row.Ending.{Ending}
@@ -49,7 +46,8 @@ changing_tells : {A E P : Type 0} (ending : E → Ending) (over : P → State) (
 changing_tells ending over s part lines (Ok x) = refl
 changing_tells ending over s part lines (Err e) = ended (ending e)
 
--- whether it changes something is whether the reply accepts it, if it may change something
+-- whether it changes something is whether the reply accepts it, if it may change something. Below is a line for
+-- each request that may; the last line of a group is for all others, which list
 abbrev Tells : Request → Outcome → Type 0
 Tells request o = o.changes ≡ (is_change request && is_accepted o.response)
 
@@ -58,10 +56,7 @@ layout_tells : (s : State) (connection : ℕ) (request : LayoutRequest)
 layout_tells s connection (layout.Submit cell top text) =
     changing_tells layouts.ending_of (over_shelf s) s _ (λ new. line.Version new.version ∷ [])
     (layouts.submit_row s.policy s.shelf connection cell top text)
-layout_tells s connection layout.Cells = refl
-layout_tells s connection (layout.Shapes cell) =
-    listing_tells layouts.ending_of (over_shelf s) s _
-    (layouts.shapes s.policy s.shelf connection cell)
+layout_tells s connection request = search listing_tells
 
 wafer_tells : (s : State) (connection : ℕ) (request : WaferRequest)
     → Tells (ask.Wafer request) (row_outcome s connection (ask.Wafer request))
@@ -81,9 +76,7 @@ run_tells s connection running.Run =
     (checking.run_row s.shelf s.wafer s.run)
 run_tells s connection running.Cancel =
     changing_tells ending.Refused (over_run s) s _ (λ x. []) (checking.going_on s.run.phase)
-run_tells s connection running.Status = refl
-run_tells s connection running.Markers =
-    listing_tells ending.Refused (over_run s) s _ (needed code.NotFinished (findings s.run.phase))
+run_tells s connection request = search listing_tells
 
 sign_off_tells : (s : State) (connection : ℕ) (request : SignOffRequest)
     → Tells (ask.SignOff request) (row_outcome s connection (ask.SignOff request))
@@ -93,23 +86,18 @@ sign_off_tells s connection (sign_off.Waive marker) =
 sign_off_tells s connection (sign_off.Sign marker) =
     changing_tells signing.ending_of (over_waivers s) s _ (λ by. [])
     (signing.sign_row s.policy s.run s.waivers connection marker)
-sign_off_tells s connection sign_off.Waivers =
-    listing_tells signing.ending_of (over_waivers s) s _ (signing.finished s.run)
-sign_off_tells s connection sign_off.Verdict =
-    listing_tells signing.ending_of (over_waivers s) s _ (signing.finished s.run)
+sign_off_tells s connection request = search listing_tells
 
 row_tells : (s : State) (connection : ℕ) (request : Request)
     → Tells request (row_outcome s connection request)
 row_tells s connection (ask.Policy request) =
     changing_tells ending_of (over_policy s) s (λ next. next) (λ next. [])
     (row_of s.policy connection request)
-row_tells s connection ask.Whoami =
-    listing_tells ending_of (over_policy s) s _ (rows.whoami s.policy connection)
 row_tells s connection (ask.Layout request) = layout_tells s connection request
 row_tells s connection (ask.Wafer request) = wafer_tells s connection request
 row_tells s connection (ask.Run request) = run_tells s connection request
 row_tells s connection (ask.SignOff request) = sign_off_tells s connection request
-row_tells s connection ask.Trail = refl
+row_tells s connection request = search listing_tells
 
 -- what the guard denies is not accepted
 denied_tells : (may : Bool) (e : Ending) → false ≡ (may && accepts (ended_by e))
