@@ -4,7 +4,7 @@ use Rattle.mpw_hier.specs.declared.submission.Submission.{Submission}
 use Rattle.mpw_placings.specs.Laws.{NoneArePlacings, LaterShelvesKeep}
 use Rattle.mpw_placings.specs.Placements.{ArePlacings}
 use Rattle.mpw_requests.specs.declared.layouts.LayoutRequest.{LayoutRequest}
-use Rattle.mpw_requests.specs.declared.layouts.LayoutRequest.TheVariants.{Submit, Cells, Shapes}
+use Rattle.mpw_requests.specs.declared.layouts.LayoutRequest.TheVariants.{Submit}
 use Rattle.mpw_requests.specs.declared.request.Request.{Request}
 use Rattle.mpw_replies.proofs.RowParts.{changed, listing_changes_nothing}
 use Rattle.mpw_replies.specs.Listing.{Listed}
@@ -24,6 +24,7 @@ Placed s = ArePlacings s.shelf s.wafer.placings
 
 module _ (none_are : NoneArePlacings) (later_keep : LaterShelvesKeep)
     (changes_keep : ChangesKeepPlacings) where
+  -- all requests but `submit` list: they change nothing
   placed-layout : (s : State) (connection : ℕ) (request : LayoutRequest)
       (shelf : List Submission) (lines : List Listed)
       → layouts.row_of s.policy s.shelf connection request ≡ Ok (Changes shelf lines)
@@ -34,11 +35,8 @@ module _ (none_are : NoneArePlacings) (later_keep : LaterShelvesKeep)
       (λ (x : Submission). Version x.version ∷ []) row shelf lines is in
       subst (λ l. ArePlacings l s.wafer.placings) new.2
       (later_keep s.shelf (new.0 ∷ []) s.wafer.placings placed)
-  placed-layout s connection Cells shelf lines is placed =
-      absurd cc
-  placed-layout s connection (Shapes cell) shelf lines is placed =
-      absurd (listing_changes_nothing (λ l. l) (layouts.shapes s.policy s.shelf connection cell)
-      shelf lines is)
+  placed-layout s connection request shelf lines is placed =
+      absurd (first_of (cc, search listing_changes_nothing))
 
   placed-request : (s : State) (connection : ℕ) (request : Request) → Placed s
       → Placed (outcome_of s connection request).state

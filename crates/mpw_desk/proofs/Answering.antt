@@ -129,10 +129,7 @@ run-fair s connection run_ask.Run =
 run-fair s connection run_ask.Cancel =
     changing-fair ending.Refused (over_run s) s _ (λ x. []) (going_on s.run.phase)
     (going-fair s.run.phase)
-run-fair s connection run_ask.Status = tt
-run-fair s connection run_ask.Markers =
-    listing-fair ending.Refused (over_run s) s _ (needed code.NotFinished (findings s.run.phase))
-    (needed-fair ending.Refused code.NotFinished (findings s.run.phase) tt)
+run-fair s connection request = search (listing-fair, row-fair, needed-fair)
 
 -- ---- waivers
 
@@ -193,10 +190,7 @@ sign_off-fair s connection (sign_ask.Sign marker) =
     changing-fair signing.ending_of (over_waivers s) s _ (λ by. [])
     (sign_row s.policy s.run s.waivers connection marker)
     (sign-fair s.policy s.run s.waivers connection marker)
-sign_off-fair s connection sign_ask.Waivers =
-    listing-fair signing.ending_of (over_waivers s) s _ (finished s.run) (finished-fair s.run)
-sign_off-fair s connection sign_ask.Verdict =
-    listing-fair signing.ending_of (over_waivers s) s _ (finished s.run) (finished-fair s.run)
+sign_off-fair s connection request = search (listing-fair, row-fair, needed-fair)
 
 -- ---- a request
 

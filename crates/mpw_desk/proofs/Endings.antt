@@ -233,7 +233,4 @@ layout-fair s connection (layout_ask.Submit cell top text) =
     changing-fair layouts.ending_of (over_shelf s) s _ (λ new. line.Version new.version ∷ [])
     (submit_row s.policy s.shelf connection cell top text)
     (submit-fair s.policy s.shelf connection cell top text)
-layout-fair s connection layout_ask.Cells = tt
-layout-fair s connection (layout_ask.Shapes cell) =
-    listing-fair layouts.ending_of (over_shelf s) s _ (shapes s.policy s.shelf connection cell)
-    (shapes-fair s.policy s.shelf connection cell)
+layout-fair s connection request = search (listing-fair, shapes-fair, row-fair, needed-fair)

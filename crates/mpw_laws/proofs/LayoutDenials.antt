@@ -9,7 +9,7 @@ use Rattle.mpw_structures.specs.declared.structures.Structure.{Structure}
 use Rattle.mpw_library.specs.Grammar.{library_of}
 use Rattle.mpw_structures.specs.Places.{place_of}
 use Rattle.mpw_hier.specs.declared.submission.Submission.{Submission}
-use Rattle.mpw_hier.specs.Shelf.{present, bound_to}
+use Rattle.mpw_hier.specs.Shelf.{bound_to}
 use Rattle.mpw_hier.specs.Limits.{is_too_large, is_too_deep, has_room_for}
 use Rattle.mpw_hier.specs.Reach.{is_cyclic, is_far}
 use Rattle.mpw_requests.specs.declared.layouts.LayoutRequest.{LayoutRequest}
@@ -74,11 +74,7 @@ module _ (policy : Policy) (connection : ℕ) where
       ends_changed Of _ (λ s. line.Version s.version ∷ [])
       (submit_row policy shelf connection cell top text)
       (of_submit shelf cell top text)
-  of_request shelf ask.Cells = tt
-  of_request shelf (ask.Shapes cell) =
-      ends_listed _ Of _ (shapes policy shelf connection cell)
-      (ends_behind Of (needed (Refused code.NoCell) (present shelf cell)) _
-      (ends_needed Of (Refused code.NoCell) (present shelf cell) tt) (λ number is. tt))
+  of_request shelf request = search (ends_listed, ends_behind, ends_needed)
 
 pub layouts_deny : LayoutsDenyWhatIsLacked
 layouts_deny policy shelf connection request cell e =

@@ -123,12 +123,7 @@ module _ (policy : Policy) (wafer : Wafer) (run : Run) (waivers : List (Option W
   each_ends (ask.Sign name) =
       ends_changed _ _ (λ by. []) (sign_row policy run waivers connection name)
       (sign_ends policy run waivers connection (ask.Sign name) name refl)
-  each_ends ask.Waivers =
-      ends_listed _ _ _ (finished run)
-      (finished_ends policy run waivers connection ask.Waivers)
-  each_ends ask.Verdict =
-      ends_listed _ _ _ (finished run)
-      (finished_ends policy run waivers connection ask.Verdict)
+  each_ends request = search (ends_listed, ends_behind, ends_needed)
 
   cause_of : (request : SignOffRequest) (e : SignOffEnding)
       → row_of policy wafer run waivers connection request ≡ Err e

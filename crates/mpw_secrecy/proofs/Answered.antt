@@ -32,7 +32,6 @@ use Rattle.mpw_secrecy.proofs.Signing.{sign_alike_in, waive_alike}
 module _ (places_left : PlacesAreLeft) where
   row_orderly : (s : State) (connection : ℕ) (request : Request) → is_of_view request ≡ true
       → IsOrderly s → IsOrderly (row_outcome s connection request).state
-  row_orderly s connection (ask.Policy request) is orderly = absurd cc
   row_orderly s connection ask.Whoami is orderly =
       holds-row IsOrderly ending_of (over_policy s) s (whoami_row s.policy connection) orderly
       (λ policy lines e.
@@ -41,9 +40,6 @@ module _ (places_left : PlacesAreLeft) where
       holds-row IsOrderly layouts.ending_of (over_shelf s) s
       (layouts.row_of s.policy s.shelf connection request) orderly (λ shelf lines e.
       record { run = orderly.run; places = orderly.places })
-  row_orderly s connection (ask.Wafer request) is orderly = absurd cc
-  row_orderly s connection (ask.Run run.Run) is orderly = absurd cc
-  row_orderly s connection (ask.Run run.Cancel) is orderly = absurd cc
   row_orderly s connection (ask.Run run.Status) is orderly = orderly
   row_orderly s connection (ask.Run run.Markers) is orderly =
       holds-row IsOrderly ending.Refused (over_run s) s _ orderly
@@ -54,7 +50,7 @@ module _ (places_left : PlacesAreLeft) where
       (signing.row_of s.policy s.wafer s.run s.waivers connection request) orderly
       (λ change lines e.
       record { run = orderly.run; places = places_left s.waivers change ∙ orderly.places })
-  row_orderly s connection ask.Trail is orderly = absurd cc
+  row_orderly s connection request is orderly = absurd cc
 
   stays_orderly : (s : State) (connection : ℕ) (request : Request) → is_of_view request ≡ true
       → IsOrderly s → IsOrderly (outcome_of s connection request).state
@@ -94,12 +90,10 @@ module _ (presents : PresentAreOfTheirCell) (has : EnteredHas) (keys : PlacesAre
       → SameView connection a b → is_of_view request ≡ true
       → Has a.policy connection (need_of request)
       → SameOutcome connection (row_outcome a connection request) (row_outcome b connection request)
-  answered connection a b (ask.Policy request) orderly ordered same is = absurd cc
   answered connection a b ask.Whoami orderly ordered same is =
       listed presents connection a b ask.Whoami same refl
   answered connection a b (ask.Layout request) orderly ordered same is =
       listed presents connection a b (ask.Layout request) same is
-  answered connection a b (ask.Wafer request) orderly ordered same is = absurd cc
   answered connection a b (ask.Run request) orderly ordered same is =
       listed presents connection a b (ask.Run request) same is
   answered connection a b (ask.SignOff (sign.Waive name)) orderly ordered same is =
@@ -108,8 +102,7 @@ module _ (presents : PresentAreOfTheirCell) (has : EnteredHas) (keys : PlacesAre
       λ has. sign_alike_in keys connection a b orderly ordered same has.0 name
   answered connection a b (ask.SignOff sign.Waivers) orderly ordered same is =
       listed presents connection a b (ask.SignOff sign.Waivers) same refl
-  answered connection a b (ask.SignOff sign.Verdict) orderly ordered same is = absurd cc
-  answered connection a b ask.Trail orderly ordered same is = absurd cc
+  answered connection a b request orderly ordered same is = absurd cc
 
   stepped : (connection : ℕ) (a b : State) (request : Request) (kept : Bool) → IsOrderly a
       → IsOrderly b

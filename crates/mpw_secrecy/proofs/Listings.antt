@@ -127,16 +127,15 @@ same_whoami connection a b same =
 
 -- ---- each listing
 
+-- a line for each; the last line is for all requests that aren't of them
 pub listed : PresentAreOfTheirCell → (connection : ℕ) (a b : State) (request : Request)
     → SameView connection a b → is_listing request ≡ true
     → Has a.policy connection (need_of request)
     → SameOutcome connection (row_outcome a connection request) (row_outcome b connection request)
-listed presents connection a b (ask.Policy request) same is has = absurd cc
 listed presents connection a b ask.Whoami same is has =
     of_row ending_of (over_policy a) (over_policy b) _ connection a b (whoami a.policy connection)
     (whoami_row b.policy connection) same
     (same_whoami connection a b same)
-listed presents connection a b (ask.Layout (layout.Submit cell top text)) same is has = absurd cc
 listed presents connection a b (ask.Layout layout.Cells) same is has =
     of_lines layouts.ending_of (over_shelf a) (over_shelf b) connection a b
     (layouts.cells a.policy a.shelf connection)
@@ -146,9 +145,6 @@ listed presents connection a b (ask.Layout (layout.Shapes cell)) same is has =
     of_row layouts.ending_of (over_shelf a) (over_shelf b) (λ lines. lines) connection a b
     (layouts.shapes a.policy a.shelf connection cell) _ same
     (ap (listing (λ lines. lines)) (shapes_alike presents connection a b same cell has.0 has.1))
-listed presents connection a b (ask.Wafer request) same is has = absurd cc
-listed presents connection a b (ask.Run run.Run) same is has = absurd cc
-listed presents connection a b (ask.Run run.Cancel) same is has = absurd cc
 listed presents connection a b (ask.Run run.Status) same is has =
     of_lines ending.Refused (over_run a) (over_run b) connection a b _ _ same
     (ap (λ l. stored l ∷ []) (status_alike connection a b same has))
@@ -156,15 +152,12 @@ listed presents connection a b (ask.Run run.Markers) same is has =
     of_row ending.Refused (over_run a) (over_run b) (checking.checked_lines a.policy connection)
     connection a b (needed code.NotFinished (findings a.run.phase)) _ same
     (markers_alike code.NotFinished connection a b same has)
-listed presents connection a b (ask.SignOff (sign.Waive marker)) same is has = absurd cc
-listed presents connection a b (ask.SignOff (sign.Sign marker)) same is has = absurd cc
 listed presents connection a b (ask.SignOff sign.Waivers) same is has =
     of_row signing.ending_of (over_waivers a) (over_waivers b)
     (λ f. map stored (signing.waiver_lines a.policy connection f a.waivers)) connection a b
     (needed (Refused code.NotFinished) (findings a.run.phase)) _ same
     (waivers_alike (Refused code.NotFinished) connection a b same has)
-listed presents connection a b (ask.SignOff sign.Verdict) same is has = absurd cc
-listed presents connection a b ask.Trail same is has = absurd cc
+listed presents connection a b request same is has = absurd cc
 
 -- ---- with whether the change is stored
 
