@@ -140,7 +140,10 @@ def lacking_requests(words):
         for variant in variants(f"crates/mpw_requests/src/{file}.rt", enum)
         if enum != "Request" or variant in ("Whoami", "Trail")
     }
-    asked |= set(re.findall(r'Verb::\w+ => \w+\("(\w+)"', read("crates/mpw_requests/src/table.rt")))
+    files = {file for file, _ in groups} | {"table"}
+    asked |= {
+        word for file in files for word in re.findall(r'Verb::\w+ => \w+\("(\w+)"', read(f"crates/mpw_requests/src/{file}.rt"))
+    }
     return [f"request {word}" for word in sorted(asked ^ words)]
 
 

@@ -1,14 +1,25 @@
--- A request and its parts: a line a request.
-use Rattle.std.proofs.Common.{◌≡◌, ℕ, List, Option, Some, None, option_map, is_some, refl, ap, sym, ◌∙◌, subst}
+-- A request and its parts. No request needs a line here: the lines of a lemma split the requests, or the verbs, of
+-- each group, and the last one is checked at all of them.
+use Rattle.std.proofs.Common.{◌≡◌, ℕ, List, Option, Some, None, IfSome, option_map, is_some, refl, ap, sym, ◌∙◌, subst}
 use Rattle.mpw_requests.specs.declared.request.Request.{Request}
 use Rattle.mpw_requests.specs.declared.request.Request.TheVariants as group
 use Rattle.mpw_requests.specs.declared.policy.PolicyRequest.TheVariants as policy
+use Rattle.mpw_requests.specs.declared.policy.PolicyVerb.{PolicyVerb}
+use Rattle.mpw_requests.specs.declared.policy.PolicyVerb.TheVariants as policy_verb
 use Rattle.mpw_requests.specs.declared.layouts.LayoutRequest.TheVariants as layout
+use Rattle.mpw_requests.specs.declared.layouts.LayoutVerb.{LayoutVerb}
+use Rattle.mpw_requests.specs.declared.layouts.LayoutVerb.TheVariants as layout_verb
 use Rattle.mpw_requests.specs.declared.wafer.WaferRequest.TheVariants as wafer
+use Rattle.mpw_requests.specs.declared.wafer.WaferVerb.{WaferVerb}
+use Rattle.mpw_requests.specs.declared.wafer.WaferVerb.TheVariants as wafer_verb
 use Rattle.mpw_requests.specs.declared.run.RunRequest.TheVariants as run
+use Rattle.mpw_requests.specs.declared.run.RunVerb.{RunVerb}
+use Rattle.mpw_requests.specs.declared.run.RunVerb.TheVariants as run_verb
 use Rattle.mpw_requests.specs.declared.sign_off.SignOffRequest.TheVariants as sign_off
+use Rattle.mpw_requests.specs.declared.sign_off.SignOffVerb.{SignOffVerb}
+use Rattle.mpw_requests.specs.declared.sign_off.SignOffVerb.TheVariants as sign_off_verb
 use Rattle.mpw_requests.specs.declared.parts.Operands.{Operands}
-use Rattle.mpw_requests.specs.declared.parts.Operands.TheVariants.{Alone, Name, Pair, Login, Grant, Set, Placement, Key}
+use Rattle.mpw_requests.specs.declared.parts.Operands.TheVariants.{Alone, Pair}
 use Rattle.mpw_requests.specs.declared.table.Verb.{Verb}
 use Rattle.mpw_requests.specs.declared.table.Verb.TheVariants as verb
 use Rattle.mpw_requests.specs.Table.{verb_form, verb_text, verb_shape, has_payload, verb_of}
@@ -17,40 +28,12 @@ use Rattle.mpw_requests.specs.Parts.{shape_of, parts_of, payload_of, request_of,
 -- each verb is that of its word
 pub verb_read : (v : Verb) → verb_of (verb_text v) ≡ Some v
 unfolding verb_of verb_form
-verb_read verb.Open = refl
-verb_read verb.Close = refl
-verb_read verb.Activate = refl
-verb_read verb.DropRole = refl
-verb_read verb.Whoami = refl
-verb_read verb.AddUser = refl
-verb_read verb.DelUser = refl
-verb_read verb.AddRole = refl
-verb_read verb.DelRole = refl
-verb_read verb.Assign = refl
-verb_read verb.Deassign = refl
-verb_read verb.Grant = refl
-verb_read verb.Revoke = refl
-verb_read verb.Inherit = refl
-verb_read verb.Uninherit = refl
-verb_read verb.Ssd = refl
-verb_read verb.Dsd = refl
-verb_read verb.UnSsd = refl
-verb_read verb.UnDsd = refl
-verb_read verb.Submit = refl
-verb_read verb.Cells = refl
-verb_read verb.Shapes = refl
-verb_read verb.Place = refl
-verb_read verb.Unplace = refl
-verb_read verb.Deck = refl
-verb_read verb.Run = refl
-verb_read verb.Cancel = refl
-verb_read verb.Status = refl
-verb_read verb.Markers = refl
-verb_read verb.Waive = refl
-verb_read verb.Sign = refl
-verb_read verb.Waivers = refl
-verb_read verb.Verdict = refl
-verb_read verb.Trail = refl
+verb_read (verb.Policy policy_verb.Close) = refl
+verb_read (verb.Layout layout_verb.Cells) = refl
+verb_read (verb.Wafer wafer_verb.Deck) = refl
+verb_read (verb.Run run_verb.Run) = refl
+verb_read (verb.SignOff sign_off_verb.Waivers) = refl
+verb_read v = refl
 
 -- a request is that of its parts, and these are as the table says
 fits : (request : Request)
@@ -58,40 +41,12 @@ fits : (request : Request)
     × ((shape_of (parts_of request).1 ≡ verb_shape (parts_of request).0)
     × (is_some (payload_of request) ≡ has_payload (parts_of request).0))
 unfolding parts_of payload_of request_of upload_of verb_form has_payload
-fits (group.Policy (policy.Open user digest)) = (refl, (refl, refl))
 fits (group.Policy policy.Close) = (refl, (refl, refl))
-fits (group.Policy (policy.Activate role)) = (refl, (refl, refl))
-fits (group.Policy (policy.DropRole role)) = (refl, (refl, refl))
-fits group.Whoami = (refl, (refl, refl))
-fits (group.Policy (policy.AddUser user digest)) = (refl, (refl, refl))
-fits (group.Policy (policy.DelUser user)) = (refl, (refl, refl))
-fits (group.Policy (policy.AddRole role)) = (refl, (refl, refl))
-fits (group.Policy (policy.DelRole role)) = (refl, (refl, refl))
-fits (group.Policy (policy.Assign user role)) = (refl, (refl, refl))
-fits (group.Policy (policy.Deassign user role)) = (refl, (refl, refl))
-fits (group.Policy (policy.Grant grant)) = (refl, (refl, refl))
-fits (group.Policy (policy.Revoke grant)) = (refl, (refl, refl))
-fits (group.Policy (policy.Inherit senior junior)) = (refl, (refl, refl))
-fits (group.Policy (policy.Uninherit senior junior)) = (refl, (refl, refl))
-fits (group.Policy (policy.Ssd set)) = (refl, (refl, refl))
-fits (group.Policy (policy.Dsd set)) = (refl, (refl, refl))
-fits (group.Policy (policy.UnSsd name)) = (refl, (refl, refl))
-fits (group.Policy (policy.UnDsd name)) = (refl, (refl, refl))
-fits (group.Layout (layout.Submit cell top text)) = (refl, (refl, refl))
 fits (group.Layout layout.Cells) = (refl, (refl, refl))
-fits (group.Layout (layout.Shapes cell)) = (refl, (refl, refl))
-fits (group.Wafer (wafer.Place cell label placing)) = (refl, (refl, refl))
-fits (group.Wafer (wafer.Unplace cell label)) = (refl, (refl, refl))
 fits (group.Wafer (wafer.Deck text)) = (refl, (refl, refl))
 fits (group.Run run.Run) = (refl, (refl, refl))
-fits (group.Run run.Cancel) = (refl, (refl, refl))
-fits (group.Run run.Status) = (refl, (refl, refl))
-fits (group.Run run.Markers) = (refl, (refl, refl))
-fits (group.SignOff (sign_off.Waive marker)) = (refl, (refl, refl))
-fits (group.SignOff (sign_off.Sign marker)) = (refl, (refl, refl))
 fits (group.SignOff sign_off.Waivers) = (refl, (refl, refl))
-fits (group.SignOff sign_off.Verdict) = (refl, (refl, refl))
-fits group.Trail = (refl, (refl, refl))
+fits request = (refl, (refl, refl))
 
 pub again : (request : Request)
     → put_together (parts_of request).0 (parts_of request).1 (payload_of request) ≡ Some request
@@ -121,49 +76,75 @@ of v operands payload made request is parts loads =
 nobodys : {A : Type 0} (request : Request) → None ≡ Some request → A
 nobodys request is = absurd (cc is)
 
+-- what a verb and its operands make has them for its parts
+abbrev Makes : Verb → Operands → Type 0
+Makes v operands = IfSome (request_of v operands) (AreParts v operands None)
+
+policy_makes : (asked : PolicyVerb) (operands : Operands) → Makes (verb.Policy asked) operands
+unfolding parts_of payload_of request_of
+policy_makes policy_verb.Close operands =
+    elim operands as (λ o. Makes (verb.Policy policy_verb.Close) o) [ Alone ↦ search | _ ↦ search ]
+policy_makes asked operands =
+    elim operands as (λ o. Makes (verb.Policy asked) o) [ Alone ↦ search | _ ↦ search ]
+
+layout_makes : (asked : LayoutVerb) (operands : Operands) → Makes (verb.Layout asked) operands
+unfolding parts_of payload_of request_of
+layout_makes layout_verb.Cells operands =
+    elim operands as (λ o. Makes (verb.Layout layout_verb.Cells) o) [ Alone ↦ search | _ ↦ search ]
+layout_makes asked operands =
+    elim operands as (λ o. Makes (verb.Layout asked) o) [ Alone ↦ search | _ ↦ search ]
+
+wafer_makes : (asked : WaferVerb) (operands : Operands) → Makes (verb.Wafer asked) operands
+unfolding parts_of payload_of request_of
+wafer_makes wafer_verb.Deck operands =
+    elim operands as (λ o. Makes (verb.Wafer wafer_verb.Deck) o) [ Alone ↦ search | _ ↦ search ]
+wafer_makes asked operands =
+    elim operands as (λ o. Makes (verb.Wafer asked) o) [ Alone ↦ search | _ ↦ search ]
+
+run_makes : (asked : RunVerb) (operands : Operands) → Makes (verb.Run asked) operands
+unfolding parts_of payload_of request_of
+run_makes run_verb.Run operands =
+    elim operands as (λ o. Makes (verb.Run run_verb.Run) o) [ Alone ↦ search | _ ↦ search ]
+run_makes asked operands =
+    elim operands as (λ o. Makes (verb.Run asked) o) [ Alone ↦ search | _ ↦ search ]
+
+sign_off_makes : (asked : SignOffVerb) (operands : Operands) → Makes (verb.SignOff asked) operands
+unfolding parts_of payload_of request_of
+sign_off_makes sign_off_verb.Waivers operands =
+    elim operands as (λ o. Makes (verb.SignOff sign_off_verb.Waivers) o)
+    [ Alone ↦ search | _ ↦ search ]
+sign_off_makes asked operands =
+    elim operands as (λ o. Makes (verb.SignOff asked) o) [ Alone ↦ search | _ ↦ search ]
+
+makes : (v : Verb) (operands : Operands) → Makes v operands
+unfolding parts_of payload_of request_of
+makes (verb.Policy asked) operands = policy_makes asked operands
+makes verb.Whoami operands =
+    elim operands as (λ o. Makes verb.Whoami o) [ Alone ↦ search | _ ↦ search ]
+makes (verb.Layout asked) operands = layout_makes asked operands
+makes (verb.Wafer asked) operands = wafer_makes asked operands
+makes (verb.Run asked) operands = run_makes asked operands
+makes (verb.SignOff asked) operands = sign_off_makes asked operands
+makes verb.Trail operands =
+    elim operands as (λ o. Makes verb.Trail o) [ Alone ↦ search | _ ↦ search ]
+
 request_apart : (v : Verb) (operands : Operands) (request : Request)
     → request_of v operands ≡ Some request → AreParts v operands None request
-unfolding parts_of payload_of request_of
-request_apart verb.Open (Login user digest) request is = of _ _ _ _ request is refl refl
-request_apart verb.Close Alone request is = of _ _ _ _ request is refl refl
-request_apart verb.Activate (Name role) request is = of _ _ _ _ request is refl refl
-request_apart verb.DropRole (Name role) request is = of _ _ _ _ request is refl refl
-request_apart verb.Whoami Alone request is = of _ _ _ _ request is refl refl
-request_apart verb.AddUser (Login user digest) request is = of _ _ _ _ request is refl refl
-request_apart verb.DelUser (Name user) request is = of _ _ _ _ request is refl refl
-request_apart verb.AddRole (Name role) request is = of _ _ _ _ request is refl refl
-request_apart verb.DelRole (Name role) request is = of _ _ _ _ request is refl refl
-request_apart verb.Assign (Pair user role) request is = of _ _ _ _ request is refl refl
-request_apart verb.Deassign (Pair user role) request is = of _ _ _ _ request is refl refl
-request_apart verb.Grant (Grant grant) request is = of _ _ _ _ request is refl refl
-request_apart verb.Revoke (Grant grant) request is = of _ _ _ _ request is refl refl
-request_apart verb.Inherit (Pair senior junior) request is = of _ _ _ _ request is refl refl
-request_apart verb.Uninherit (Pair senior junior) request is = of _ _ _ _ request is refl refl
-request_apart verb.Ssd (Set set) request is = of _ _ _ _ request is refl refl
-request_apart verb.Dsd (Set set) request is = of _ _ _ _ request is refl refl
-request_apart verb.UnSsd (Name name) request is = of _ _ _ _ request is refl refl
-request_apart verb.UnDsd (Name name) request is = of _ _ _ _ request is refl refl
-request_apart verb.Cells Alone request is = of _ _ _ _ request is refl refl
-request_apart verb.Shapes (Name cell) request is = of _ _ _ _ request is refl refl
-request_apart verb.Place (Placement cell label placing) request is = of _ _ _ _ request is refl refl
-request_apart verb.Unplace (Pair cell label) request is = of _ _ _ _ request is refl refl
-request_apart verb.Run Alone request is = of _ _ _ _ request is refl refl
-request_apart verb.Cancel Alone request is = of _ _ _ _ request is refl refl
-request_apart verb.Status Alone request is = of _ _ _ _ request is refl refl
-request_apart verb.Markers Alone request is = of _ _ _ _ request is refl refl
-request_apart verb.Waive (Key marker) request is = of _ _ _ _ request is refl refl
-request_apart verb.Sign (Key marker) request is = of _ _ _ _ request is refl refl
-request_apart verb.Waivers Alone request is = of _ _ _ _ request is refl refl
-request_apart verb.Verdict Alone request is = of _ _ _ _ request is refl refl
-request_apart verb.Trail Alone request is = of _ _ _ _ request is refl refl
-request_apart v operands request is = nobodys request is
+request_apart v operands request is = go (request_of v operands) (makes v operands) is
+  where
+    go : (made : Option Request) → IfSome made (AreParts v operands None) → made ≡ Some request
+        → AreParts v operands None request
+    go None holds none = nobodys request none
+    go (Some made) holds same = of v operands None made request same holds.0 holds.1
 
 upload_apart : (v : Verb) (operands : Operands) (payload : List ℕ) (request : Request)
     → option_map (λ upload. uploaded upload payload) (upload_of v operands) ≡ Some request
     → AreParts v operands (Some payload) request
 unfolding parts_of payload_of upload_of
-upload_apart verb.Submit (Pair cell top) payload request is = of _ _ _ _ request is refl refl
-upload_apart verb.Deck Alone payload request is = of _ _ _ _ request is refl refl
+upload_apart (verb.Layout layout_verb.Submit) (Pair cell top) payload request is =
+    of _ _ _ _ request is refl refl
+upload_apart (verb.Wafer wafer_verb.Deck) Alone payload request is =
+    of _ _ _ _ request is refl refl
 upload_apart v operands payload request is = nobodys request is
 
 pub apart : (v : Verb) (operands : Operands) (payload : Option (List ℕ)) (request : Request)

@@ -1,13 +1,13 @@
-//! What each request needs of the connection that asks it: the one table of it.
+//! What each request needs of the connection that asks it. The file of each group has the table of its requests.
 ghost use Rattle.std.specs.Prelude.{◌≡◌, IfOk};
-ghost use Rattle.mpw_requests.specs.Needs.{layout_need, need_of, policy_need, run_need, sign_off_need, wafer_need};
+ghost use Rattle.mpw_requests.specs.Needs.{need_of};
 
-use crate::layouts::LayoutRequest;
-use crate::policy::PolicyRequest;
+use crate::layouts::layout_need;
+use crate::policy::policy_need;
 use crate::request::Request;
-use crate::run::RunRequest;
-use crate::sign_off::SignOffRequest;
-use crate::wafer::WaferRequest;
+use crate::run::run_need;
+use crate::sign_off::sign_off_need;
+use crate::wafer::wafer_need;
 use mpw_geom::Name;
 use mpw_permissions::{Object, Operation};
 use std::alloc::AllocError;
@@ -24,87 +24,17 @@ pub enum Need {
 }
 
 /// An operation on the desk.
-fn on_desk(operation: Operation) -> Need
+pub(crate) fn on_desk(operation: Operation) -> Need
     ensures { result ≡ Need.Permission operation Object.Desk }
 {
     Need::Permission(operation, Object::Desk)
 }
 
 /// An operation on a cell.
-fn on_cell(operation: Operation, cell: &Name) -> Result<Need, AllocError>
+pub(crate) fn on_cell(operation: Operation, cell: &Name) -> Result<Need, AllocError>
     ensures { IfOk result (λ need. need ≡ Need.Permission operation (Object.Cell cell.now)) }
 {
     Ok(Need::Permission(operation, Object::Cell(cell.copy()?)))
-}
-
-/// What a request that changes the policy needs.
-fn policy_need(request: &PolicyRequest) -> Need
-    ensures { result ≡ policy_need request.now }
-{
-    match request {
-        PolicyRequest::Open { .. } => Need::Nothing,
-        PolicyRequest::Close | PolicyRequest::Activate { .. } | PolicyRequest::DropRole { .. } =>
-            Need::Session,
-        PolicyRequest::AddUser { .. }
-        | PolicyRequest::DelUser { .. }
-        | PolicyRequest::AddRole { .. }
-        | PolicyRequest::DelRole { .. }
-        | PolicyRequest::Assign { .. }
-        | PolicyRequest::Deassign { .. }
-        | PolicyRequest::Grant { .. }
-        | PolicyRequest::Revoke { .. }
-        | PolicyRequest::Inherit { .. }
-        | PolicyRequest::Uninherit { .. }
-        | PolicyRequest::Ssd { .. }
-        | PolicyRequest::Dsd { .. }
-        | PolicyRequest::UnSsd { .. }
-        | PolicyRequest::UnDsd { .. } => on_desk(Operation::Admin),
-    }
-}
-
-/// What a request of the layouts needs.
-fn layout_need(request: &LayoutRequest) -> Result<Need, AllocError>
-    ensures { IfOk result (λ need. need ≡ layout_need request.now) }
-{
-    match request {
-        LayoutRequest::Submit { cell, .. } => on_cell(Operation::Submit, cell),
-        LayoutRequest::Cells => Ok(Need::Session),
-        LayoutRequest::Shapes { cell } => on_cell(Operation::Read, cell),
-    }
-}
-
-/// What a request of the wafer needs.
-fn wafer_need(request: &WaferRequest) -> Result<Need, AllocError>
-    ensures { IfOk result (λ need. need ≡ wafer_need request.now) }
-{
-    match request {
-        WaferRequest::Place { cell, .. } | WaferRequest::Unplace { cell, .. } => {
-            on_cell(Operation::Place, cell)
-        }
-        WaferRequest::Deck { .. } => Ok(on_desk(Operation::Deck)),
-    }
-}
-
-/// What a request of the run needs.
-fn run_need(request: &RunRequest) -> Need
-    ensures { result ≡ run_need request.now }
-{
-    match request {
-        RunRequest::Run | RunRequest::Cancel => on_desk(Operation::Run),
-        RunRequest::Status | RunRequest::Markers => Need::Session,
-    }
-}
-
-/// What a sign-off request needs.
-fn sign_off_need(request: &SignOffRequest) -> Need
-    ensures { result ≡ sign_off_need request.now }
-{
-    match request {
-        SignOffRequest::Waive { .. } => on_desk(Operation::Waive),
-        SignOffRequest::Sign { .. } => on_desk(Operation::Sign),
-        SignOffRequest::Waivers => Need::Session,
-        SignOffRequest::Verdict => on_desk(Operation::Verdict),
-    }
 }
 
 /// What a request needs. It copies at most one name, and allocates nothing.

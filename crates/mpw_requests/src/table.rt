@@ -1,46 +1,25 @@
-//! The table of requests: each verb with its word and its operands.
+//! The table of requests: each verb with its word and its operands. The file of each group has the lines of its verbs.
 //!
-//! Whoever adds a request adds its verb here, and its parts in `parts.rt`. Readers and writers of lines go by the shape alone.
+//! Whoever adds a request adds its verb to `ALL`, and all else in the file of its group. Readers and writers of lines go by the shape alone.
 ghost use Rattle.std.specs.Prelude.{◌≡◌, true, false};
 ghost use Rattle.mpw_requests.specs.Table.{verb_text, verb_shape, has_payload, verb_of};
 ghost use Rattle.mpw_requests.specs.Words.{first_of};
 
-/// The verb of a request, which has one word. The request types say what each does.
+use crate::layouts::{LayoutVerb, layout_form};
+use crate::policy::{PolicyVerb, policy_form};
+use crate::run::{RunVerb, run_form};
+use crate::sign_off::{SignOffVerb, sign_off_form};
+use crate::wafer::{WaferVerb, wafer_form};
+
+/// The verb of a request, by its group. It has one word. The request types say what each does.
 #[derive(Clone, Copy)]
 pub enum Verb {
-    Open,
-    Close,
-    Activate,
-    DropRole,
+    Policy(PolicyVerb),
     Whoami,
-    AddUser,
-    DelUser,
-    AddRole,
-    DelRole,
-    Assign,
-    Deassign,
-    Grant,
-    Revoke,
-    Inherit,
-    Uninherit,
-    Ssd,
-    Dsd,
-    UnSsd,
-    UnDsd,
-    Submit,
-    Cells,
-    Shapes,
-    Place,
-    Unplace,
-    Deck,
-    Run,
-    Cancel,
-    Status,
-    Markers,
-    Waive,
-    Sign,
-    Waivers,
-    Verdict,
+    Layout(LayoutVerb),
+    Wafer(WaferVerb),
+    Run(RunVerb),
+    SignOff(SignOffVerb),
     Trail,
 }
 
@@ -80,44 +59,44 @@ pub struct Form {
 
 /// Each verb, in the order of the help.
 pub const ALL: [Verb; 34] = [
-    Verb::Open,
-    Verb::Close,
-    Verb::Activate,
-    Verb::DropRole,
+    Verb::Policy(PolicyVerb::Open),
+    Verb::Policy(PolicyVerb::Close),
+    Verb::Policy(PolicyVerb::Activate),
+    Verb::Policy(PolicyVerb::DropRole),
     Verb::Whoami,
-    Verb::AddUser,
-    Verb::DelUser,
-    Verb::AddRole,
-    Verb::DelRole,
-    Verb::Assign,
-    Verb::Deassign,
-    Verb::Grant,
-    Verb::Revoke,
-    Verb::Inherit,
-    Verb::Uninherit,
-    Verb::Ssd,
-    Verb::Dsd,
-    Verb::UnSsd,
-    Verb::UnDsd,
-    Verb::Submit,
-    Verb::Cells,
-    Verb::Shapes,
-    Verb::Place,
-    Verb::Unplace,
-    Verb::Deck,
-    Verb::Run,
-    Verb::Cancel,
-    Verb::Status,
-    Verb::Markers,
-    Verb::Waive,
-    Verb::Sign,
-    Verb::Waivers,
-    Verb::Verdict,
+    Verb::Policy(PolicyVerb::AddUser),
+    Verb::Policy(PolicyVerb::DelUser),
+    Verb::Policy(PolicyVerb::AddRole),
+    Verb::Policy(PolicyVerb::DelRole),
+    Verb::Policy(PolicyVerb::Assign),
+    Verb::Policy(PolicyVerb::Deassign),
+    Verb::Policy(PolicyVerb::Grant),
+    Verb::Policy(PolicyVerb::Revoke),
+    Verb::Policy(PolicyVerb::Inherit),
+    Verb::Policy(PolicyVerb::Uninherit),
+    Verb::Policy(PolicyVerb::Ssd),
+    Verb::Policy(PolicyVerb::Dsd),
+    Verb::Policy(PolicyVerb::UnSsd),
+    Verb::Policy(PolicyVerb::UnDsd),
+    Verb::Layout(LayoutVerb::Submit),
+    Verb::Layout(LayoutVerb::Cells),
+    Verb::Layout(LayoutVerb::Shapes),
+    Verb::Wafer(WaferVerb::Place),
+    Verb::Wafer(WaferVerb::Unplace),
+    Verb::Wafer(WaferVerb::Deck),
+    Verb::Run(RunVerb::Run),
+    Verb::Run(RunVerb::Cancel),
+    Verb::Run(RunVerb::Status),
+    Verb::Run(RunVerb::Markers),
+    Verb::SignOff(SignOffVerb::Waive),
+    Verb::SignOff(SignOffVerb::Sign),
+    Verb::SignOff(SignOffVerb::Waivers),
+    Verb::SignOff(SignOffVerb::Verdict),
     Verb::Trail,
 ];
 
 /// A line without a payload.
-const fn line(word: &'static str, operands: &'static str, shape: Shape) -> Form
+pub(crate) const fn line(word: &'static str, operands: &'static str, shape: Shape) -> Form
     ensures word { result.word.now ≡ word.now }
     ensures rest { (result.shape ≡ shape) × (result.has_payload ≡ false) }
 {
@@ -130,7 +109,7 @@ const fn line(word: &'static str, operands: &'static str, shape: Shape) -> Form
 }
 
 /// A line with a payload.
-const fn upload(word: &'static str, operands: &'static str, shape: Shape) -> Form
+pub(crate) const fn upload(word: &'static str, operands: &'static str, shape: Shape) -> Form
     ensures word { result.word.now ≡ word.now }
     ensures rest { (result.shape ≡ shape) × (result.has_payload ≡ true) }
 {
@@ -150,39 +129,12 @@ pub const fn form_of(verb: Verb) -> Form
     ensures payload { result.has_payload ≡ has_payload verb }
 {
     match verb {
-        Verb::Open => line("open", " user token", Shape::Login),
-        Verb::Close => line("close", "", Shape::Alone),
-        Verb::Activate => line("activate", " role", Shape::Name),
-        Verb::DropRole => line("drop", " role", Shape::Name),
+        Verb::Policy(verb) => policy_form(verb),
         Verb::Whoami => line("whoami", "", Shape::Alone),
-        Verb::AddUser => line("adduser", " user token", Shape::Login),
-        Verb::DelUser => line("deluser", " user", Shape::Name),
-        Verb::AddRole => line("addrole", " role", Shape::Name),
-        Verb::DelRole => line("delrole", " role", Shape::Name),
-        Verb::Assign => line("assign", " user role", Shape::Pair),
-        Verb::Deassign => line("deassign", " user role", Shape::Pair),
-        Verb::Grant => line("grant", " operation object role", Shape::Grant),
-        Verb::Revoke => line("revoke", " operation object role", Shape::Grant),
-        Verb::Inherit => line("inherit", " senior junior", Shape::Pair),
-        Verb::Uninherit => line("uninherit", " senior junior", Shape::Pair),
-        Verb::Ssd => line("ssd", " name n role role ..", Shape::Set),
-        Verb::Dsd => line("dsd", " name n role role ..", Shape::Set),
-        Verb::UnSsd => line("unssd", " name", Shape::Name),
-        Verb::UnDsd => line("undsd", " name", Shape::Name),
-        Verb::Submit => upload("submit", " cell top length", Shape::Pair),
-        Verb::Cells => line("cells", "", Shape::Alone),
-        Verb::Shapes => line("shapes", " cell", Shape::Name),
-        Verb::Place => line("place", " cell label orientation x y", Shape::Placement),
-        Verb::Unplace => line("unplace", " cell label", Shape::Pair),
-        Verb::Deck => upload("deck", " length", Shape::Alone),
-        Verb::Run => line("run", "", Shape::Alone),
-        Verb::Cancel => line("cancel", "", Shape::Alone),
-        Verb::Status => line("status", "", Shape::Alone),
-        Verb::Markers => line("markers", "", Shape::Alone),
-        Verb::Waive => line("waive", " key", Shape::Key),
-        Verb::Sign => line("sign", " key", Shape::Key),
-        Verb::Waivers => line("waivers", "", Shape::Alone),
-        Verb::Verdict => line("verdict", "", Shape::Alone),
+        Verb::Layout(verb) => layout_form(verb),
+        Verb::Wafer(verb) => wafer_form(verb),
+        Verb::Run(verb) => run_form(verb),
+        Verb::SignOff(verb) => sign_off_form(verb),
         Verb::Trail => line("trail", "", Shape::Alone),
     }
 }
