@@ -30,7 +30,7 @@ use Rattle.mpw_waiver.specs.declared.waiver.Waiver.{Waiver}
 use Rattle.mpw_events.specs.declared.event.Event.{Event}
 use Rattle.mpw_events.specs.declared.event.Event.TheVariants as event
 use Rattle.mpw_events.specs.declared.event.Response.TheVariants as response
-use Rattle.mpw_events.specs.Step.{State, Outcome, guarded, no_change, not_kept_response, outcome_by, over_run, over_waivers, policy_row, whoami_row, outcome_of, row_outcome, event_outcome, settlement, step}
+use Rattle.mpw_events.specs.Step.{State, Outcome, ending_of, guarded, no_change, not_kept_response, outcome_by, over_policy, over_run, over_waivers, policy_row, whoami_row, outcome_of, row_outcome, event_outcome, settlement, step}
 use Rattle.mpw_denial_laws.specs.Blind.{MayNothing, DifferInLayouts, NothingIsToldOfLayouts}
 
 -- ---- two outcomes with the same response, that both are or aren't a change
@@ -117,7 +117,8 @@ module _ (has : EnteredHas) (a b : State) (connection : ℕ) (d : DifferInLayout
   row_alike (ask.Policy request) met =
       alike_by a b _ _ _ _ _ (ap (λ (p : Policy). policy_row p connection request) d.policy)
   row_alike ask.Whoami met =
-      alike_by a b _ _ _ _ _ (ap (λ (p : Policy). whoami_row p connection) d.policy)
+      alike_by a b ending_of (over_policy a) (over_policy b) (whoami_row a.policy connection)
+      (whoami_row b.policy connection) (ap (λ (p : Policy). whoami_row p connection) d.policy)
   row_alike (ask.Layout Cells) met =
       record { response = ap (λ ls. response.Told (reply.Ok ls)) cells_alike; changes = refl }
   row_alike (ask.Run run_ask.Status) met =

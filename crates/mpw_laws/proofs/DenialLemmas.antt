@@ -1,5 +1,5 @@
 -- A denial names what the connection's session lacks.
-use Rattle.std.proofs.Common.{◌≡◌, inl, inr, ℕ, Bool, List, [], Result, Err, false, ap, ◌∙◌}
+use Rattle.std.proofs.Common.{◌≡◌, inl, inr, ℕ, Bool, List, [], Result, Err, None, false, ap, ◌∙◌}
 use Rattle.mpw_geom.specs.Names.{contains_name}
 use Rattle.mpw_permissions.specs.declared.permission.Object.{Object}
 use Rattle.mpw_permissions.specs.declared.permission.Object.TheVariants.{Cell}
@@ -7,15 +7,14 @@ use Rattle.mpw_permissions.specs.declared.permission.Operation.{Operation}
 use Rattle.mpw_permissions.specs.declared.permission.Operation.TheVariants.{Use}
 use Rattle.mpw_rbac.specs.declared.refusal.Refusal.{Refusal}
 use Rattle.mpw_rbac.specs.declared.refusal.Refusal.TheVariants as refusal
-use Rattle.mpw_rbac_laws.specs.Laws.{DeniesRightly}
-use Rattle.mpw_rbac.specs.Policy.{Policy, authorized, permits}
+use Rattle.mpw_rbac.specs.Policy.{Policy, authorized, permits, session_of}
 use Rattle.mpw_rbac.specs.Rows as rows
 use Rattle.mpw_rbac_laws.proofs.DenialLemmas as law
 use Rattle.mpw_events.specs.declared.event.Event.TheVariants as event
 use Rattle.mpw_requests.specs.declared.request.Request.{Request}
 use Rattle.mpw_requests.specs.declared.request.Request.TheVariants as ask
 use Rattle.mpw_requests.specs.declared.policy.PolicyRequest.{PolicyRequest}
-use Rattle.mpw_requests.specs.declared.policy.PolicyRequest.TheVariants.{Open, Close, Activate, DropRole, AddUser, DelUser, AddRole, DelRole, Assign, Deassign, Grant, Revoke, Inherit, Uninherit, Ssd, Dsd, UnSsd, UnDsd}
+use Rattle.mpw_requests.specs.declared.policy.PolicyRequest.TheVariants.{Activate}
 use Rattle.mpw_requests.specs.Needs.{need_of}
 use Rattle.mpw_access.specs.Guard.{DeniedIsLacked}
 use Rattle.mpw_layouts.specs.declared.ending.LayoutEnding.{LayoutEnding}
@@ -25,7 +24,7 @@ use Rattle.mpw_signoff.specs.declared.ending.SignOffEnding.{SignOffEnding}
 use Rattle.mpw_signoff.specs.declared.ending.SignOffEnding.TheVariants as sign_off
 use Rattle.mpw_signoff.specs.SigningOff as signing
 use Rattle.mpw_events.specs.PolicyRows.{row_of}
-use Rattle.mpw_replies.proofs.RowParts.{changing_ended, listing_ended}
+use Rattle.mpw_replies.proofs.RowParts.{changing_ended}
 use Rattle.mpw_replies.specs.Rows.{denied}
 use Rattle.mpw_replies.specs.declared.reply.Denial.{Denial}
 use Rattle.mpw_replies.specs.declared.reply.Denial.TheVariants as denial
@@ -33,71 +32,49 @@ use Rattle.mpw_replies.specs.declared.reply.Reply.TheVariants as reply
 use Rattle.mpw_replies.specs.declared.row.Done.{Done}
 use Rattle.mpw_replies.specs.declared.row.Ending.TheVariants as ending
 use Rattle.mpw_events.specs.declared.event.Response.TheVariants as response
-use Rattle.mpw_events.proofs.OutcomeLemmas.{denied_by}
-use Rattle.mpw_events.specs.Step.{State, ending_of, outcome_by, over_policy, over_shelf, over_wafer, over_run, over_waivers, policy_row, whoami_row, row_outcome, response_of}
+use Rattle.mpw_events.proofs.OutcomeLemmas.{ended_at}
+use Rattle.mpw_events.specs.Step.{State, ending_of, outcome_by, over_policy, over_shelf, over_wafer, over_run, over_waivers, policy_row, row_outcome, response_of}
 use Rattle.mpw_laws.specs.LayoutLaws.{LayoutsDenyWhatIsLacked}
-use Rattle.mpw_laws.proofs.GuardLemmas.{guarded_denied, table_denied}
+use Rattle.mpw_laws.proofs.GuardLemmas.{guarded_ended, table_ended}
 
--- the refusal that a denial shows
+-- the refusal that a denial of the policy's tables shows
 abbrev pub told_of : Denial → Refusal
-told_of (denial.Permission operation object) = refusal.NotPermitted operation object
 told_of (denial.Activation role) = refusal.NotAuthorized role
 told_of (denial.Ssd name) = refusal.Ssd name
 told_of (denial.Dsd name) = refusal.Dsd name
-told_of denial.Login = refusal.Login
-told_of _ = refusal.NoSession
+told_of _ = refusal.Login
 
 told_by : (r : Refusal) (w : Denial) → ending_of r ≡ ending.Denied w → r ≡ told_of w
-told_by (refusal.NotPermitted operation object) w e =
-    ap told_of (let same : denial.Permission operation object ≡ w = cc in same)
 told_by (refusal.NotAuthorized role) w e =
     ap told_of (let same : denial.Activation role ≡ w = cc in same)
 told_by (refusal.Ssd name) w e = ap told_of (let same : denial.Ssd name ≡ w = cc in same)
 told_by (refusal.Dsd name) w e = ap told_of (let same : denial.Dsd name ≡ w = cc in same)
 told_by refusal.Login w e = ap told_of (let same : denial.Login ≡ w = cc in same)
-told_by refusal.NoSession w e = ap told_of (let same : denial.Session ≡ w = cc in same)
-told_by refusal.Opened w e = absurd cc
-told_by refusal.Unknown w e = absurd cc
-told_by refusal.Loop w e = absurd cc
-told_by refusal.Known w e = absurd cc
-told_by refusal.Used w e = absurd cc
-told_by refusal.Full w e = absurd cc
+told_by _ w e = absurd cc
 
 -- a denial by a decision table of the policy is its refusal
-pub refused-row : (s : State) (row : Result (Done Policy) Refusal) (w : Denial)
-    → (outcome_by ending_of (over_policy s) s row).response ≡ response.Told (reply.Denied w)
-    → row ≡ Err (told_of w)
-refused-row s row w e =
-    let d = denied_by ending_of (over_policy s) s row w e in
-    d.1.0 ∙ ap (λ r. Err r) (told_by d.0 w d.1.1)
-
 pub denied-row : (s : State) (connection : ℕ) (request : PolicyRequest) (w : Denial)
     → (row_outcome s connection (ask.Policy request)).response ≡ response.Told (reply.Denied w)
     → row_of s.policy connection request ≡ Err (told_of w)
 denied-row s connection request w e =
+    let d = ended_at ending_of (over_policy s) s (policy_row s.policy connection request)
+    (ending.Denied w) e in
     changing_ended _ (λ next. []) (row_of s.policy connection request) (told_of w)
-    (refused-row s (policy_row s.policy connection request) w e)
+    (d.1.0 ∙ ap (λ r. Err r) (told_by d.0 w d.1.1))
 
-lacks-row : (connection : ℕ) (request : PolicyRequest)
-    → DeniesRightly connection (λ p. row_of p connection request)
-lacks-row connection (Open user digest) = law.denies-open_session connection user digest
-lacks-row connection Close = law.denies-close_session connection
-lacks-row connection (Activate role) = law.denies-activation connection role
-lacks-row connection (DropRole role) = law.denies-drop_role connection role
-lacks-row connection (AddUser user digest) = law.denies-adduser connection user digest
-lacks-row connection (AddRole role) = law.denies-addrole connection role
-lacks-row connection (Assign user role) = law.denies-assign connection user role
-lacks-row connection (Grant grant) = law.denies-grant connection grant
-lacks-row connection (Revoke grant) = law.denies-revoke connection grant
-lacks-row connection (DelUser user) = law.denies-deluser connection user
-lacks-row connection (DelRole role) = law.denies-delrole connection role
-lacks-row connection (Deassign user role) = law.denies-deassign connection user role
-lacks-row connection (Inherit senior junior) = law.denies-inherit connection senior junior
-lacks-row connection (Uninherit senior junior) = law.denies-uninherit connection senior junior
-lacks-row connection (Ssd set) = law.denies-ssd connection set
-lacks-row connection (Dsd set) = law.denies-dsd connection set
-lacks-row connection (UnSsd name) = law.denies-unssd connection name
-lacks-row connection (UnDsd name) = law.denies-undsd connection name
+-- no table of the policy denies a permission
+policy-allows : (why : Refusal) (operation : Operation) (object : Object)
+    → ending_of why ≡ denied operation object → ⊥
+policy-allows refusal.Login operation object e = cc
+policy-allows _ operation object e = cc
+
+pub allows-row : (s : State) (connection : ℕ) (request : PolicyRequest) (operation : Operation)
+    (object : Object) → (row_outcome s connection (ask.Policy request)).response ≡ response.Told
+    (reply.Denied (denial.Permission operation object)) → ⊥
+allows-row s connection request operation object e =
+    let d = ended_at ending_of (over_policy s) s (policy_row s.policy connection request)
+    (denied operation object) e in
+    policy-allows d.0 operation object d.1.1
 
 -- no table of the sign-off denies a permission
 sign_off-allows : (why : SignOffEnding) (operation : Operation) (object : Object)
@@ -106,21 +83,62 @@ sign_off-allows (sign_off.Refused code) operation object e = cc
 sign_off-allows (sign_off.Submitter cell) operation object e = cc
 sign_off-allows sign_off.Asker operation object e = cc
 
+-- no decision table denies a session
+policy-inside : (why : Refusal) → ending_of why ≡ ending.Denied denial.Session → ⊥
+policy-inside refusal.Login e = cc
+policy-inside _ e = cc
+
+layouts-inside : (why : LayoutEnding) → layouts.ending_of why ≡ ending.Denied denial.Session → ⊥
+layouts-inside (layout.Refused code) e = cc
+layouts-inside (layout.Unusable cell) e = cc
+
+sign_off-inside : (why : SignOffEnding) → signing.ending_of why ≡ ending.Denied denial.Session → ⊥
+sign_off-inside (sign_off.Refused code) e = cc
+sign_off-inside (sign_off.Submitter cell) e = cc
+sign_off-inside sign_off.Asker e = cc
+
+inside-row : (s : State) (connection : ℕ) (request : Request)
+    → (row_outcome s connection request).response ≡ response.Told (reply.Denied denial.Session) → ⊥
+inside-row s connection (ask.Policy request) e =
+    let d = ended_at ending_of (over_policy s) s (policy_row s.policy connection request)
+    (ending.Denied denial.Session) e in
+    policy-inside d.0 d.1.1
+inside-row s connection (ask.Layout request) e =
+    let d = ended_at layouts.ending_of (over_shelf s) s _ (ending.Denied denial.Session) e in
+    layouts-inside d.0 d.1.1
+inside-row s connection (ask.Wafer request) e =
+    let d = ended_at ending.Refused (over_wafer s) s _ (ending.Denied denial.Session) e in
+    let h = d.1.1 in
+    cc
+inside-row s connection (ask.Run request) e =
+    let d = ended_at ending.Refused (over_run s) s _ (ending.Denied denial.Session) e in
+    let h = d.1.1 in
+    cc
+inside-row s connection (ask.SignOff request) e =
+    let d = ended_at signing.ending_of (over_waivers s) s _ (ending.Denied denial.Session) e in
+    sign_off-inside d.0 d.1.1
+inside-row s connection _ e = cc
+
+pub lacks-session : DeniedIsLacked → (s : State) (connection : ℕ) (request : Request) (kept : Bool)
+    → response_of s (event.Ask connection request) kept ≡ response.Told
+    (reply.Denied denial.Session)
+    → session_of s.policy connection ≡ None
+lacks-session lacked s connection request kept e =
+    elim (guarded_ended s connection request kept (ending.Denied denial.Session) (λ is. cc) e) [
+      | inl g ↦ lacked s.policy connection (need_of request) (ending.Denied denial.Session) g
+      | inr r ↦ absurd (inside-row s connection request r)
+    ]
+
 module _ (lacked : DeniedIsLacked) (shelves : LayoutsDenyWhatIsLacked) where
   lacks-request : (s : State) (connection : ℕ) (request : Request) (operation : Operation)
       (object : Object) → (row_outcome s connection request).response ≡ response.Told
       (reply.Denied (denial.Permission operation object))
       → permits s.policy connection operation object ≡ false
   lacks-request s connection (ask.Policy request) operation object e =
-      lacks-row connection request s.policy operation object
-      (denied-row s connection request (denial.Permission operation object) e)
-  lacks-request s connection ask.Whoami operation object e =
-      absurd (law.denies-whoami s.policy connection operation object
-      (listing_ended _ (rows.whoami s.policy connection) (refusal.NotPermitted operation object)
-      (refused-row s (whoami_row s.policy connection) (denial.Permission operation object) e)))
+      absurd (allows-row s connection request operation object e)
+  lacks-request s connection ask.Whoami operation object e = absurd cc
   lacks-request s connection (ask.Layout request) operation object e =
-      let d = denied_by layouts.ending_of (over_shelf s) s _ (denial.Permission operation object)
-      e in
+      let d = ended_at layouts.ending_of (over_shelf s) s _ (denied operation object) e in
       go d.0 d.1.0 d.1.1
     where
       go : (why : LayoutEnding) → layouts.row_of s.policy s.shelf connection request ≡ Err why
@@ -132,14 +150,13 @@ module _ (lacked : DeniedIsLacked) (shelves : LayoutsDenyWhatIsLacked) where
           let ob : Cell cell ≡ object = cc in
           rw (← op, ← ob) (shelves s.policy s.shelf connection request cell is)
   lacks-request s connection (ask.Wafer request) operation object e =
-      let d = denied_by ending.Refused (over_wafer s) s _ (denial.Permission operation object) e in
+      let d = ended_at ending.Refused (over_wafer s) s _ (denied operation object) e in
       absurd (let h = d.1.1 in cc)
   lacks-request s connection (ask.Run request) operation object e =
-      let d = denied_by ending.Refused (over_run s) s _ (denial.Permission operation object) e in
+      let d = ended_at ending.Refused (over_run s) s _ (denied operation object) e in
       absurd (let h = d.1.1 in cc)
   lacks-request s connection (ask.SignOff request) operation object e =
-      let d = denied_by signing.ending_of (over_waivers s) s _
-      (denial.Permission operation object) e in
+      let d = ended_at signing.ending_of (over_waivers s) s _ (denied operation object) e in
       absurd (sign_off-allows d.0 operation object d.1.1)
   lacks-request s connection ask.Trail operation object e = absurd cc
 
@@ -149,7 +166,7 @@ module _ (lacked : DeniedIsLacked) (shelves : LayoutsDenyWhatIsLacked) where
       (reply.Denied (denial.Permission operation object))
       → permits s.policy connection operation object ≡ false
   lacks-permission s connection request kept operation object e =
-      elim (guarded_denied s connection request kept (denial.Permission operation object) e) [
+      elim (guarded_ended s connection request kept (denied operation object) (λ is. cc) e) [
         | inl g ↦ (lacked s.policy connection (need_of request) (denied operation object) g).1
         | inr r ↦ lacks-request s connection request operation object r
       ]
@@ -161,5 +178,6 @@ module _ (lacked : DeniedIsLacked) (shelves : LayoutsDenyWhatIsLacked) where
       role ≡ false)
   lacks-role s connection role other kept e =
       law.denies-activate s.policy connection role other
-      (denied-row s connection (Activate role) (denial.Activation other) (table_denied lacked s
-      connection (ask.Policy (Activate role)) kept (denial.Activation other) (λ no. no) e))
+      (denied-row s connection (Activate role) (denial.Activation other) (table_ended lacked s
+      connection (ask.Policy (Activate role)) kept (ending.Denied (denial.Activation other))
+      (λ is. cc) (λ no. no) e))

@@ -15,6 +15,7 @@ pub mod Keeping
 pub mod KeptLemmas
 pub mod LayoutDenials
 pub mod Listed
+pub mod LoginLemmas
 pub mod Naming
 pub mod OwnCells
 pub mod PlaceLemmas
@@ -32,7 +33,6 @@ pub mod Shown
 pub mod SignOffDenials
 pub mod SignOffReadable
 pub mod Signed
-pub mod SoundLemmas
 pub mod Staying
 pub mod Tests
 pub mod TileLemmas

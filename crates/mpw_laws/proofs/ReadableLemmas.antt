@@ -30,10 +30,10 @@ use Rattle.mpw_replies.specs.declared.row.Ending.TheVariants as ending
 use Rattle.mpw_events.specs.declared.event.Event.TheVariants as event
 use Rattle.mpw_events.specs.declared.event.Response.TheVariants as response
 use Rattle.mpw_events.specs.PolicyRows.{row_of}
-use Rattle.mpw_events.specs.Step.{State, identity_lines, policy_row, whoami_row, row_outcome, response_of}
+use Rattle.mpw_events.specs.Step.{State, ending_of, identity_lines, over_policy, policy_row, whoami_row, row_outcome, response_of}
 use Rattle.mpw_laws.proofs.AcceptedLemmas.{accepted}
 use Rattle.mpw_laws.proofs.GuardLemmas.{guarded_ok}
-use Rattle.mpw_laws.proofs.RowParts.{if_ok, if_listed, if_changed}
+use Rattle.mpw_laws.proofs.RowParts.{if_changed}
 
 module _ (policy : Policy) (connection : ℕ) where
   abbrev Readable : List Listed → Type 0
@@ -66,9 +66,7 @@ module _ (policy : Policy) (connection : ℕ) where
       All-cons (IsOfReadable policy connection) (stored (User who.user)) _ tt rest
 
   of_whoami : IfOk (whoami_row policy connection) (λ done. Readable (lines_of done))
-  of_whoami =
-      let row = rows.whoami policy connection in
-      if_listed _ _ row (if_ok _ row (λ who is. of_identity who))
+  of_whoami = of_identity (rows.whoami policy connection)
 
   -- the reply to a request of the wafer has a version, or nothing
   of_version : (version : Option ℕ) → Readable (map stored (wafers.version_lines version))
@@ -103,7 +101,8 @@ module _ (layouts_are : LayoutsAreOfReadable) (markers_are : MarkersAreOfReadabl
   of_row s connection (ask.Policy request) lines e =
       accepted _ _ s _ (Readable s.policy connection) lines (of_policy s.policy connection request) e
   of_row s connection ask.Whoami lines e =
-      accepted _ _ s _ (Readable s.policy connection) lines (of_whoami s.policy connection) e
+      accepted ending_of (over_policy s) s (whoami_row s.policy connection)
+      (Readable s.policy connection) lines (of_whoami s.policy connection) e
   of_row s connection (ask.Layout request) lines e =
       accepted _ _ s _ (Readable s.policy connection) lines
       (layouts_are s.policy s.shelf connection request) e

@@ -120,7 +120,7 @@ module _
         → Fit (row_outcome s connection request).state
     waived-row s connection (ask.Policy request) fit =
         holds-row Fit _ _ s _ fit (λ policy lines is. fit)
-    waived-row s connection ask.Whoami fit = holds-row Fit _ _ s _ fit (λ policy lines is. fit)
+    waived-row s connection ask.Whoami fit = fit
     waived-row s connection (ask.Layout request) fit =
         holds-row Fit _ _ s _ fit (λ shelf lines is. fit)
     waived-row s connection (ask.Wafer request) fit =

@@ -60,19 +60,23 @@ use crate::sign_off::{
 use mpw_access::entering_is_by_the_need;
 use mpw_rbac_laws::{
     denied_only_for_the_least_broken_set, each_request_keeps_the_tables,
-    own_requests_need_no_permission, sets_are_told_where_they_are_tested,
+    sets_are_told_where_they_are_tested,
 };
 
 /// In every state that calls lead to, the user of each session is authorized for each of its active roles.
 pub fn every_state_keeps_authorization()
     ensures { (officer digest : List ℕ) (calls : List Call) → active_authorized (state_after (new_state officer digest) calls).policy ≡ true }
-{}
+{
+    every_state_keeps_separation();
+}
 
 /// In every state that calls lead to, the policy is sound: every active role is authorized, the static sets hold for every user, and the
 /// dynamic ones for every session.
 pub fn every_state_keeps_separation()
     ensures { (officer digest : List ℕ) (calls : List Call) → Sound (state_after (new_state officer digest) calls).policy }
-{}
+{
+    every_state_keeps_its_tables();
+}
 
 /// A login with an unknown user and one with a wrong token are denied in the same way.
 pub fn unknown_users_are_denied_like_wrong_tokens()
@@ -125,9 +129,10 @@ pub fn lines_are_of_readable_cells()
     lines_of_the_sign_off_are_of_readable_cells();
 }
 
-/// Whatever the request, if a permission is denied, the connection's session lacks it. A denied activation names the requested role, for
-/// which the session's user is not authorized.
+/// Whatever the request, if a session is denied, the connection has none, and if a permission is denied, its session lacks it. A denied
+/// activation names the requested role, for which the session's user is not authorized.
 pub fn denials_name_what_the_session_lacks()
+    ensures session { (state : State) (connection : ℕ) (request : AnyRequest) (kept : Bool) → response_of state (event.Ask connection request) kept ≡ response.Told (Reply.Denied denial.Session) → session_of state.policy connection ≡ None }
     ensures permission { (state : State) (connection : ℕ) (request : AnyRequest) (kept : Bool) (operation : Operation) (object : Object) →
         response_of state (event.Ask connection request) kept ≡ response.Told (Reply.Denied (denial.Permission operation object)) →
         permits state.policy connection operation object ≡ false }
@@ -142,6 +147,7 @@ pub fn denials_name_what_the_session_lacks()
 pub fn every_state_keeps_its_tables()
     ensures { (officer digest : List ℕ) (calls : List Call) → AreTablesSound (state_after (new_state officer digest) calls).policy }
 {
+    entering_is_by_the_need();
     each_request_keeps_the_tables();
 }
 
@@ -170,7 +176,15 @@ pub fn own_requests_are_never_denied_a_permission()
         response_of state (event.Ask connection (ask.Policy request)) kept ≡ response.Told (Reply.Denied (denial.Permission operation object)) → ⊥ }
 {
     entering_is_by_the_need();
-    own_requests_need_no_permission();
+}
+
+/// Only `open` is answered `DENIED login`. Of the requests that change the policy, only `open` is refused because the connection has a
+/// session already (code 30).
+pub fn only_open_is_answered_for_a_login()
+    ensures login { (state : State) (connection : ℕ) (request : AnyRequest) (kept : Bool) → response_of state (event.Ask connection request) kept ≡ response.Told (Reply.Denied denial.Login) → (user : List ℕ) × (digest : List ℕ) × (request ≡ ask.Policy (Request.Open user digest)) }
+    ensures opened { (state : State) (connection : ℕ) (request : AnyPolicyRequest) (kept : Bool) → response_of state (event.Ask connection (ask.Policy request)) kept ≡ response.Told (Reply.Refused code.Opened) → (user : List ℕ) × (digest : List ℕ) × (request ≡ Request.Open user digest) }
+{
+    entering_is_by_the_need();
 }
 
 /// The trail after an event is that before it, and after a request one more entry: its user, and the first line of its reply. So it has

@@ -279,8 +279,7 @@ asked_does s connection (ask.Policy request) r kept told =
     left_alone s connection (ask.Policy request) r kept refl refl
     (holds-row (RunStays s) _ _ s _ refl (λ policy lines is. refl))
 asked_does s connection ask.Whoami r kept told =
-    left_alone s connection ask.Whoami r kept refl refl
-    (holds-row (RunStays s) _ _ s _ refl (λ policy lines is. refl))
+    left_alone s connection ask.Whoami r kept refl refl refl
 asked_does s connection (ask.Layout request) r kept told =
     left_alone s connection (ask.Layout request) r kept refl refl
     (holds-row (RunStays s) _ _ s _ refl (λ shelf lines is. refl))
