@@ -1,5 +1,6 @@
--- The requests of the policy: each with its tests in order, and the policy after it if all pass.
-use Rattle.std.specs.Prelude.{◌≡◌, ℕ, Bool, true, false, not, ◌&&◌, ◌||◌, ◌==◌, List, [], ◌∷◌, ◌++◌, length, map, filter, nat_lt, Result, Err, is_some, is_none, Option, None, Some}
+-- The requests of the policy: each with its tests in order, and the policy after it if all pass. A session and a permission are
+-- tested before them, by the guard of the desk.
+use Rattle.std.specs.Prelude.{◌≡◌, ℕ, Bool, true, false, not, ◌&&◌, ◌||◌, ◌==◌, List, [], ◌∷◌, ◌++◌, length, map, filter, nat_lt, Result, Err, is_none, Option, None, Some}
 use Rattle.std.specs.List.{list_any, list_all}
 use Rattle.std.specs.Option.{option_map_or}
 use Rattle.std.specs.Cmp.Lexicographic.{pointwise}
@@ -8,43 +9,22 @@ use Rattle.mpw_geom.specs.Names.{name_eq, contains_name, without_name}
 use Rattle.mpw_roles.specs.Decided.{decided}
 use Rattle.mpw_roles.specs.Hierarchy.{Name, max_roles, is_role, is_immediate, with_role, without_role, with_pair, without_pair}
 use Rattle.mpw_roles.specs.Order.{at_least}
-use Rattle.mpw_permissions.specs.declared.permission.Operation.{Operation}
-use Rattle.mpw_permissions.specs.declared.permission.Operation.TheVariants.{Admin}
-use Rattle.mpw_permissions.specs.declared.permission.Object.{Object}
-use Rattle.mpw_permissions.specs.declared.permission.Object.TheVariants.{Desk}
 use Rattle.mpw_permissions.specs.declared.permission.Grant.{Grant}
 use Rattle.mpw_rbac.specs.declared.session.User.{User}
 use Rattle.mpw_rbac.specs.declared.session.Session.{Session}
 use Rattle.mpw_rbac.specs.declared.refusal.Refusal.{Refusal}
-use Rattle.mpw_rbac.specs.declared.refusal.Refusal.TheVariants.{Opened, Login, NoSession, NotPermitted, NotAuthorized, Ssd, Dsd, Unknown, Known, Full, Used, Loop}
+use Rattle.mpw_rbac.specs.declared.refusal.Refusal.TheVariants.{Opened, Login, NotAuthorized, Ssd, Dsd, Unknown, Known, Full, Used, Loop}
 use Rattle.mpw_permissions.specs.Grant.{grant_eq, ungranted}
 use Rattle.mpw_rbac.specs.declared.session.Identity.{Identity}
 use Rattle.mpw_rbac.specs.declared.refusal.PolicyFault.{PolicyFault}
 use Rattle.mpw_rbac.specs.declared.refusal.PolicyFault.TheVariants.{Refused, Memory}
-use Rattle.mpw_rbac.specs.Policy.{Policy, max_users, max_grants, identity_of, is_user, assigned_roles, authorized, session_of, permits, trim, assigned_lists, active_lists}
+use Rattle.mpw_rbac.specs.Policy.{Policy, max_users, max_grants, identity_of, is_user, assigned_roles, authorized, session_of, trim, assigned_lists, active_lists}
 use Rattle.mpw_separation.specs.Set.{SeparationSet}
 use Rattle.mpw_separation.specs.Separation.{max_sets, least_broken, has_set, without_set, uses_role}
 use Rattle.mpw_rbac.specs.Table.{value_at, with_value, without_key}
 
 abbrev pub Test : Type 0
 Test = Bool × Refusal
-
--- the connection has a session
-abbrev pub in_session : Policy → ℕ → Test
-in_session policy connection = (is_some (session_of policy connection), NoSession)
-
--- the session may do the operation
-abbrev pub is_permitted : Policy → ℕ → Operation → Object → Test
-is_permitted policy connection operation object =
-    (permits policy connection operation object, NotPermitted operation object)
-
-abbrev pub administers : Policy → ℕ → Test
-administers policy connection = is_permitted policy connection Admin Desk
-
--- the tests that every administrative request begins with
-abbrev pub administered : Policy → ℕ → Result Policy Refusal
-administered policy connection =
-    decided (in_session policy connection ∷ administers policy connection ∷ []) policy
 
 -- a fault is out of memory, or the refusal of the decision table
 abbrev pub IsFaultOf : {A : Type 0} → Result A Refusal → PolicyFault → Type 0
@@ -90,11 +70,6 @@ end_session policy connection =
 abbrev pub end_sessions : Policy → Policy
 end_sessions policy = record policy { sessions = [] }
 
--- delete_session
-abbrev pub close_session : Policy → ℕ → Result Policy Refusal
-close_session policy connection =
-    decided (in_session policy connection ∷ []) (end_session policy connection)
-
 -- the user of a connection's session, and its active roles; none of them if it has no session
 abbrev pub user_of : Policy → ℕ → Name
 user_of policy connection =
@@ -117,8 +92,7 @@ abbrev pub activate : Policy → ℕ → Name → Result Policy Refusal
 activate policy connection role =
     let next = with_active policy connection (active_roles policy connection ++ role ∷ []) in
     decided
-    (in_session policy connection
-    ∷ (contains_name (authorized policy (user_of policy connection)) role, NotAuthorized role)
+    ((contains_name (authorized policy (user_of policy connection)) role, NotAuthorized role)
     ∷ (not (contains_name (active_roles policy connection) role), Known)
     ∷ dsd_holds next
     ∷ [])
@@ -128,45 +102,38 @@ activate policy connection role =
 abbrev pub drop_role : Policy → ℕ → Name → Result Policy Refusal
 drop_role policy connection role =
     decided
-    (in_session policy connection
-    ∷ (contains_name (active_roles policy connection) role, Unknown) ∷ [])
+    ((contains_name (active_roles policy connection) role, Unknown) ∷ [])
     (with_active policy connection (without_name (active_roles policy connection) role))
 
 -- what `whoami` shows of the session
-abbrev pub whoami : Policy → ℕ → Result Identity Refusal
+abbrev pub whoami : Policy → ℕ → Identity
 whoami policy connection =
-    decided (in_session policy connection ∷ [])
-    (identity_of policy (record {
+    identity_of policy (record {
       user = user_of policy connection;
       active = active_roles policy connection;
-    }))
+    })
 
 -- add_user, without assigned roles
-abbrev pub adduser : Policy → ℕ → Name → List ℕ → Result Policy Refusal
-adduser policy connection user digest =
+abbrev pub adduser : Policy → Name → List ℕ → Result Policy Refusal
+adduser policy user digest =
     decided
-    (in_session policy connection
-    ∷ administers policy connection
-    ∷ (not (is_user policy user), Known)
+    ((not (is_user policy user), Known)
     ∷ (nat_lt (length policy.users) max_users, Full)
     ∷ [])
     (record policy { users = policy.users ++ (user, record { digest = digest; roles = [] }) ∷ [] })
 
 -- delete_user: the user's sessions end
-abbrev pub deluser : Policy → ℕ → Name → Result Policy Refusal
-deluser policy connection user =
+abbrev pub deluser : Policy → Name → Result Policy Refusal
+deluser policy user =
     decided
-    (in_session policy connection ∷ administers policy connection
-    ∷ (is_user policy user, Unknown) ∷ [])
+    ((is_user policy user, Unknown) ∷ [])
     (trim (record policy { users = without_key name_eq policy.users user }))
 
 -- add_role
-abbrev pub addrole : Policy → ℕ → Name → Result Policy Refusal
-addrole policy connection role =
+abbrev pub addrole : Policy → Name → Result Policy Refusal
+addrole policy role =
     decided
-    (in_session policy connection
-    ∷ administers policy connection
-    ∷ (not (is_role policy.roles role), Known)
+    ((not (is_role policy.roles role), Known)
     ∷ (nat_lt (length policy.roles) max_roles, Full)
     ∷ [])
     (record policy { roles = with_role policy.roles role })
@@ -185,12 +152,10 @@ without_role_of policy role = record policy {
 }
 
 -- delete_role: a role that is in a set stays
-abbrev pub delrole : Policy → ℕ → Name → Result Policy Refusal
-delrole policy connection role =
+abbrev pub delrole : Policy → Name → Result Policy Refusal
+delrole policy role =
     decided
-    (in_session policy connection
-    ∷ administers policy connection
-    ∷ (is_role policy.roles role, Unknown)
+    ((is_role policy.roles role, Unknown)
     ∷ (not (uses_role policy.ssd role || uses_role policy.dsd role), Used)
     ∷ [])
     (trim (without_role_of policy role))
@@ -209,54 +174,46 @@ with_assigned policy user roles =
     }
 
 -- assign_user
-abbrev pub assign : Policy → ℕ → Name → Name → Result Policy Refusal
-assign policy connection user role =
+abbrev pub assign : Policy → Name → Name → Result Policy Refusal
+assign policy user role =
     let next = with_assigned policy user (assigned_roles policy user ++ role ∷ []) in
     decided
-    (in_session policy connection
-    ∷ administers policy connection
-    ∷ (is_user policy user && is_role policy.roles role, Unknown)
+    ((is_user policy user && is_role policy.roles role, Unknown)
     ∷ (not (contains_name (assigned_roles policy user) role), Known)
     ∷ ssd_holds next
     ∷ [])
     next
 
 -- deassign_user
-abbrev pub deassign : Policy → ℕ → Name → Name → Result Policy Refusal
-deassign policy connection user role =
+abbrev pub deassign : Policy → Name → Name → Result Policy Refusal
+deassign policy user role =
     decided
-    (in_session policy connection ∷ administers policy connection
-    ∷ (contains_name (assigned_roles policy user) role, Unknown) ∷ [])
+    ((contains_name (assigned_roles policy user) role, Unknown) ∷ [])
     (trim (with_assigned policy user (without_name (assigned_roles policy user) role)))
 
 -- grant_permission
-abbrev pub grant : Policy → ℕ → Grant → Result Policy Refusal
-grant policy connection new =
+abbrev pub grant : Policy → Grant → Result Policy Refusal
+grant policy new =
     decided
-    (in_session policy connection
-    ∷ administers policy connection
-    ∷ (is_role policy.roles new.role, Unknown)
+    ((is_role policy.roles new.role, Unknown)
     ∷ (not (list_any (grant_eq new) policy.granted), Known)
     ∷ (nat_lt (length policy.granted) max_grants, Full)
     ∷ [])
     (record policy { granted = policy.granted ++ new ∷ [] })
 
 -- revoke_permission
-abbrev pub revoke : Policy → ℕ → Grant → Result Policy Refusal
-revoke policy connection old =
+abbrev pub revoke : Policy → Grant → Result Policy Refusal
+revoke policy old =
     decided
-    (in_session policy connection ∷ administers policy connection
-    ∷ (list_any (grant_eq old) policy.granted, Unknown) ∷ [])
+    ((list_any (grant_eq old) policy.granted, Unknown) ∷ [])
     (record policy { granted = filter (λ other. not (grant_eq old other)) policy.granted })
 
 -- add_inheritance
-abbrev pub inherit : Policy → ℕ → Name → Name → Result Policy Refusal
-inherit policy connection senior junior =
+abbrev pub inherit : Policy → Name → Name → Result Policy Refusal
+inherit policy senior junior =
     let next = record policy { roles = with_pair policy.roles senior junior } in
     decided
-    (in_session policy connection
-    ∷ administers policy connection
-    ∷ (is_role policy.roles senior && is_role policy.roles junior, Unknown)
+    ((is_role policy.roles senior && is_role policy.roles junior, Unknown)
     ∷ (not (is_immediate policy.roles senior junior), Known)
     ∷ (not (at_least policy.roles junior senior), Loop)
     ∷ ssd_holds next
@@ -265,21 +222,18 @@ inherit policy connection senior junior =
     next
 
 -- delete_inheritance
-abbrev pub uninherit : Policy → ℕ → Name → Name → Result Policy Refusal
-uninherit policy connection senior junior =
+abbrev pub uninherit : Policy → Name → Name → Result Policy Refusal
+uninherit policy senior junior =
     decided
-    (in_session policy connection ∷ administers policy connection
-    ∷ (is_immediate policy.roles senior junior, Unknown) ∷ [])
+    ((is_immediate policy.roles senior junior, Unknown) ∷ [])
     (trim (record policy { roles = without_pair policy.roles senior junior }))
 
 -- create_ssd_set
-abbrev pub ssd : Policy → ℕ → SeparationSet → Result Policy Refusal
-ssd policy connection set =
+abbrev pub ssd : Policy → SeparationSet → Result Policy Refusal
+ssd policy set =
     let next = record policy { ssd = policy.ssd ++ set ∷ [] } in
     decided
-    (in_session policy connection
-    ∷ administers policy connection
-    ∷ (not (has_set policy.ssd set.name), Known)
+    ((not (has_set policy.ssd set.name), Known)
     ∷ (list_all (is_role policy.roles) set.roles, Unknown)
     ∷ ssd_holds next
     ∷ (nat_lt (length policy.ssd) max_sets, Full)
@@ -287,13 +241,11 @@ ssd policy connection set =
     next
 
 -- create_dsd_set
-abbrev pub dsd : Policy → ℕ → SeparationSet → Result Policy Refusal
-dsd policy connection set =
+abbrev pub dsd : Policy → SeparationSet → Result Policy Refusal
+dsd policy set =
     let next = record policy { dsd = policy.dsd ++ set ∷ [] } in
     decided
-    (in_session policy connection
-    ∷ administers policy connection
-    ∷ (not (has_set policy.dsd set.name), Known)
+    ((not (has_set policy.dsd set.name), Known)
     ∷ (list_all (is_role policy.roles) set.roles, Unknown)
     ∷ dsd_holds next
     ∷ (nat_lt (length policy.dsd) max_sets, Full)
@@ -301,17 +253,15 @@ dsd policy connection set =
     next
 
 -- delete_ssd_set
-abbrev pub unssd : Policy → ℕ → Name → Result Policy Refusal
-unssd policy connection name =
+abbrev pub unssd : Policy → Name → Result Policy Refusal
+unssd policy name =
     decided
-    (in_session policy connection ∷ administers policy connection
-    ∷ (has_set policy.ssd name, Unknown) ∷ [])
+    ((has_set policy.ssd name, Unknown) ∷ [])
     (record policy { ssd = without_set policy.ssd name })
 
 -- delete_dsd_set
-abbrev pub undsd : Policy → ℕ → Name → Result Policy Refusal
-undsd policy connection name =
+abbrev pub undsd : Policy → Name → Result Policy Refusal
+undsd policy name =
     decided
-    (in_session policy connection ∷ administers policy connection
-    ∷ (has_set policy.dsd name, Unknown) ∷ [])
+    ((has_set policy.dsd name, Unknown) ∷ [])
     (record policy { dsd = without_set policy.dsd name })
