@@ -199,9 +199,7 @@ row_outcome-fair : (s : State) (connection : ℕ) (request : Request)
 row_outcome-fair s connection (ask.Policy request) =
     changing-fair ending_of (over_policy s) s (λ next. next) (λ next. [])
     (row_of s.policy connection request) (policy-fair (row_of s.policy connection request))
-row_outcome-fair s connection ask.Whoami =
-    listing-fair ending_of (over_policy s) s _ (rows.whoami s.policy connection)
-    (policy-fair (rows.whoami s.policy connection))
+row_outcome-fair s connection ask.Whoami = tt
 row_outcome-fair s connection (ask.Layout request) = layout-fair s connection request
 row_outcome-fair s connection (ask.Wafer request) = wafer-fair s connection request
 row_outcome-fair s connection (ask.Run request) = run-fair s connection request

@@ -156,8 +156,6 @@ guarded-fair s connection n o fair =
 refused-fair : (r : Refusal) → IsFair (ending_of r)
 refused-fair refusal.Opened = tt
 refused-fair refusal.Login = tt
-refused-fair refusal.NoSession = tt
-refused-fair (refusal.NotPermitted op on) = tt
 refused-fair (refusal.NotAuthorized role) = tt
 refused-fair (refusal.Ssd name) = tt
 refused-fair (refusal.Dsd name) = tt

@@ -2,7 +2,6 @@
 use Rattle.std.proofs.Common.{◌≡◌, ◌∙◌, ℕ, Bool, true, false, ◌&&◌, not, List, [], map, Result, Ok, Err, refl, sym, ap}
 use Rattle.std.specs.Prelude.{if◌then◌else◌}
 use Rattle.std.proofs.lemmas.Bool.{true≢false}
-use Rattle.mpw_rbac.specs.Rows as rows
 use Rattle.mpw_layouts.specs.Layouts as layouts
 use Rattle.mpw_run.specs.Step.{findings}
 use Rattle.mpw_rbac.specs.declared.session.Identity.{Identity}
@@ -29,7 +28,7 @@ use Rattle.mpw_signoff.specs.declared.rows.WaiverChange.{WaiverChange}
 use Rattle.mpw_signoff.specs.declared.rows.WaiverChange.TheVariants.{Asked, Signed}
 use Rattle.mpw_events.specs.declared.event.Event.TheVariants as event
 use Rattle.mpw_events.specs.declared.event.Response.TheVariants as response
-use Rattle.mpw_events.specs.Step.{State, Outcome, ending_of, guarded, identity_lines, no_change, not_kept_response, outcome_by, over_policy, over_run, over_shelf, over_waivers, outcome_of, row_outcome, event_outcome, settlement, step, response_of, after}
+use Rattle.mpw_events.specs.Step.{State, Outcome, ending_of, guarded, identity_lines, no_change, not_kept_response, outcome_by, over_run, over_shelf, over_waivers, outcome_of, row_outcome, event_outcome, settlement, step, response_of, after}
 use Rattle.mpw_secrecy.specs.Questions.{is_of_view}
 use Rattle.mpw_listing_laws.proofs.Moving.{moved, entered_moved, whoami_moved, cells_moved, shapes_moved, markers_moved, waive_moved, sign_moved, waivers_moved}
 
@@ -87,11 +86,8 @@ row_moved : (here there : ℕ) (trail : List Entry) (s : State) (request : Reque
     → row_outcome (moved here there trail s) here request
     ≡ moved_outcome here there trail (row_outcome s there request)
 row_moved here there trail s ask.Whoami is =
-    list_moved ending_of (over_policy (moved here there trail s)) (over_policy s) lines here there
-    trail s _ (rows.whoami s.policy there) (ap (listing lines) (whoami_moved here there s.policy))
-  where
-    lines : Identity → List Listed
-    lines identity = map stored (identity_lines identity)
+    ap (λ (who : Identity). no_change (response.Told (reply.Ok (map stored (identity_lines who))))
+    (moved here there trail s)) (whoami_moved here there s.policy)
 row_moved here there trail s (ask.Layout layout.Cells) is =
     ap (λ lines. no_change (response.Told (reply.Ok lines)) (moved here there trail s))
     (cells_moved here there s.policy s.shelf)

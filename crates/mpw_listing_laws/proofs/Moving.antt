@@ -6,7 +6,6 @@ use Rattle.mpw_roles.specs.Hierarchy.{Name}
 use Rattle.mpw_hier.specs.declared.submission.Submission.{Submission}
 use Rattle.mpw_permissions.specs.declared.permission.Object.{Object}
 use Rattle.mpw_permissions.specs.declared.permission.Operation.{Operation}
-use Rattle.mpw_rbac.specs.declared.refusal.Refusal.{Refusal}
 use Rattle.mpw_rbac.specs.declared.session.Identity.{Identity}
 use Rattle.mpw_rbac.specs.declared.session.Session.{Session}
 use Rattle.mpw_rbac.specs.Policy.{Policy, permits, session_of}
@@ -30,7 +29,6 @@ use Rattle.mpw_hier.specs.Shelf.{present}
 use Rattle.mpw_hier.specs.Values.{flat}
 use Rattle.mpw_permissions.specs.declared.permission.Object.TheVariants as objects
 use Rattle.mpw_permissions.specs.declared.permission.Operation.TheVariants.{Read}
-use Rattle.mpw_rbac.specs.declared.refusal.Refusal.TheVariants.{NoSession}
 use Rattle.mpw_rbac.specs.Policy.{identity_of, session_permits}
 use Rattle.mpw_replies.specs.Listing.{stored, line_if}
 use Rattle.mpw_replies.specs.Rows.{◌>>=◌, denied, listing, needed}
@@ -197,21 +195,16 @@ entered_moved here there policy (need.Permission operation object) =
 
 -- ---- decision tables
 
-abbrev who : Policy → Bool → Name → List Name → Result Identity Refusal
-who policy inside user active =
-    let test : Bool × Refusal = (inside, NoSession) in
-    let session : Session = record { user = user; active = active } in
-    decided (test ∷ []) (identity_of policy session)
+abbrev who : Policy → Name → List Name → Identity
+who policy user active = identity_of policy (record { user = user; active = active })
 
 pub whoami_moved : (here there : ℕ) (policy : Policy)
     → rows.whoami (policy_at here there policy) here ≡ rows.whoami policy there
 whoami_moved here there policy =
-    ap (λ (b : Bool). who policy b (rows.user_of (policy_at here there policy) here)
-    (rows.active_roles (policy_at here there policy) here)) (inside_moved here there policy)
-    ∙ ap (λ (user : Name). who policy (is_some (session_of policy there)) user
-    (rows.active_roles (policy_at here there policy) here)) (user_moved here there policy)
-    ∙ ap (λ (active : List Name). who policy (is_some (session_of policy there))
-    (rows.user_of policy there) active) (active_moved here there policy)
+    ap (λ (user : Name). who policy user (rows.active_roles (policy_at here there policy) here))
+    (user_moved here there policy)
+    ∙ ap (λ (active : List Name). who policy (rows.user_of policy there) active)
+    (active_moved here there policy)
 
 pub cells_moved : (here there : ℕ) (policy : Policy) (shelf : List Submission)
     → layouts.cells (policy_at here there policy) shelf here ≡ layouts.cells policy shelf there

@@ -179,8 +179,7 @@ outcome_same : (s : State) (trail : List Noted) (connection : ℕ) (request : Re
 outcome_same s trail connection (ask.Policy request) =
     row_same s trail ending_of (over_policy s) (over_policy (stored_state s trail))
     (policy_row s.policy connection request) (λ part. refl)
-outcome_same s trail connection ask.Whoami =
-    listing_same s trail ending_of (over_policy s) _ (rows.whoami s.policy connection) _
+outcome_same s trail connection ask.Whoami = Same.stays refl refl
 outcome_same s trail connection (ask.Layout request) =
     row_same s trail layouts.ending_of (over_shelf s) (over_shelf (stored_state s trail))
     (layouts.row_of s.policy s.shelf connection request) (λ part. refl)

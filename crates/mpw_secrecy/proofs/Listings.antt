@@ -3,9 +3,6 @@ use Rattle.std.proofs.Common.{◌≡◌, ◌∙◌, ℕ, Bool, true, false, cond
 use Rattle.std.specs.Prelude.{◌&&◌, not, option_map}
 use Rattle.std.specs.Option.{option_map_or}
 use Rattle.mpw_hier.specs.Shelved.{PresentAreOfTheirCell}
-use Rattle.mpw_roles.specs.Decided.{decided}
-use Rattle.mpw_rbac.specs.declared.refusal.Refusal.{Refusal}
-use Rattle.mpw_rbac.specs.declared.refusal.Refusal.TheVariants as refusal
 use Rattle.mpw_rbac.specs.declared.session.Identity.{Identity}
 use Rattle.mpw_rbac.specs.declared.session.Session.{Session}
 use Rattle.mpw_rbac.specs.Policy.{Policy, identity_of, session_of}
@@ -33,13 +30,13 @@ use Rattle.mpw_wafer.specs.Run.Checking as checking
 use Rattle.mpw_run.specs.Step.{findings}
 use Rattle.mpw_events.specs.declared.event.Event.TheVariants as event
 use Rattle.mpw_events.specs.declared.event.Response.TheVariants as response
-use Rattle.mpw_events.specs.Step.{State, Outcome, after, ending_of, guarded, identity_lines, no_change, outcome_by, outcome_of, over_policy, over_run, over_shelf, over_waivers, row_outcome, settlement, step, not_kept_response, event_outcome, whoami_row}
+use Rattle.mpw_events.specs.Step.{State, Outcome, after, ending_of, guarded, identity_lines, no_change, outcome_by, outcome_of, over_policy, over_run, over_shelf, over_waivers, row_outcome, settlement, step, not_kept_response, event_outcome}
 use Rattle.mpw_secrecy.specs.Questions.{is_listing}
 use Rattle.mpw_secrecy.specs.Secrecy.{EqualViewsGiveEqualListings, ListingsLeaveTheViews, EqualViewsGiveEqualLists}
 use Rattle.mpw_secrecy.specs.Views.{SameView}
 use Rattle.mpw_secrecy.proofs.Books.{markers_alike, status_alike, waivers_alike}
 use Rattle.mpw_secrecy.proofs.Cells.{cells_alike, shapes_alike}
-use Rattle.mpw_secrecy.proofs.Parts.{same_entered}
+use Rattle.mpw_secrecy.proofs.Parts.{same_entered, same_session}
 
 -- outcomes with the same response and the same change or none, and the same view after them
 pub record SameOutcome (connection : ℕ) (a b : Outcome) : Type 0 where
@@ -105,25 +102,29 @@ of_lines how over other connection a b first second same e =
 
 -- ---- whoami
 
-abbrev whoami_told : Option Identity → Result Identity Refusal
-whoami_told None = Err refusal.NoSession
-whoami_told (Some who) = Ok who
+-- the identity of a session, or another one
+abbrev told_or : Identity → Option Identity → Identity
+told_or other None = other
+told_or other (Some who) = who
 
-whoami_at : (policy : Policy) (o : Option Session)
-    → decided ((is_some o, refusal.NoSession) ∷ [])
-    (identity_of policy (record {
+whoami_at : (policy : Policy) (other : Identity) (o : Option Session) → is_some o ≡ true
+    → identity_of policy (record {
       user = option_map_or (λ (s : Session). s.user) o [];
       active = option_map_or (λ (s : Session). s.active) o [];
-    }))
-    ≡ whoami_told (option_map (identity_of policy) o)
-whoami_at policy None = refl
-whoami_at policy (Some s) = refl
+    })
+    ≡ told_or other (option_map (identity_of policy) o)
+whoami_at policy other None has = cc has
+whoami_at policy other (Some s) has = refl
 
 same_whoami : (connection : ℕ) (a b : State) → SameView connection a b
-    → whoami_row a.policy connection ≡ whoami_row b.policy connection
-same_whoami connection a b same =
-    ap (listing (λ identity. map stored (identity_lines identity))) (whoami_at a.policy (session_of a.policy connection)
-    ∙ ap whoami_told same.identity ∙ sym (whoami_at b.policy (session_of b.policy connection)))
+    → is_some (session_of a.policy connection) ≡ true
+    → whoami a.policy connection ≡ whoami b.policy connection
+same_whoami connection a b same has =
+    let other = whoami b.policy connection in
+    whoami_at a.policy other (session_of a.policy connection) has
+    ∙ ap (told_or other) same.identity
+    ∙ sym (whoami_at b.policy other (session_of b.policy connection)
+    (sym (same_session connection a b same) ∙ has))
 
 -- ---- each listing
 
@@ -133,9 +134,10 @@ pub listed : PresentAreOfTheirCell → (connection : ℕ) (a b : State) (request
     → Has a.policy connection (need_of request)
     → SameOutcome connection (row_outcome a connection request) (row_outcome b connection request)
 listed presents connection a b ask.Whoami same is has =
-    of_row ending_of (over_policy a) (over_policy b) _ connection a b (whoami a.policy connection)
-    (whoami_row b.policy connection) same
-    (same_whoami connection a b same)
+    of_lines ending_of (over_policy a) (over_policy b) connection a b
+    (map stored (identity_lines (whoami a.policy connection)))
+    (map stored (identity_lines (whoami b.policy connection))) same
+    (ap (λ who. map stored (identity_lines who)) (same_whoami connection a b same has))
 listed presents connection a b (ask.Layout layout.Cells) same is has =
     of_lines layouts.ending_of (over_shelf a) (over_shelf b) connection a b
     (layouts.cells a.policy a.shelf connection)
