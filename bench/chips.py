@@ -77,7 +77,7 @@ class Ours:
         self.counts = [int(it) for it in re.findall(r', \w+ (\d+)', summary[2])]
         parts = re.search(r'times: read \d+ ms, \w+ (\d+) ms, check (\d+) ms, \w+ (\d+) ms', printed)
         self.checks = sum(map(int, parts.groups())) / 1000
-        self.estimated = int(re.search(r'MB of (\d+) MB', printed)[1])
+        self.estimated = int(re.search(r'MB of an estimated (\d+) MB', printed)[1])
         if self.megabytes > self.estimated:
             print(f'{command}: {self.megabytes:.0f} MB, and {self.estimated} estimated', file=sys.stderr)
 

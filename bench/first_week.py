@@ -248,7 +248,7 @@ def faults(folder, first, second, logo):
         yield "the report by KLayout", read, f"{len(places)} markers, w 0, s 0, p 0, e 0, faults of elements {len(places)}"
     _, listing, _ = folder.run("check", "--deck", "deck", "--top", "TOP", "plain.gds")
     status, printed, told = folder.run("check", "--deck", "deck", "--top", "TOP", "--skip-layers", logo, "faulty.gds")
-    left = f"note: faulty.gds: elements left out, on skipped layers: {len(places)}; the desk reads them, and refuses the file as it stands where one of them has a fault"
+    left = f"note: faulty.gds: elements left out, on skipped layers: {len(places)}; the desk reads them too, and refuses the file if one of them has a fault"
     yield "--skip-layers", (status, printed, left in told), (1, listing, True)
 
 

@@ -145,11 +145,11 @@ def has_times():
 
 
 LEFT_OUT = (
-    "note: two-bars.gds: elements left out, on skipped layers: 1; the desk reads them, and refuses the file as it stands where one of them has a"
+    "note: two-bars.gds: elements left out, on skipped layers: 1; the desk reads them too, and refuses the file if one of them has a"
     " fault"
 )
 SIZES = "a record has too much or too little data: polygons of more than 8191 points have to be split (gdspy: .fracture(max_points=8190))"
-MISPLACED = "a record stands where the format doesn't have it: export without what isn't geometry, as properties"
+MISPLACED = "the format has no such record at this place: export without what isn't geometry, as properties"
 SPLIT = (
     "an element's points stand in several XY records: export polygons and paths of at most 8191 points, each in one XY record (KLayout: switch off"
     " 'Multi-XY record mode for boundaries'; gdspy: .fracture(max_points=8190))"

@@ -13,7 +13,6 @@ import sys
 
 import golden
 import option_tables
-from plain_words import plain
 
 TOP = os.path.dirname(os.path.dirname(os.path.abspath(__file__)))
 PAGES = ("docs/requests.md", "docs/codes.md", "docs/commands.md", "CONTRIBUTING.md")
@@ -68,14 +67,14 @@ def table_of(title, entries):
 
 
 def rows_of(title, entries):
-    """A table of a page, in plain words."""
-    return "".join(f"{line}\n" for line in plain(table_of(title, entries)).split("\n")[3:-1])
+    """A table of a page."""
+    return "".join(f"{line}\n" for line in table_of(title, entries).split("\n")[3:-1])
 
 
 def statuses_of(entry):
     """The exit statuses of a command as a table."""
     found = re.findall(r"(\d+) (.*?)(?:; (?=\d)|$)", entry["statuses"])
-    return "| Status | What it means |\n|-|-|\n" + "".join(f"| {number} | {plain(text)} |\n" for number, text in found)
+    return "| Status | What it means |\n|-|-|\n" + "".join(f"| {number} | {text} |\n" for number, text in found)
 
 
 def free_numbers():

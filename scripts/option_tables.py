@@ -8,7 +8,6 @@ import os
 import re
 import sys
 
-from plain_words import plain
 
 TOP = os.path.dirname(os.path.dirname(os.path.abspath(__file__)))
 ASKED, SETTINGS, AUDITOR = "crates/mpw_asked/src", "crates/mpw_settings/src", "crates/mpw_auditor/src"
@@ -152,7 +151,7 @@ def options_of(command):
         found = options_in(SOURCES[command]) + list(FURTHER[command])
     else:
         found = [option for action in parser_of(command)._actions if (option := option_of_client(command, action))]
-    return [(form, default or DEFAULTS.get(command, {}).get(form.split(" ")[0], "none"), plain(meaning)) for form, default, meaning in found]
+    return [(form, default or DEFAULTS.get(command, {}).get(form.split(" ")[0], "none"), meaning.split("; by default ")[0]) for form, default, meaning in found]
 
 
 def names_of(command):

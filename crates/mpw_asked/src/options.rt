@@ -73,7 +73,7 @@ fn command<'a>(alloc: Global) -> Result<Command<'a>, AllocError> {
         alloc,
         "top",
         "STRUCTURE",
-        "The structure that is checked; without it the only one that no other places",
+        "The structure that is checked; by default the only one that no other structure places",
     );
     let file = Arg::new(alloc, "file")
         .value_name("FILE")

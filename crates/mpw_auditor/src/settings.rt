@@ -75,7 +75,7 @@ fn trail_command<'a>(alloc: Global) -> Result<Command<'a>, AllocError>
 fn store_command<'a>(alloc: Global) -> Result<Command<'a>, AllocError>
     ensures { IfOk result (HasForm store_app) }
 {
-    let about = "Tells whether a store is sound: mpw store check FILE";
+    let about = "Says whether a store is sound: mpw store check FILE";
     let command = new_command(alloc, "store", about);
     let task = word(alloc, "task", "check", "What is done");
     let file = word(alloc, "file", "FILE", "The file of the store");

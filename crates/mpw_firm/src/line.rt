@@ -2,7 +2,7 @@
 ghost use Rattle.std.specs.Prelude.{◌≡◌, ◌<◌, ◌≤◌, ◌+◌, ◌-◌, ◌*◌, ◌/◌};
 
 use crate::laps::{Lap, Laps};
-use crate::memory::{free_memory, has_room, peak, reckoned};
+use crate::memory::{estimated, free_memory, has_room, peak};
 use mpw_check::Progress;
 use mpw_tiles::Snapshot;
 use std::io::{self, IsTerminal};
@@ -116,9 +116,9 @@ impl<'a> Line<'a> {
 
     /// The most memory that the check of a layout is estimated to take, of whose markers so many are held, in MB of 2^20 bytes; none if the system
     /// doesn't say what reading took.
-    pub fn reckoned(&self, layout: &Snapshot, held: usize) -> Option<u64> {
+    pub fn estimated(&self, layout: &Snapshot, held: usize) -> Option<u64> {
         let read = self.read?;
-        Some(reckoned(layout, read, self.threads, held))
+        Some(estimated(layout, read, self.threads, held))
     }
 
     /// The milliseconds since the check began, if the clock can be read.

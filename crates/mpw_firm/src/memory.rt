@@ -111,7 +111,7 @@ fn for_layout(layout: &Snapshot) -> u64 {
 
 /// The most memory that a check is estimated to take, in MB of 2^20 bytes: what the process had after reading, what the layout takes in windows or
 /// in lists and boxes, what each of so many threads does, and the markers that are held. Shapes that lie over one another in great numbers take more.
-pub fn reckoned(layout: &Snapshot, read: u64, threads: usize, held: usize) -> u64 {
+pub fn estimated(layout: &Snapshot, read: u64, threads: usize, held: usize) -> u64 {
     let markers = (held as u64).saturating_mul(FOR_A_MARKER);
     let bytes = for_layout(layout).saturating_add(markers);
     let threads = (threads as u64).saturating_mul(FOR_A_THREAD);

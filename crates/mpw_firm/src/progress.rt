@@ -37,7 +37,7 @@ fn tell_taken(rt: &HostRuntime, taken: Option<u64>) -> io::Result<()> {
 }
 
 /// Ends a line with the memory that a check was estimated to take, if the system said what reading took.
-fn tell_reckoned(
+fn tell_estimate(
     rt: &HostRuntime,
     layout: &Snapshot,
     checked: &Checked<'_>,
@@ -48,8 +48,8 @@ fn tell_reckoned(
         Some(_) => checked.found.all,
         None => checked.found.markers().len(),
     };
-    if let Some(most) = line.reckoned(layout, held) {
-        eprint!(rt; " of {most} MB reckoned")?;
+    if let Some(most) = line.estimated(layout, held) {
+        eprint!(rt; " of an estimated {most} MB")?;
     }
     eprintln!(rt; "")
 }
@@ -92,7 +92,7 @@ pub fn tell_summary(
     tell_way(rt, layout)?;
     tell_markers(rt, checked)?;
     tell_taken(rt, line.taken())?;
-    tell_reckoned(rt, layout, checked, line)?;
+    tell_estimate(rt, layout, checked, line)?;
     tell_unit(rt, checked)?;
     tell_left(rt, checked)?;
     if shapes > MAX_ON_DESK {

@@ -34,7 +34,7 @@ static LIBRARY: [Entry; 17] = [
     Entry {
         word: "unexpected",
         form: "REFUSED 4 unexpected byte",
-        meaning: "a record stands where the format doesn't have it",
+        meaning: "the format has no such record at this place",
         detail: Detail::Refusal {
             number: "4",
             remedy: "export without what isn't geometry, as properties",

@@ -25,7 +25,7 @@ static LIMITS: [Entry; 9] = [
     Entry {
         word: "cycle",
         form: "REFUSED 21 cycle",
-        meaning: "a structure stands below itself",
+        meaning: "a structure contains itself, directly or through others",
         detail: Detail::Refusal {
             number: "21",
             remedy: "take one of the references away",

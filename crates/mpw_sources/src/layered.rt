@@ -103,8 +103,8 @@ impl<'a> Layered<'a> {
         if !self.skip.is_empty() {
             let elements = self.cuts.len();
             eprintln!(rt;
-                "note: {file}: elements left out, on skipped layers: {elements}; the desk reads them, and \
-                refuses the file as it stands where one of them has a fault"
+                "note: {file}: elements left out, on skipped layers: {elements}; the desk reads them too, \
+                and refuses the file if one of them has a fault"
             )?;
         }
         Ok(())

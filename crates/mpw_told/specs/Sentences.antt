@@ -19,7 +19,7 @@ record_sentence code.BadLength =
 record_sentence code.BadType =
     codes "a record has data of another type: the file is damaged, or is no GDSII"
 record_sentence code.Unexpected =
-    codes "a record stands where the format doesn't have it: export without what isn't "
+    codes "the format has no such record at this place: export without what isn't "
     ++ codes "geometry, as properties"
 record_sentence code.BadSize =
     codes "a record has too much or too little data: polygons of more than 8191 points have to "
@@ -77,7 +77,7 @@ structure_sentence hier.Memory = codes "the structure can't be placed"
 structure_sentence hier.NoTop =
     codes "the library has no structure of that name: name another with --top"
 structure_sentence hier.Cycle =
-    codes "a structure stands below itself: take one of the references away"
+    codes "a structure contains itself, directly or through others: take one of the references away"
 structure_sentence hier.NoCell = codes "the structure can't be placed"
 structure_sentence hier.Extent =
     codes "a structure goes beyond 2^30 nm: move it nearer to its origin"

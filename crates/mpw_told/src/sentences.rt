@@ -33,7 +33,7 @@ fn of_record(code: Code) -> &'static str
             "a record's length is odd or below 4: the file is damaged, or is no GDSII",
         Code::BadType => "a record has data of another type: the file is damaged, or is no GDSII",
         Code::Unexpected =>
-            "a record stands where the format doesn't have it: export without what isn't geometry, \
+            "the format has no such record at this place: export without what isn't geometry, \
             as properties",
         Code::BadSize =>
             "a record has too much or too little data: polygons of more than 8191 points have to \
@@ -93,7 +93,8 @@ pub fn of_structure(fault: HierFault) -> &'static str
 {
     match fault {
         HierFault::NoTop => "the library has no structure of that name: name another with --top",
-        HierFault::Cycle => "a structure stands below itself: take one of the references away",
+        HierFault::Cycle =>
+            "a structure contains itself, directly or through others: take one of the references away",
         HierFault::Extent => "a structure goes beyond 2^30 nm: move it nearer to its origin",
         HierFault::Shapes =>
             "the structure shows more than 2^40 shapes: split it, and check each piece with --top",
