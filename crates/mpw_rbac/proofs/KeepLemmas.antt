@@ -1,5 +1,5 @@
 -- Each change of the policy preserves what every policy preserves.
-use Rattle.std.proofs.Common.{[], ◌≡◌, ℕ, Bool, true, false, not, ◌||◌, inl, inr, ◌==◌, List, ◌∷◌, ◌++◌, map, Option, is_some, refl, sym, ap, ◌∙◌, true≢false}
+use Rattle.std.proofs.Common.{[], ◌≡◌, ℕ, Bool, true, false, not, ◌||◌, inl, inr, ◌==◌, List, ◌∷◌, ◌++◌, map, Option, refl, sym, ◌∙◌, true≢false}
 use Rattle.std.specs.Prelude.{nat_lt}
 use Rattle.std.specs.List.{list_all}
 use Rattle.std.specs.Option.{option_map_or}
@@ -14,14 +14,13 @@ use Rattle.mpw_permissions.specs.declared.permission.Grant.{Grant}
 use Rattle.mpw_rbac.specs.declared.session.User.{User}
 use Rattle.mpw_rbac.specs.declared.session.Session.{Session}
 use Rattle.mpw_rbac.specs.Internal.Kinds.{kind_sets, with_sets, bound_lists}
-use Rattle.mpw_rbac.specs.Policy.{Policy, is_user, authorized, assigned_roles, assigned_lists, active_lists, session_of}
+use Rattle.mpw_rbac.specs.Policy.{Policy, is_user, authorized, assigned_roles, assigned_lists, active_lists}
 use Rattle.mpw_rbac.specs.Rows as rows
 use Rattle.mpw_rbac.specs.Sound.{is_authorized_session, active_authorized, sets_hold, is_proper, Sound}
-use Rattle.mpw_rbac.specs.Table.{has_key, value_at}
-use Rattle.mpw_rbac.proofs.SeparationLemmas.{not_both, not_true, both, parts, breaks-more, holds-less, holds-proper, proper-more, any-filter, any-append, nobody-breaks, unbroken-positive, breaks-with_role, all-append, all-filter, all-last}
+use Rattle.mpw_rbac.proofs.SeparationLemmas.{not_both, both, parts, breaks-more, holds-less, holds-proper, proper-more, any-filter, any-append, nobody-breaks, breaks-with_role, all-append, all-filter}
 use Rattle.mpw_rbac.proofs.SoundLemmas.{sound-adduser, sound-addrole, sound-assign, sound-open, sound-end, sound-activate}
 use Rattle.mpw_rbac.proofs.TableLemmas.{any-same, any-changed, all-changed}
-use Rattle.mpw_rbac.proofs.KeepTrimmed.{roles_of, active_of, users-less, sessions-less, without-part, apart}
+use Rattle.mpw_rbac.proofs.KeepTrimmed.{roles_of, active_of, users-less, sessions-less, without-part}
 
 -- a user without roles breaks no set, and so does a session without active ones
 pub keep-adduser : (p : Policy) (user : Name) (digest : List ℕ) → Sound p
@@ -170,38 +169,6 @@ keep-drop p connection role s =
       dynamic_proper = s.dynamic_proper;
     }
 
--- a set that holds for somebody doesn't forbid having nothing
-somebody-positive : {X : Type 0} (h : Hierarchy) (f : X → List Name) (xs : List X)
-    (set : SeparationSet) → (xs ≡ [] → ⊥) → is_broken h (map f xs) set ≡ false
-    → nat_lt 0 set.cardinality ≡ true
-somebody-positive h f [] set some apart = absurd (some refl)
-somebody-positive h f (x ∷ xs) set some apart =
-    unbroken-positive h (f x) set (first (breaks h (f x) set) (is_broken h (map f xs) set) apart)
-  where
-    first : (a b : Bool) → (a || b) ≡ false → a ≡ false
-    first true b e = absurd (true≢false e)
-    first false b e = refl
-
-some-session : (p : Policy) (connection : ℕ) → is_some (session_of p connection) ≡ true
-    → p.sessions ≡ [] → ⊥
-some-session p connection is none = true≢false
-    (sym is ∙ ap
-    (λ (es : List (ℕ × Session)). is_some (value_at (λ a b. a == b) es connection)) none)
-
-some-user : (p : Policy) (connection : ℕ) → is_some (session_of p connection) ≡ true
-    → active_authorized p ≡ true → p.users ≡ [] → ⊥
-some-user p connection is sound none = by p.sessions is sound
-  where
-    by : (es : List (ℕ × Session)) → is_some (value_at (λ a b. a == b) es connection) ≡ true
-        → list_all (λ (e : ℕ × Session). is_authorized_session p e.1) es ≡ true → ⊥
-    by [] there all = true≢false (sym there)
-    by (e ∷ es) there all =
-        let first = (parts (is_authorized_session p e.1)
-        (list_all (λ (x : ℕ × Session). is_authorized_session p x.1) es) all).0 in
-        let user = (parts (is_user p e.1.user)
-        (list_all (contains_name (authorized p e.1.user)) e.1.active) first).0 in
-        true≢false (sym user ∙ ap (λ (us : List (Name × User)). has_key name_eq us e.1.user) none)
-
 -- the sets of one kind
 pub kind-holds : (kind : Kind) (p : Policy) → Sound p
     → sets_hold p.roles (kind_sets kind p) (bound_lists kind p) ≡ true
@@ -231,26 +198,14 @@ keep-kind Dynamic p sets hold proper s = record {
   dynamic_proper = proper;
 }
 
-positive : (kind : Kind) (p : Policy) (connection : ℕ) (set : SeparationSet)
-    → is_some (session_of p connection) ≡ true → Sound p
-    → is_broken p.roles (bound_lists kind p) set ≡ false → nat_lt 0 set.cardinality ≡ true
-positive Static p connection set there s =
-    somebody-positive p.roles roles_of p.users set (some-user p connection there s.sessions)
-positive Dynamic p connection set there s =
-    somebody-positive p.roles active_of p.sessions set (some-session p connection there)
-
-pub keep-made : (kind : Kind) (p : Policy) (connection : ℕ) (set : SeparationSet)
-    → is_some (session_of p connection) ≡ true → list_all (is_role p.roles) set.roles ≡ true
+pub keep-made : (kind : Kind) (p : Policy) (set : SeparationSet)
+    → nat_lt 0 set.cardinality ≡ true → list_all (is_role p.roles) set.roles ≡ true
     → sets_hold p.roles (kind_sets kind p ++ set ∷ []) (bound_lists kind p) ≡ true → Sound p
     → Sound (with_sets kind p (kind_sets kind p ++ set ∷ []))
-keep-made kind p connection set there roles hold s =
-    let apart = not_true (is_broken p.roles (bound_lists kind p) set)
-    (all-last (λ (x : SeparationSet). not (is_broken p.roles (bound_lists kind p) x))
-    (kind_sets kind p) set hold) in
+keep-made kind p set some roles hold s =
     keep-kind kind p (kind_sets kind p ++ set ∷ []) hold
     (all-append (is_proper p.roles) (kind_sets kind p) (set ∷ []) (kind-proper kind p s)
-    (both (is_proper p.roles set) true (both (nat_lt 0 set.cardinality) _
-    (positive kind p connection set there s apart) roles) refl)) s
+    (both (is_proper p.roles set) true (both (nat_lt 0 set.cardinality) _ some roles) refl)) s
 
 pub keep-removed : (kind : Kind) (p : Policy) (name : Name) → Sound p
     → Sound (with_sets kind p (without_set (kind_sets kind p) name))

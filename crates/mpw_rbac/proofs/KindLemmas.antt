@@ -1,5 +1,5 @@
 -- The decision tables of a set of either kind, and the policy after them.
-use Rattle.std.proofs.Common.{[], ◌≡◌, ℕ, Bool, true, false, cond, not, ◌⊎◌, inl, inr, List, ◌∷◌, ◌++◌, length, Ok, Err, Some, None, refl, sym, ap, subst, ◌∙◌}
+use Rattle.std.proofs.Common.{[], ◌≡◌, Bool, true, false, cond, not, ◌⊎◌, inl, inr, List, ◌∷◌, ◌++◌, length, Ok, Err, Some, None, refl, sym, ap, subst, ◌∙◌}
 use Rattle.std.specs.Prelude.{nat_lt}
 use Rattle.std.specs.List.{list_all}
 use Rattle.mpw_roles.specs.Decided.{decided}
@@ -21,7 +21,6 @@ use Rattle.mpw_rbac.specs.Sound.{Sound}
 use Rattle.mpw_rbac.proofs.HolderLemmas.{least-new}
 use Rattle.mpw_rbac.proofs.KeepLemmas.{kind-holds}
 use Rattle.mpw_rbac.proofs.LawLemmas.{sound-ssd, sound-dsd}
-use Rattle.mpw_rbac.proofs.RowFacts.{administered-facts}
 
 -- sets of which only those of one kind have changed
 pub changed-sets : (kind : Kind) (old new : Sets) (left : List SeparationSet)
@@ -30,10 +29,10 @@ pub changed-sets : (kind : Kind) (old new : Sets) (left : List SeparationSet)
 changed-sets Static old new left is others = λ i. record { ssd = is i; dsd = others i }
 changed-sets Dynamic old new left is others = λ i. record { ssd = others i; dsd = is i }
 
-pub sound-made : (kind : Kind) (connection : ℕ) (set : SeparationSet)
-    → KeepsSound (λ p. make_set kind p connection set)
-sound-made Static connection set = sound-ssd connection set
-sound-made Dynamic connection set = sound-dsd connection set
+pub sound-made : (kind : Kind) (set : SeparationSet) → nat_lt 0 set.cardinality ≡ true
+    → KeepsSound (λ p. make_set kind p set)
+sound-made Static set = sound-ssd set
+sound-made Dynamic set = sound-dsd set
 
 -- a new name is refused only if there is no room
 full-fault : (sets : List SeparationSet) (set : SeparationSet) (fault : SetsFault)
@@ -48,19 +47,18 @@ full-fault sets set fault new e = by (has_set sets set.name) (nat_lt (length set
     by false false n f = (refl, cc)
 
 -- what the decision table of a new set answers, by whether the set is broken
-pub record TellsSet (kind : Kind) (p : Policy) (connection : ℕ) (set : SeparationSet) : Type 0 where
+pub record TellsSet (kind : Kind) (p : Policy) (set : SeparationSet) : Type 0 where
   pub made : is_broken p.roles (bound_lists kind p) set ≡ false
       → nat_lt (length (kind_sets kind p)) 64 ≡ true
-      → make_set kind p connection set ≡ Ok (with_sets kind p (kind_sets kind p ++ set ∷ []))
+      → make_set kind p set ≡ Ok (with_sets kind p (kind_sets kind p ++ set ∷ []))
   pub broken : is_broken p.roles (bound_lists kind p) set ≡ true
-      → make_set kind p connection set ≡ Err (set_refusal kind set.name)
+      → make_set kind p set ≡ Err (set_refusal kind set.name)
   pub refused : is_broken p.roles (bound_lists kind p) set ≡ false → (fault : SetsFault)
       → (fault ≡ set_faults.Memory) ⊎ (make (kind_sets kind p) set ≡ Err fault)
-      → rows.IsFaultOf (make_set kind p connection set) (fault_of_sets fault)
+      → rows.IsFaultOf (make_set kind p set) (fault_of_sets fault)
 
 -- a new name, and roles that exist
-module _ (kind : Kind) (p : Policy) (connection : ℕ) (set : SeparationSet)
-    (ok : rows.administered p connection ≡ Ok p) (s : Sound p)
+module _ (kind : Kind) (p : Policy) (set : SeparationSet) (s : Sound p)
     (new : has_set (kind_sets kind p) set.name ≡ false)
     (known : list_all (is_role p.roles) set.roles ≡ true) where
   least : (b : Bool) → is_broken p.roles (bound_lists kind p) set ≡ b
@@ -71,38 +69,35 @@ module _ (kind : Kind) (p : Policy) (connection : ℕ) (set : SeparationSet)
 
   set-made : is_broken p.roles (bound_lists kind p) set ≡ false
       → nat_lt (length (kind_sets kind p)) 64 ≡ true
-      → make_set kind p connection set ≡ Ok (with_sets kind p (kind_sets kind p ++ set ∷ []))
+      → make_set kind p set ≡ Ok (with_sets kind p (kind_sets kind p ++ set ∷ []))
   set-made apart room =
-      let f = administered-facts p connection ok in
       let none : least_broken p.roles (kind_sets kind p ++ set ∷ []) (bound_lists kind p) ≡ None =
       least false apart in
-      rw (f.0, f.1, new, known, none, room)
+      rw (new, known, none, room)
 
   set-broken : is_broken p.roles (bound_lists kind p) set ≡ true
-      → make_set kind p connection set ≡ Err (set_refusal kind set.name)
+      → make_set kind p set ≡ Err (set_refusal kind set.name)
   set-broken broken =
-      let f = administered-facts p connection ok in
       let some : least_broken p.roles (kind_sets kind p ++ set ∷ []) (bound_lists kind p)
       ≡ Some set.name = least true broken in
-      rw (f.0, f.1, new, known, some)
+      rw (new, known, some)
 
   set-full : is_broken p.roles (bound_lists kind p) set ≡ false
-      → nat_lt (length (kind_sets kind p)) 64 ≡ false → make_set kind p connection set ≡ Err Full
+      → nat_lt (length (kind_sets kind p)) 64 ≡ false → make_set kind p set ≡ Err Full
   set-full apart full =
-      let f = administered-facts p connection ok in
       let none : least_broken p.roles (kind_sets kind p ++ set ∷ []) (bound_lists kind p) ≡ None =
       least false apart in
-      rw (f.0, f.1, new, known, none, full)
+      rw (new, known, none, full)
 
   set-refused : is_broken p.roles (bound_lists kind p) set ≡ false → (fault : SetsFault)
       → (fault ≡ set_faults.Memory) ⊎ (make (kind_sets kind p) set ≡ Err fault)
-      → rows.IsFaultOf (make_set kind p connection set) (fault_of_sets fault)
+      → rows.IsFaultOf (make_set kind p set) (fault_of_sets fault)
   set-refused apart fault (inl memory) =
-      subst (λ f. rows.IsFaultOf (make_set kind p connection set) (fault_of_sets f)) (sym memory) tt
+      subst (λ f. rows.IsFaultOf (make_set kind p set) (fault_of_sets f)) (sym memory) tt
   set-refused apart fault (inr refused) =
       let is = full-fault (kind_sets kind p) set fault new refused in
-      subst (λ f. rows.IsFaultOf (make_set kind p connection set) (fault_of_sets f)) (sym is.1)
+      subst (λ f. rows.IsFaultOf (make_set kind p set) (fault_of_sets f)) (sym is.1)
       (set-full apart is.0)
 
-  pub tells-set : TellsSet kind p connection set
+  pub tells-set : TellsSet kind p set
   tells-set = record { made = set-made; broken = set-broken; refused = set-refused }

@@ -1,6 +1,7 @@
 -- After a table that accepts, the policy is its new policy, which preserves what every policy
 -- preserves.
 use Rattle.std.proofs.Common.{◌≡◌, ℕ, Ok, true, subst, List}
+use Rattle.std.specs.Prelude.{nat_lt}
 use Rattle.mpw_roles.specs.Decided.{decided}
 use Rattle.mpw_separation.specs.declared.set.Kind.TheVariants.{Static, Dynamic}
 use Rattle.mpw_separation.specs.Separation.{least_broken}
@@ -36,8 +37,8 @@ sound-activate_row connection role p q is s =
     let t = all-pass (row.activate-tests p connection role)
     (row.activated p connection role) q is in
     sound (row.activate-tests p connection role) (row.activated p connection role) q is
-    (keep.keep-activate p connection role t.1.0
-    (dynamic-holds (row.activated p connection role) t.1.1.1.0)
+    (keep.keep-activate p connection role t.0
+    (dynamic-holds (row.activated p connection role) t.1.1.0)
     s)
 
 pub sound-drop_role : (connection : ℕ) (role : List ℕ)
@@ -47,32 +48,32 @@ sound-drop_role connection role p q is s =
     (keep.keep-drop p connection role s)
 
 -- an administrative request, by the policy after it if its tests have passed
-abbrev pub Passed : ℕ → row.Administration → Policy → Type 0
-Passed connection request p = AllPass (row.administer-tests p connection (row.tests-of request p))
+abbrev pub Passed : row.Administration → Policy → Type 0
+Passed request p = AllPass (row.tests-of request p)
 
-pub request-sound : (connection : ℕ) (request : row.Administration)
-    → ((p : Policy) → Passed connection request p → Sound p → Sound (row.next-of request p))
-    → KeepsSound (row.row-of request connection)
-request-sound connection request left p q is s =
-    let tests = row.administer-tests p connection (row.tests-of request p) in
+pub request-sound : (request : row.Administration)
+    → ((p : Policy) → Passed request p → Sound p → Sound (row.next-of request p))
+    → KeepsSound (row.row-of request)
+request-sound request left p q is s =
+    let tests = row.tests-of request p in
     let next = row.next-of request p in
     sound tests next q is (left p (all-pass tests next q is) s)
 
-pub sound-assign_row : (connection : ℕ) (user role : List ℕ)
-    → KeepsSound (λ p. rows.assign p connection user role)
-sound-assign_row connection user role = request-sound connection (row.Assign user role)
-    (λ p t. keep.keep-assign p user role (static-holds (row.assigned p user role) t.1.1.1.1.0))
+pub sound-assign_row : (user role : List ℕ) → KeepsSound (λ p. rows.assign p user role)
+sound-assign_row user role = request-sound (row.Assign user role)
+    (λ p t. keep.keep-assign p user role (static-holds (row.assigned p user role) t.1.1.0))
 
-pub sound-grant : (connection : ℕ) (new : Grant) → KeepsSound (λ p. rows.grant p connection new)
-sound-grant connection new = request-sound connection (row.AddGrant new)
+pub sound-grant : (new : Grant) → KeepsSound (λ p. rows.grant p new)
+sound-grant new = request-sound (row.AddGrant new)
     (λ p t. keep.keep-granted p (row.grant_added p new).granted)
 
-pub sound-ssd : (connection : ℕ) (set : SeparationSet) → KeepsSound (λ p. rows.ssd p connection set)
-sound-ssd connection set = request-sound connection (row.MakeStatic set)
-    (λ p t. keep.keep-made Static p connection set t.0 t.1.1.1.0
-    (static-holds (row.ssd_made p set) t.1.1.1.1.0))
+-- a set that forbids having none of its roles would be broken by the next user or session
+pub sound-ssd : (set : SeparationSet) → nat_lt 0 set.cardinality ≡ true
+    → KeepsSound (λ p. rows.ssd p set)
+sound-ssd set some = request-sound (row.MakeStatic set)
+    (λ p t. keep.keep-made Static p set some t.1.0 (static-holds (row.ssd_made p set) t.1.1.0))
 
-pub sound-dsd : (connection : ℕ) (set : SeparationSet) → KeepsSound (λ p. rows.dsd p connection set)
-sound-dsd connection set = request-sound connection (row.MakeDynamic set)
-    (λ p t. keep.keep-made Dynamic p connection set t.0 t.1.1.1.0
-    (dynamic-holds (row.dsd_made p set) t.1.1.1.1.0))
+pub sound-dsd : (set : SeparationSet) → nat_lt 0 set.cardinality ≡ true
+    → KeepsSound (λ p. rows.dsd p set)
+sound-dsd set some = request-sound (row.MakeDynamic set)
+    (λ p t. keep.keep-made Dynamic p set some t.1.0 (dynamic-holds (row.dsd_made p set) t.1.1.0))

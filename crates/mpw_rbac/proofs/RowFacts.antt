@@ -10,11 +10,9 @@ use Rattle.mpw_roles.specs.declared.fault.RolesFault.TheVariants as faults
 use Rattle.mpw_roles.specs.Hierarchy.{Name, Hierarchy, is_role, is_immediate, without_role, with_pair, without_pair}
 use Rattle.mpw_roles.specs.Order.{at_least}
 use Rattle.mpw_geom.specs.Names.{name_eq, contains_name, without_name}
-use Rattle.mpw_permissions.specs.declared.permission.Operation.TheVariants.{Admin}
-use Rattle.mpw_permissions.specs.declared.permission.Object.TheVariants.{Desk}
 use Rattle.mpw_rbac.specs.declared.refusal.Refusal.{Refusal}
-use Rattle.mpw_rbac.specs.declared.refusal.Refusal.TheVariants.{NoSession, NotPermitted, Ssd}
-use Rattle.mpw_rbac.specs.Policy.{Policy, is_user, assigned_roles, assigned_lists, active_lists, session_of, permits, trim}
+use Rattle.mpw_rbac.specs.declared.refusal.Refusal.TheVariants.{Ssd}
+use Rattle.mpw_rbac.specs.Policy.{Policy, is_user, assigned_roles, assigned_lists, active_lists, session_of, trim}
 use Rattle.mpw_rbac.specs.declared.session.User.{User}
 use Rattle.mpw_rbac.specs.declared.session.Session.{Session}
 use Rattle.mpw_permissions.specs.declared.permission.Grant.{Grant}
@@ -34,31 +32,18 @@ use Rattle.mpw_rbac.proofs.TableLemmas.{insert-new, insert-present, is_some-valu
 abbrev pub ok_policy : Policy → Result Policy Refusal
 ok_policy p = Ok p
 
--- the two tests that every administrative request begins with
-pub administered-facts : (p : Policy) (connection : ℕ) → rows.administered p connection ≡ Ok p
-    → (is_some (session_of p connection) ≡ true) × (permits p connection Admin Desk ≡ true)
-administered-facts p connection ok =
-    by (is_some (session_of p connection)) (permits p connection Admin Desk) ok
-  where
-    by : (a b : Bool) → cond a (cond b (Ok p) (Err (NotPermitted Admin Desk))) (Err NoSession)
-        ≡ Ok p → (a ≡ true) × (b ≡ true)
-    by true true e = (refl, refl)
-    by true false e = cc
-    by false b e = cc
-
 -- a test for broken sets that finds none passes
 pub none-passes : (told : Name → Refusal) (o : Option Name) → o ≡ None
     → (rows.none_broken told o).0 ≡ true
 none-passes told o none = ap (λ n. (rows.none_broken told n).0) none
 
-module _ (p : Policy) (connection : ℕ) (ok : rows.administered p connection ≡ Ok p) where
+module _ (p : Policy) where
   pub adduser-ok : (user : Name) (digest : List ℕ) (users : List (Name × User))
       → is_user p user ≡ false → nat_lt (length p.users) 512 ≡ true
       → users ≡ insert_entry name_eq p.users user (record { digest = digest; roles = [] })
-      → rows.adduser p connection user digest ≡ Ok (record p { users = users })
+      → rows.adduser p user digest ≡ Ok (record p { users = users })
   adduser-ok user digest users new room is =
-      let f = administered-facts p connection ok in
-      rw (f.0, f.1, new, room) (ap (λ us. Ok (record p { users = us }))
+      rw (new, room) (ap (λ us. Ok (record p { users = us }))
       (sym (is ∙ insert-new name_eq p.users user _ new)))
 
   pub assign-ok : (user role : Name) (users : List (Name × User)) → is_user p user ≡ true
@@ -70,13 +55,12 @@ module _ (p : Policy) (connection : ℕ) (ok : rows.administered p connection �
         digest = rows.digest_of_user p user;
         roles = assigned_roles p user ++ role
             ∷ [];
-      }) → rows.assign p connection user role ≡ Ok (record p { users = users })
+      }) → rows.assign p user role ≡ Ok (record p { users = users })
   assign-ok user role users known role_known new none is =
-      let f = administered-facts p connection ok in
       let holds = none-passes Ssd (least_broken p.roles p.ssd
       (assigned_lists (rows.with_assigned p user (assigned_roles p user ++ role ∷ [])).users))
       none in
-      rw (f.0, f.1, known, role_known, new, holds)
+      rw (known, role_known, new, holds)
       (ap (λ us. Ok (record p { users = us }))
       (sym (is ∙ insert-present name_eq p.users user _ known)))
 
@@ -84,36 +68,32 @@ module _ (p : Policy) (connection : ℕ) (ok : rows.administered p connection �
       → contains_name (assigned_roles p user) role ≡ false
       → least_broken p.roles p.ssd (assigned_lists
       (rows.with_assigned p user (assigned_roles p user ++ role ∷ [])).users) ≡ Some name
-      → rows.assign p connection user role ≡ Err (Ssd name)
+      → rows.assign p user role ≡ Err (Ssd name)
   assign-broken user role name known role_known new some =
-      let f = administered-facts p connection ok in
-      rw (f.0, f.1, known, role_known, new, some)
+      rw (known, role_known, new, some)
 
   pub grant-ok : (new : Grant) (granted : List Grant) → is_role p.roles new.role ≡ true
       → list_any (grant_eq new) p.granted ≡ false → nat_lt (length p.granted) 4096 ≡ true
       → granted ≡ p.granted ++ new ∷ []
-      → rows.grant p connection new ≡ Ok (record p { granted = granted })
+      → rows.grant p new ≡ Ok (record p { granted = granted })
   grant-ok new granted role_known unknown room is =
-      let f = administered-facts p connection ok in
-      rw (f.0, f.1, role_known, unknown, room) (ap (λ gs. Ok (record p { granted = gs })) (sym is))
+      rw (role_known, unknown, room) (ap (λ gs. Ok (record p { granted = gs })) (sym is))
 
   pub revoke-ok : (old : Grant) (granted : List Grant) → list_any (grant_eq old) p.granted ≡ true
       → granted ≡ filter (λ other. not (grant_eq old other)) p.granted
-      → rows.revoke p connection old ≡ Ok (record p { granted = granted })
+      → rows.revoke p old ≡ Ok (record p { granted = granted })
   revoke-ok old granted known is =
-      let f = administered-facts p connection ok in
-      rw (f.0, f.1, known) (ap (λ gs. Ok (record p { granted = gs })) (sym is))
+      rw known (ap (λ gs. Ok (record p { granted = gs })) (sym is))
 
   pub delrole-ok : (role : Name) → is_role p.roles role ≡ true
       → (uses_role p.ssd role || uses_role p.dsd role) ≡ false
-      → rows.delrole p connection role ≡ Ok (trim (rows.without_role_of p role))
-  delrole-ok role known unused = let f = administered-facts p connection ok in
-      rw (f.0, f.1, known, unused)
+      → rows.delrole p role ≡ Ok (trim (rows.without_role_of p role))
+  delrole-ok role known unused = rw (known, unused)
 
   pub deassign-ok : (user role : Name) → contains_name (assigned_roles p user) role ≡ true
-      → rows.deassign p connection user role ≡ Ok
+      → rows.deassign p user role ≡ Ok
       (trim (rows.with_assigned p user (without_name (assigned_roles p user) role)))
-  deassign-ok user role known = let f = administered-facts p connection ok in rw (f.0, f.1, known)
+  deassign-ok user role known = rw known
 
 -- the policy after an accepted request
 abbrev done : {A F : Type 0} → A → Result A F

@@ -95,32 +95,43 @@ activate-ok p connection role sessions there may new none is =
     none in
     let known : has_key (λ a b. a == b) p.sessions connection ≡ true =
     sym (is_some-value_at (λ a b. a == b) p.sessions connection) ∙ there in
-    rw (there, may, new, holds) (ap (λ s. Ok (record p { sessions = s }))
+    rw (may, new, holds) (ap (λ s. Ok (record p { sessions = s }))
     (sym (is ∙ insert-present (λ a b. a == b) p.sessions connection _ known)))
 
 pub activate-broken : (p : Policy) (connection : ℕ) (role name : Name)
-    → is_some (session_of p connection) ≡ true
     → contains_name (authorized p (rows.user_of p connection)) role ≡ true
     → contains_name (rows.active_roles p connection) role ≡ false
     → least_broken p.roles p.dsd (active_lists
     (rows.with_active p connection (rows.active_roles p connection ++ role ∷ [])).sessions)
     ≡ Some name
     → rows.activate p connection role ≡ Err (Dsd name)
-activate-broken p connection role name there may new some = rw (there, may, new, some)
+activate-broken p connection role name may new some = rw (may, new, some)
+
+-- a role is active in a session only
+pub active-session : (p : Policy) (connection : ℕ) (role : Name)
+    → contains_name (rows.active_roles p connection) role ≡ true
+    → is_some (session_of p connection) ≡ true
+active-session p connection role = by (session_of p connection)
+  where
+    by : (o : Option Session)
+        → contains_name (option_map_or (λ (s : Session). s.active) o []) role ≡ true
+        → is_some o ≡ true
+    by None e = cc
+    by (Some s) e = refl
 
 -- and is active no longer
 pub drop-ok : (p : Policy) (connection : ℕ) (role : Name) (sessions : List (ℕ × Session))
-    → is_some (session_of p connection) ≡ true
     → contains_name (rows.active_roles p connection) role ≡ true
     → sessions ≡ insert_entry (λ a b. a == b) p.sessions connection
     (record {
       user = rows.user_of p connection;
       active = without_name (rows.active_roles p connection) role;
     }) → rows.drop_role p connection role ≡ Ok (record p { sessions = sessions })
-drop-ok p connection role sessions there active is =
+drop-ok p connection role sessions active is =
     let known : has_key (λ a b. a == b) p.sessions connection ≡ true =
-    sym (is_some-value_at (λ a b. a == b) p.sessions connection) ∙ there in
-    rw (there, active) (ap (λ s. Ok (record p { sessions = s }))
+    sym (is_some-value_at (λ a b. a == b) p.sessions connection)
+    ∙ active-session p connection role active in
+    rw active (ap (λ s. Ok (record p { sessions = s }))
     (sym (is ∙ insert-present (λ a b. a == b) p.sessions connection _ known)))
 
 pub ok-value : (p q : Policy) → ok_policy p ≡ Ok q → p ≡ q

@@ -32,8 +32,8 @@ activated p connection role =
     rows.with_active p connection (rows.active_roles p connection ++ role ∷ [])
 
 abbrev pub activate-tests : Policy → ℕ → Name → List rows.Test
-activate-tests p connection role = rows.in_session p connection
-    ∷ (contains_name (authorized p (rows.user_of p connection)) role, NotAuthorized role)
+activate-tests p connection role =
+    (contains_name (authorized p (rows.user_of p connection)) role, NotAuthorized role)
     ∷ (not (contains_name (rows.active_roles p connection) role), Known)
     ∷ rows.dsd_holds (activated p connection role) ∷ []
 
@@ -43,12 +43,7 @@ dropped p connection role =
 
 abbrev pub drop-tests : Policy → ℕ → Name → List rows.Test
 drop-tests p connection role =
-    rows.in_session p connection
-    ∷ (contains_name (rows.active_roles p connection) role, Unknown) ∷ []
-
-abbrev pub administer-tests : Policy → ℕ → List rows.Test → List rows.Test
-administer-tests p connection tests =
-    rows.in_session p connection ∷ rows.administers p connection ∷ tests
+    (contains_name (rows.active_roles p connection) role, Unknown) ∷ []
 
 abbrev pub user_added : Policy → Name → List ℕ → Policy
 user_added p user digest =
@@ -164,7 +159,7 @@ pub data Administration : Type 0 where
   RemoveStatic : Name → Administration
   RemoveDynamic : Name → Administration
 
--- the tests after those that every one of them begins with
+-- the tests of each
 abbrev pub tests-of : Administration → Policy → List rows.Test
 tests-of (AddUser user digest) p = adduser-tests p user
 tests-of (DeleteUser user) p = deluser-tests p user
@@ -197,9 +192,8 @@ next-of (MakeDynamic set) p = dsd_made p set
 next-of (RemoveStatic name) p = ssd_removed p name
 next-of (RemoveDynamic name) p = dsd_removed p name
 
-abbrev pub row-of : Administration → ℕ → Policy → Result Policy Refusal
-row-of request connection p =
-    decided (administer-tests p connection (tests-of request p)) (next-of request p)
+abbrev pub row-of : Administration → Policy → Result Policy Refusal
+row-of request p = decided (tests-of request p) (next-of request p)
 
 -- whether it tests the sets of a kind
 abbrev pub tests_kind : Kind → Administration → Bool

@@ -1,4 +1,5 @@
-//! The administrative requests. Each begins with the tests for a session and for the permission `admin desk`.
+//! The administrative requests of users, roles, assignments and grants. Each is made by a session that may administer the desk: its caller has
+//! tested that.
 ghost use Rattle.std.specs.Prelude.{◌≡◌, ℕ, List, length, nat_lt, true, false, not, ◌||◌, [], ◌∷◌, ◌++◌, IfOk, IfErr, OnOk, OnErr, Ok, Err};
 ghost use Rattle.std.specs.Option.{option_copied};
 ghost use Rattle.mpw_geom.specs.Names.{name_eq, contains_name, without_name};
@@ -6,7 +7,7 @@ ghost use Rattle.mpw_roles.specs.Hierarchy.{is_role};
 ghost use Rattle.mpw_separation.specs.Separation.{least_broken, uses_role};
 ghost use Rattle.mpw_permissions.specs.Grant.{grant_eq, ungranted};
 ghost use Rattle.mpw_rbac.specs.Policy.{max_users, is_user, assigned_roles};
-ghost use Rattle.mpw_rbac.specs.Rows.{IsFaultOf, administered, digest_of_user, unassigned};
+ghost use Rattle.mpw_rbac.specs.Rows.{IsFaultOf, digest_of_user, unassigned};
 ghost use Rattle.mpw_rbac.specs.Rows as rows;
 ghost use Rattle.mpw_rbac.specs.Table.{without_key};
 
@@ -22,18 +23,13 @@ impl Policy {
     /// Adds a user with a digest and without roles (AddUser).
     ///
     /// # Errors
-    /// `NoSession`, `NotPermitted`, `Known`, `Full`, tested in this order; or `Memory`. Then the policy is unchanged.
-    pub fn adduser(
-        &mut self,
-        connection: u32,
-        user: Name,
-        digest: Digest,
-    ) -> Result<(), PolicyFault>
-        ensures ok { OnOk result (rows.adduser self.old connection user digest ≡ Ok self.new) }
-        ensures refused { IfErr result (IsFaultOf (rows.adduser self.old connection user digest)) }
+    /// `Known`, `Full`, tested in this order; or `Memory`. Then the policy is unchanged.
+    pub fn adduser(&mut self, user: Name, digest: Digest) -> Result<(), PolicyFault>
+        ensures ok { OnOk result (rows.adduser self.old user digest ≡ Ok self.new) }
+        ensures refused { IfErr result (IsFaultOf (rows.adduser self.old user digest)) }
         ensures err { OnErr result (self.new ≡ self.old) }
     {
-        self.may_add_user(connection, &user)?;
+        self.may_add_user(&user)?;
         let roles = Names::new(self.sessions.allocator());
         let users = self
             .users
@@ -43,13 +39,11 @@ impl Policy {
     }
 
     /// The tests of a new user.
-    fn may_add_user(&self, connection: u32, user: &Name) -> Result<(), PolicyFault>
-        ensures administered { OnOk result (administered self.now connection ≡ Ok self.now) }
+    fn may_add_user(&self, user: &Name) -> Result<(), PolicyFault>
         ensures new { OnOk result (is_user self.now user.now ≡ false) }
         ensures room { OnOk result (nat_lt (length self.now.users) max_users ≡ true) }
-        ensures refused { IfErr result (λ fault. (digest : List ℕ) → IsFaultOf (rows.adduser self.now connection user.now digest) fault) }
+        ensures refused { IfErr result (λ fault. (digest : List ℕ) → IsFaultOf (rows.adduser self.now user.now digest) fault) }
     {
-        self.administers(connection)?;
         if self.is_user(user) {
             return Err(PolicyFault::Refused(Refusal::Known));
         }
@@ -62,13 +56,12 @@ impl Policy {
     /// Deletes a user, whose sessions end (DeleteUser).
     ///
     /// # Errors
-    /// `NoSession`, `NotPermitted`, `Unknown` user, tested in this order; or `Memory`. Then the policy is unchanged.
-    pub fn deluser(&mut self, connection: u32, user: &Name) -> Result<(), PolicyFault>
-        ensures ok { OnOk result (rows.deluser self.old connection user.now ≡ Ok self.new) }
-        ensures refused { IfErr result (IsFaultOf (rows.deluser self.old connection user.now)) }
+    /// `Unknown` user; or `Memory`. Then the policy is unchanged.
+    pub fn deluser(&mut self, user: &Name) -> Result<(), PolicyFault>
+        ensures ok { OnOk result (rows.deluser self.old user.now ≡ Ok self.new) }
+        ensures refused { IfErr result (IsFaultOf (rows.deluser self.old user.now)) }
         ensures err { OnErr result (self.new ≡ self.old) }
     {
-        self.administers(connection)?;
         if !self.is_user(user) {
             return Err(PolicyFault::Refused(Refusal::Unknown));
         }
@@ -82,13 +75,12 @@ impl Policy {
     /// Adds a role without pairs (AddRole).
     ///
     /// # Errors
-    /// `NoSession`, `NotPermitted`, `Known`, `Full`, tested in this order; or `Memory`. Then the policy is unchanged.
-    pub fn addrole(&mut self, connection: u32, role: Name) -> Result<(), PolicyFault>
-        ensures ok { OnOk result (rows.addrole self.old connection role ≡ Ok self.new) }
-        ensures refused { IfErr result (IsFaultOf (rows.addrole self.old connection role)) }
+    /// `Known`, `Full`, tested in this order; or `Memory`. Then the policy is unchanged.
+    pub fn addrole(&mut self, role: Name) -> Result<(), PolicyFault>
+        ensures ok { OnOk result (rows.addrole self.old role ≡ Ok self.new) }
+        ensures refused { IfErr result (IsFaultOf (rows.addrole self.old role)) }
         ensures err { OnErr result (self.new ≡ self.old) }
     {
-        self.administers(connection)?;
         let permissions = with_role(&self.permissions, role)?;
         let roles = permissions.roles();
         let users = self.users.among(roles)?;
@@ -102,13 +94,13 @@ impl Policy {
     /// Deletes a role, with its assignments, its grants and each pair that it is in (DeleteRole).
     ///
     /// # Errors
-    /// `NoSession`, `NotPermitted`, `Unknown` role, `Used` by a separation set, tested in this order; or `Memory`. Then the policy is unchanged.
-    pub fn delrole(&mut self, connection: u32, role: &Name) -> Result<(), PolicyFault>
-        ensures ok { OnOk result (rows.delrole self.old connection role.now ≡ Ok self.new) }
-        ensures refused { IfErr result (IsFaultOf (rows.delrole self.old connection role.now)) }
+    /// `Unknown` role, `Used` by a separation set, tested in this order; or `Memory`. Then the policy is unchanged.
+    pub fn delrole(&mut self, role: &Name) -> Result<(), PolicyFault>
+        ensures ok { OnOk result (rows.delrole self.old role.now ≡ Ok self.new) }
+        ensures refused { IfErr result (IsFaultOf (rows.delrole self.old role.now)) }
         ensures err { OnErr result (self.new ≡ self.old) }
     {
-        self.may_delete_role(connection, role)?;
+        self.may_delete_role(role)?;
         let permissions = without_role(&self.permissions, role)?;
         let roles = permissions.roles();
         let users = self.users.without_assignments(roles, role)?;
@@ -120,13 +112,11 @@ impl Policy {
     }
 
     /// The tests of a role that is to be deleted.
-    fn may_delete_role(&self, connection: u32, role: &Name) -> Result<(), PolicyFault>
-        ensures administered { OnOk result (administered self.now connection ≡ Ok self.now) }
+    fn may_delete_role(&self, role: &Name) -> Result<(), PolicyFault>
         ensures known { OnOk result (is_role self.now.roles role.now ≡ true) }
         ensures unused { OnOk result ((uses_role self.now.ssd role.now || uses_role self.now.dsd role.now) ≡ false) }
-        ensures refused { IfErr result (IsFaultOf (rows.delrole self.now connection role.now)) }
+        ensures refused { IfErr result (IsFaultOf (rows.delrole self.now role.now)) }
     {
-        self.administers(connection)?;
         if !self.is_role(role) {
             return Err(PolicyFault::Refused(Refusal::Unknown));
         }
@@ -139,13 +129,13 @@ impl Policy {
     /// Assigns a role to a user (AssignUser).
     ///
     /// # Errors
-    /// `NoSession`, `NotPermitted`, `Unknown` user or role, `Known`, `Ssd`, tested in this order; or `Memory`. Then the policy is unchanged.
-    pub fn assign(&mut self, connection: u32, user: &Name, role: &Name) -> Result<(), PolicyFault>
-        ensures ok { OnOk result (rows.assign self.old connection user.now role.now ≡ Ok self.new) }
-        ensures refused { IfErr result (IsFaultOf (rows.assign self.old connection user.now role.now)) }
+    /// `Unknown` user or role, `Known`, `Ssd`, tested in this order; or `Memory`. Then the policy is unchanged.
+    pub fn assign(&mut self, user: &Name, role: &Name) -> Result<(), PolicyFault>
+        ensures ok { OnOk result (rows.assign self.old user.now role.now ≡ Ok self.new) }
+        ensures refused { IfErr result (IsFaultOf (rows.assign self.old user.now role.now)) }
         ensures err { OnErr result (self.new ≡ self.old) }
     {
-        self.may_assign(connection, user, role)?;
+        self.may_assign(user, role)?;
         let assigned = self.assigned_with(user, role)?;
         if let Some(name) = self.broken_by_assigned(assigned.roles.as_slice()) {
             return Err(PolicyFault::Refused(Refusal::Ssd(name.copy()?)));
@@ -156,14 +146,12 @@ impl Policy {
     }
 
     /// The tests of a new assignment, without that of the sets.
-    fn may_assign(&self, connection: u32, user: &Name, role: &Name) -> Result<(), PolicyFault>
-        ensures administered { OnOk result (administered self.now connection ≡ Ok self.now) }
+    fn may_assign(&self, user: &Name, role: &Name) -> Result<(), PolicyFault>
         ensures user { OnOk result (is_user self.now user.now ≡ true) }
         ensures role { OnOk result (is_role self.now.roles role.now ≡ true) }
         ensures new { OnOk result (contains_name (assigned_roles self.now user.now) role.now ≡ false) }
-        ensures refused { IfErr result (IsFaultOf (rows.assign self.now connection user.now role.now)) }
+        ensures refused { IfErr result (IsFaultOf (rows.assign self.now user.now role.now)) }
     {
-        self.administers(connection)?;
         if !self.is_user(user) || !self.is_role(role) {
             return Err(PolicyFault::Refused(Refusal::Unknown));
         }
@@ -176,13 +164,12 @@ impl Policy {
     /// Removes an assignment. The user's sessions lose what it authorized (DeassignUser).
     ///
     /// # Errors
-    /// `NoSession`, `NotPermitted`, `Unknown` assignment, tested in this order; or `Memory`. Then the policy is unchanged.
-    pub fn deassign(&mut self, connection: u32, user: &Name, role: &Name) -> Result<(), PolicyFault>
-        ensures ok { OnOk result (rows.deassign self.old connection user.now role.now ≡ Ok self.new) }
-        ensures refused { IfErr result (IsFaultOf (rows.deassign self.old connection user.now role.now)) }
+    /// `Unknown` assignment; or `Memory`. Then the policy is unchanged.
+    pub fn deassign(&mut self, user: &Name, role: &Name) -> Result<(), PolicyFault>
+        ensures ok { OnOk result (rows.deassign self.old user.now role.now ≡ Ok self.new) }
+        ensures refused { IfErr result (IsFaultOf (rows.deassign self.old user.now role.now)) }
         ensures err { OnErr result (self.new ≡ self.old) }
     {
-        self.administers(connection)?;
         if !self.is_assigned(user, role) {
             return Err(PolicyFault::Refused(Refusal::Unknown));
         }
@@ -239,24 +226,23 @@ impl Policy {
     /// operation's masks. All others stay shared; each costs at most a count.
     ///
     /// # Errors
-    /// `NoSession`, `NotPermitted`, `Unknown` role, `Known`, `Full`, tested in this order; or `Memory`. Then the policy is unchanged.
-    pub fn grant(&mut self, connection: u32, grant: Grant) -> Result<(), PolicyFault>
-        ensures ok { OnOk result (rows.grant self.old connection grant ≡ Ok self.new) }
-        ensures refused { IfErr result (IsFaultOf (rows.grant self.old connection grant)) }
+    /// `Unknown` role, `Known`, `Full`, tested in this order; or `Memory`. Then the policy is unchanged.
+    pub fn grant(&mut self, grant: Grant) -> Result<(), PolicyFault>
+        ensures ok { OnOk result (rows.grant self.old grant ≡ Ok self.new) }
+        ensures refused { IfErr result (IsFaultOf (rows.grant self.old grant)) }
         ensures err { OnErr result (self.new ≡ self.old) }
     {
-        let permissions = self.permissions_with(connection, &grant)?;
+        let permissions = self.permissions_with(&grant)?;
         self.permissions = permissions;
         Ok(())
     }
 
     /// The permissions after one more grant, if the session may make it.
-    fn permissions_with(&self, connection: u32, grant: &Grant) -> Result<Permissions, PolicyFault>
-        ensures ok { IfOk result (λ next. rows.grant self.now connection grant.now ≡ Ok (record self.now { granted = next.granted })) }
+    fn permissions_with(&self, grant: &Grant) -> Result<Permissions, PolicyFault>
+        ensures ok { IfOk result (λ next. rows.grant self.now grant.now ≡ Ok (record self.now { granted = next.granted })) }
         ensures same { IfOk result (λ next. next.roles ≡ self.now.roles) }
-        ensures refused { IfErr result (IsFaultOf (rows.grant self.now connection grant.now)) }
+        ensures refused { IfErr result (IsFaultOf (rows.grant self.now grant.now)) }
     {
-        self.administers(connection)?;
         if !self.is_role(&grant.role) {
             return Err(PolicyFault::Refused(Refusal::Unknown));
         }
@@ -272,13 +258,12 @@ impl Policy {
     /// Removes a grant (RevokePermission).
     ///
     /// # Errors
-    /// `NoSession`, `NotPermitted`, `Unknown` grant, tested in this order; or `Memory`. Then the policy is unchanged.
-    pub fn revoke(&mut self, connection: u32, grant: &Grant) -> Result<(), PolicyFault>
-        ensures ok { OnOk result (rows.revoke self.old connection grant.now ≡ Ok self.new) }
-        ensures refused { IfErr result (IsFaultOf (rows.revoke self.old connection grant.now)) }
+    /// `Unknown` grant; or `Memory`. Then the policy is unchanged.
+    pub fn revoke(&mut self, grant: &Grant) -> Result<(), PolicyFault>
+        ensures ok { OnOk result (rows.revoke self.old grant.now ≡ Ok self.new) }
+        ensures refused { IfErr result (IsFaultOf (rows.revoke self.old grant.now)) }
         ensures err { OnErr result (self.new ≡ self.old) }
     {
-        self.administers(connection)?;
         if !self.has_grant(grant) {
             return Err(PolicyFault::Refused(Refusal::Unknown));
         }

@@ -89,18 +89,12 @@ impl Policy {
     /// Makes the senior an immediate senior of the junior (AddInheritance).
     ///
     /// # Errors
-    /// `NoSession`, `NotPermitted`, `Unknown` role, `Known`, `Loop`, `Ssd`, `Dsd`, tested in this order; or `Memory`. Then the policy is unchanged.
-    pub fn inherit(
-        &mut self,
-        connection: u32,
-        senior: &Name,
-        junior: &Name,
-    ) -> Result<(), PolicyFault>
-        ensures ok { OnOk result (rows.inherit self.old connection senior.now junior.now ≡ Ok self.new) }
-        ensures refused { IfErr result (IsFaultOf (rows.inherit self.old connection senior.now junior.now)) }
+    /// `Unknown` role, `Known`, `Loop`, `Ssd`, `Dsd`, tested in this order; or `Memory`. Then the policy is unchanged.
+    pub fn inherit(&mut self, senior: &Name, junior: &Name) -> Result<(), PolicyFault>
+        ensures ok { OnOk result (rows.inherit self.old senior.now junior.now ≡ Ok self.new) }
+        ensures refused { IfErr result (IsFaultOf (rows.inherit self.old senior.now junior.now)) }
         ensures err { OnErr result (self.new ≡ self.old) }
     {
-        self.administers(connection)?;
         let next = with_changed_pair(&self.permissions, PairChange::Inherit, senior, junior)?;
         let roles = next.roles();
         let users = self
@@ -116,18 +110,12 @@ impl Policy {
     /// Removes an immediate pair of roles. Sessions lose what the pair authorized (DeleteInheritance).
     ///
     /// # Errors
-    /// `NoSession`, `NotPermitted`, `Unknown` pair, tested in this order; or `Memory`. Then the policy is unchanged.
-    pub fn uninherit(
-        &mut self,
-        connection: u32,
-        senior: &Name,
-        junior: &Name,
-    ) -> Result<(), PolicyFault>
-        ensures ok { OnOk result (rows.uninherit self.old connection senior.now junior.now ≡ Ok self.new) }
-        ensures refused { IfErr result (IsFaultOf (rows.uninherit self.old connection senior.now junior.now)) }
+    /// `Unknown` pair; or `Memory`. Then the policy is unchanged.
+    pub fn uninherit(&mut self, senior: &Name, junior: &Name) -> Result<(), PolicyFault>
+        ensures ok { OnOk result (rows.uninherit self.old senior.now junior.now ≡ Ok self.new) }
+        ensures refused { IfErr result (IsFaultOf (rows.uninherit self.old senior.now junior.now)) }
         ensures err { OnErr result (self.new ≡ self.old) }
     {
-        self.administers(connection)?;
         let permissions = with_changed_pair(
             &self.permissions,
             PairChange::Uninherit,

@@ -2,7 +2,8 @@
 //! general role hierarchy and separation of duty).
 //!
 //! [`Policy`] answers each request by the tests of its decision table, in their order. The first that fails refuses the request. A refused
-//! request changes nothing.
+//! request changes nothing. No table tests whether the connection has a session and the permission that the request needs: callers test it
+//! before, by [`Policy::has_session`] and [`Policy::permits`].
 #![tactic(auto)]
 
 mod access;

@@ -1,5 +1,5 @@
 //! The policy's tables, the questions that they answer, and sessions.
-ghost use Rattle.std.specs.Prelude.{◌≡◌, ◌≢◌, ℕ, [], ◌∷◌, ◌++◌, true, IfOk, IfErr, IfSome, OnOk, OnErr, Ok, Err, Some, codes, is_some, nat_lt, length};
+ghost use Rattle.std.specs.Prelude.{◌≡◌, ℕ, [], ◌∷◌, IfOk, IfErr, IfSome, codes, is_some, nat_lt, length};
 ghost use Rattle.mpw_permissions.specs.Grant.{grant_eq};
 ghost use Rattle.std.specs.List.{list_any};
 ghost use Rattle.std.specs.Option.{option_copied};
@@ -8,13 +8,12 @@ ghost use Rattle.mpw_roles.specs.Hierarchy.{is_role};
 ghost use Rattle.mpw_roles.specs.Order.{roles_below};
 ghost use Rattle.mpw_rbac.specs.Masked.{AreUsers};
 ghost use Rattle.mpw_rbac.specs.Policy.{max_users, max_grants, permits, is_user, session_of, assigned_roles, authorized, new_policy};
-ghost use Rattle.mpw_rbac.specs.Rows.{IsFaultOf, administered, user_of};
-ghost use Rattle.mpw_rbac.specs.Rows as rows;
+ghost use Rattle.mpw_rbac.specs.Rows.{user_of};
 ghost use Rattle.mpw_rbac.specs.Table.{value_at};
 
 use crate::active::Sessions;
 use crate::users::Users;
-use crate::{Digest, Identity, PolicyFault, Refusal, Session, User};
+use crate::{Digest, PolicyFault, Session, User};
 use mpw_geom::{Name, Names};
 use mpw_permissions::{Grant, Object, Operation, Permissions};
 use mpw_roles::Roles;
@@ -128,21 +127,6 @@ impl Policy {
         ensures { result ≡ permits self.now connection operation object.now }
     {
         self.access(connection, operation).permits(object)
-    }
-
-    /// The tests that every administrative request begins with: a session, and the permission `admin desk`.
-    pub(crate) fn administers(&self, connection: u32) -> Result<(), PolicyFault>
-        ensures ok { OnOk result (administered self.now connection ≡ Ok self.now) }
-        ensures refused { IfErr result (IsFaultOf (administered self.now connection)) }
-        ensures memory { IfErr result (λ fault. fault ≢ PolicyFault.Memory) }
-    {
-        if self.session(connection).is_none() {
-            return Err(PolicyFault::Refused(Refusal::NoSession));
-        }
-        if !self.permits(connection, Operation::Admin, &Object::Desk) {
-            return Err(PolicyFault::Refused(Refusal::NotPermitted(Operation::Admin, Object::Desk)));
-        }
-        Ok(())
     }
 
     /// The user of the connection's session, if it has one.

@@ -4,7 +4,6 @@ ghost use Rattle.mpw_rbac.specs.declared.refusal.PolicyFault.TheVariants.{Memory
 ghost use Rattle.mpw_rbac.specs.Fault.{fault_of_roles, fault_of_sets};
 
 use mpw_geom::Name;
-use mpw_permissions::{Object, Operation};
 use mpw_roles::RolesFault;
 use mpw_separation::SetsFault;
 use std::alloc::AllocError;
@@ -18,10 +17,6 @@ pub enum Refusal {
     Opened,
     /// There is no such user, or the token is wrong.
     Login,
-    /// The connection has no session.
-    NoSession,
-    /// No acting role has a grant of the operation on the object.
-    NotPermitted(Operation, Object),
     /// The name is no role, or none that the user is authorized for.
     NotAuthorized(Name),
     /// A static separation set would be broken. The name is the first in alphabetical order.

@@ -1,5 +1,5 @@
 //! The administrative requests of separation of duty.
-ghost use Rattle.std.specs.Prelude.{◌≡◌, ◌≢◌, ◌⊎◌, true, false, [], ◌∷◌, map, IfErr, OnOk, OnErr, Ok, Err};
+ghost use Rattle.std.specs.Prelude.{◌≡◌, ◌≢◌, ◌⊎◌, true, false, [], ◌∷◌, map, nat_lt, IfErr, OnOk, OnErr, Ok, Err};
 ghost use Rattle.std.specs.List.{list_all};
 ghost use Rattle.std.specs.Option.{option_copied};
 ghost use Rattle.mpw_roles.specs.Hierarchy.{is_role, role_names};
@@ -10,7 +10,7 @@ ghost use Rattle.mpw_rbac.specs.Internal.Kinds.{other, kind_sets, bound_lists, s
 ghost use Rattle.mpw_rbac.specs.Internal.Kinds as kinds;
 ghost use Rattle.mpw_rbac.specs.Masked.{AreAuthorized, AreBelow, sessions_in, masks_in};
 ghost use Rattle.mpw_rbac.specs.Policy.{assigned_lists, active_lists};
-ghost use Rattle.mpw_rbac.specs.Rows.{IsFaultOf, administered};
+ghost use Rattle.mpw_rbac.specs.Rows.{IsFaultOf};
 ghost use Rattle.mpw_rbac.specs.Rows as rows;
 
 use crate::active::Connected;
@@ -152,65 +152,60 @@ impl Policy {
     /// Makes a static set (CreateSsdSet).
     ///
     /// # Errors
-    /// `NoSession`, `NotPermitted`, `Known`, `Unknown` role, `Ssd`, `Full`, tested in this order; or `Memory`. Then the policy is unchanged.
-    pub fn ssd(&mut self, connection: u32, set: SeparationSet) -> Result<(), PolicyFault>
-        ensures ok { OnOk result (rows.ssd self.old connection set ≡ Ok self.new) }
-        ensures refused { IfErr result (IsFaultOf (rows.ssd self.old connection set)) }
+    /// `Known`, `Unknown` role, `Ssd`, `Full`, tested in this order; or `Memory`. Then the policy is unchanged.
+    pub fn ssd(&mut self, set: SeparationSet) -> Result<(), PolicyFault>
+        ensures ok { OnOk result (rows.ssd self.old set ≡ Ok self.new) }
+        ensures refused { IfErr result (IsFaultOf (rows.ssd self.old set)) }
         ensures err { OnErr result (self.new ≡ self.old) }
     {
-        self.make_set(connection, Kind::Static, set)
+        self.make_set(Kind::Static, set)
     }
 
     /// Makes a dynamic set (CreateDsdSet).
     ///
     /// # Errors
-    /// `NoSession`, `NotPermitted`, `Known`, `Unknown` role, `Dsd`, `Full`, tested in this order; or `Memory`. Then the policy is unchanged.
-    pub fn dsd(&mut self, connection: u32, set: SeparationSet) -> Result<(), PolicyFault>
-        ensures ok { OnOk result (rows.dsd self.old connection set ≡ Ok self.new) }
-        ensures refused { IfErr result (IsFaultOf (rows.dsd self.old connection set)) }
+    /// `Known`, `Unknown` role, `Dsd`, `Full`, tested in this order; or `Memory`. Then the policy is unchanged.
+    pub fn dsd(&mut self, set: SeparationSet) -> Result<(), PolicyFault>
+        ensures ok { OnOk result (rows.dsd self.old set ≡ Ok self.new) }
+        ensures refused { IfErr result (IsFaultOf (rows.dsd self.old set)) }
         ensures err { OnErr result (self.new ≡ self.old) }
     {
-        self.make_set(connection, Kind::Dynamic, set)
+        self.make_set(Kind::Dynamic, set)
     }
 
     /// Removes a static set (DeleteSsdSet). It takes no memory.
     ///
     /// # Errors
-    /// `NoSession`, `NotPermitted`, `Unknown` set, tested in this order. Then the policy is unchanged.
-    pub fn unssd(&mut self, connection: u32, name: &Name) -> Result<(), PolicyFault>
-        ensures ok { OnOk result (rows.unssd self.old connection name.now ≡ Ok self.new) }
-        ensures refused { IfErr result (IsFaultOf (rows.unssd self.old connection name.now)) }
+    /// `Unknown` set. Then the policy is unchanged.
+    pub fn unssd(&mut self, name: &Name) -> Result<(), PolicyFault>
+        ensures ok { OnOk result (rows.unssd self.old name.now ≡ Ok self.new) }
+        ensures refused { IfErr result (IsFaultOf (rows.unssd self.old name.now)) }
         ensures memory { IfErr result (λ fault. fault ≢ PolicyFault.Memory) }
         ensures err { OnErr result (self.new ≡ self.old) }
     {
-        self.remove_set(connection, Kind::Static, name)
+        self.remove_set(Kind::Static, name)
     }
 
     /// Removes a dynamic set (DeleteDsdSet). It takes no memory.
     ///
     /// # Errors
-    /// `NoSession`, `NotPermitted`, `Unknown` set, tested in this order. Then the policy is unchanged.
-    pub fn undsd(&mut self, connection: u32, name: &Name) -> Result<(), PolicyFault>
-        ensures ok { OnOk result (rows.undsd self.old connection name.now ≡ Ok self.new) }
-        ensures refused { IfErr result (IsFaultOf (rows.undsd self.old connection name.now)) }
+    /// `Unknown` set. Then the policy is unchanged.
+    pub fn undsd(&mut self, name: &Name) -> Result<(), PolicyFault>
+        ensures ok { OnOk result (rows.undsd self.old name.now ≡ Ok self.new) }
+        ensures refused { IfErr result (IsFaultOf (rows.undsd self.old name.now)) }
         ensures memory { IfErr result (λ fault. fault ≢ PolicyFault.Memory) }
         ensures err { OnErr result (self.new ≡ self.old) }
     {
-        self.remove_set(connection, Kind::Dynamic, name)
+        self.remove_set(Kind::Dynamic, name)
     }
 
     /// Makes a set of the kind.
-    fn make_set(
-        &mut self,
-        connection: u32,
-        kind: Kind,
-        set: SeparationSet,
-    ) -> Result<(), PolicyFault>
-        ensures ok { OnOk result (kinds.make_set kind self.old connection set ≡ Ok self.new) }
-        ensures refused { IfErr result (IsFaultOf (kinds.make_set kind self.old connection set)) }
+    fn make_set(&mut self, kind: Kind, set: SeparationSet) -> Result<(), PolicyFault>
+        ensures ok { OnOk result (kinds.make_set kind self.old set ≡ Ok self.new) }
+        ensures refused { IfErr result (IsFaultOf (kinds.make_set kind self.old set)) }
         ensures err { OnErr result (self.new ≡ self.old) }
     {
-        self.may_make_set(connection, kind, &set)?;
+        self.may_make_set(kind, &set)?;
         if self.is_broken(kind, &set) {
             return Err(PolicyFault::Refused(set_refusal(kind, set.into_name())));
         }
@@ -219,18 +214,12 @@ impl Policy {
     }
 
     /// The tests of a new set, without those of the users or sessions that it binds and of room.
-    fn may_make_set(
-        &self,
-        connection: u32,
-        kind: Kind,
-        set: &SeparationSet,
-    ) -> Result<(), PolicyFault>
-        ensures administered { OnOk result (administered self.now connection ≡ Ok self.now) }
+    fn may_make_set(&self, kind: Kind, set: &SeparationSet) -> Result<(), PolicyFault>
+        ensures form { OnOk result (nat_lt 0 set.now.cardinality ≡ true) }
         ensures new { OnOk result (has_set (kind_sets kind self.now) set.now.name ≡ false) }
         ensures roles { OnOk result (list_all (is_role self.now.roles) set.now.roles ≡ true) }
-        ensures refused { IfErr result (IsFaultOf (kinds.make_set kind self.now connection set.now)) }
+        ensures refused { IfErr result (IsFaultOf (kinds.make_set kind self.now set.now)) }
     {
-        self.administers(connection)?;
         if self.has_set(kind, set.name()) {
             return Err(PolicyFault::Refused(Refusal::Known));
         }
@@ -241,13 +230,12 @@ impl Policy {
     }
 
     /// Removes a set of the kind. It takes no memory.
-    fn remove_set(&mut self, connection: u32, kind: Kind, name: &Name) -> Result<(), PolicyFault>
-        ensures ok { OnOk result (kinds.remove_set kind self.old connection name.now ≡ Ok self.new) }
-        ensures refused { IfErr result (IsFaultOf (kinds.remove_set kind self.old connection name.now)) }
+    fn remove_set(&mut self, kind: Kind, name: &Name) -> Result<(), PolicyFault>
+        ensures ok { OnOk result (kinds.remove_set kind self.old name.now ≡ Ok self.new) }
+        ensures refused { IfErr result (IsFaultOf (kinds.remove_set kind self.old name.now)) }
         ensures memory { IfErr result (λ fault. fault ≢ PolicyFault.Memory) }
         ensures err { OnErr result (self.new ≡ self.old) }
     {
-        self.administers(connection)?;
         remove(&mut self.sets, kind, self.permissions.roles(), name)?;
         Ok(())
     }

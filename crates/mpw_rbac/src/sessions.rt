@@ -1,5 +1,5 @@
 //! Sessions: each has one connection, one user, and the active roles that it chose.
-ghost use Rattle.std.specs.Prelude.{◌≡◌, ◌≢◌, true, false, is_some, [], ◌∷◌, ◌++◌, IfOk, IfErr, OnOk, OnErr, Ok, Err};
+ghost use Rattle.std.specs.Prelude.{◌≡◌, true, false, is_some, [], ◌∷◌, ◌++◌, IfOk, IfErr, OnOk, OnErr, Ok, Err};
 ghost use Rattle.std.specs.Option.{option_copied};
 ghost use Rattle.mpw_geom.specs.Names.{contains_name, without_name, by_name};
 ghost use Rattle.mpw_separation.specs.Separation.{least_broken};
@@ -49,24 +49,7 @@ impl Policy {
         Ok(())
     }
 
-    /// Ends the connection's session (DeleteSession). It takes no memory.
-    ///
-    /// # Errors
-    /// `NoSession`. Then the policy is unchanged.
-    pub fn close(&mut self, connection: u32) -> Result<(), PolicyFault>
-        ensures ok { OnOk result (rows.close_session self.old connection ≡ Ok self.new) }
-        ensures refused { IfErr result (IsFaultOf (rows.close_session self.old connection)) }
-        ensures memory { IfErr result (λ fault. fault ≢ PolicyFault.Memory) }
-        ensures err { OnErr result (self.new ≡ self.old) }
-    {
-        if !self.has_session(connection) {
-            return Err(PolicyFault::Refused(Refusal::NoSession));
-        }
-        self.end(connection);
-        Ok(())
-    }
-
-    /// Ends the connection's session, if it has one. It takes no memory.
+    /// Ends the connection's session, if it has one (DeleteSession). It takes no memory.
     pub fn end(&mut self, connection: u32)
         ensures { self.new ≡ end_session self.old connection }
     {
@@ -83,8 +66,9 @@ impl Policy {
     /// Makes a role active in the connection's session (AddActiveRole).
     ///
     /// # Errors
-    /// `NoSession`, `NotAuthorized`, `Known`, `Dsd`, tested in this order; or `Memory`. Then the policy is unchanged.
+    /// `NotAuthorized`, `Known`, `Dsd`, tested in this order; or `Memory`. Then the policy is unchanged.
     pub fn activate(&mut self, connection: u32, role: &Name) -> Result<(), PolicyFault>
+        requires session { is_some (session_of self.old connection) ≡ true }
         ensures ok { OnOk result (rows.activate self.old connection role.now ≡ Ok self.new) }
         ensures refused { IfErr result (IsFaultOf (rows.activate self.old connection role.now)) }
         ensures err { OnErr result (self.new ≡ self.old) }
@@ -100,14 +84,11 @@ impl Policy {
 
     /// The tests of a role that is to be activated, without that of the sets.
     fn activation_begins(&self, connection: u32, role: &Name) -> Result<(), PolicyFault>
-        ensures session { OnOk result (is_some (session_of self.now connection) ≡ true) }
+        requires { is_some (session_of self.now connection) ≡ true }
         ensures authorized { OnOk result (contains_name (authorized self.now (user_of self.now connection)) role.now ≡ true) }
         ensures new { OnOk result (contains_name (active_roles self.now connection) role.now ≡ false) }
         ensures refused { IfErr result (IsFaultOf (rows.activate self.now connection role.now)) }
     {
-        if !self.has_session(connection) {
-            return Err(PolicyFault::Refused(Refusal::NoSession));
-        }
         if !self.may_activate(connection, role) {
             return Err(PolicyFault::Refused(Refusal::NotAuthorized(role.copy()?)));
         }
@@ -120,15 +101,12 @@ impl Policy {
     /// Makes an active role of the connection's session inactive (DropActiveRole).
     ///
     /// # Errors
-    /// `NoSession`, then `Unknown` if the role isn't active; or `Memory`. Then the policy is unchanged.
+    /// `Unknown` if the role isn't active; or `Memory`. Then the policy is unchanged.
     pub fn drop_role(&mut self, connection: u32, role: &Name) -> Result<(), PolicyFault>
         ensures ok { OnOk result (rows.drop_role self.old connection role.now ≡ Ok self.new) }
         ensures refused { IfErr result (IsFaultOf (rows.drop_role self.old connection role.now)) }
         ensures err { OnErr result (self.new ≡ self.old) }
     {
-        if !self.has_session(connection) {
-            return Err(PolicyFault::Refused(Refusal::NoSession));
-        }
         if !self.is_active(connection, role) {
             return Err(PolicyFault::Refused(Refusal::Unknown));
         }
@@ -140,15 +118,15 @@ impl Policy {
     /// What `whoami` shows of the connection's session.
     ///
     /// # Errors
-    /// `NoSession`; or `Memory`.
-    pub fn whoami(&self, connection: u32) -> Result<Identity, PolicyFault>
-        ensures ok { IfOk result (λ identity. rows.whoami self.now connection ≡ Ok identity) }
-        ensures refused { IfErr result (IsFaultOf (rows.whoami self.now connection)) }
+    /// Out of memory.
+    pub fn whoami(&self, connection: u32) -> Result<Identity, AllocError>
+        requires session { is_some (session_of self.now connection) ≡ true }
+        ensures { IfOk result (λ identity. identity ≡ rows.whoami self.now connection) }
     {
-        let Some(session) = self.session(connection) else {
-            return Err(PolicyFault::Refused(Refusal::NoSession));
-        };
-        Ok(self.identity(session)?)
+        match self.session(connection) {
+            Some(session) => self.identity(session),
+            None => unreachable!(),
+        }
     }
 
     /// What `whoami` shows of a session.

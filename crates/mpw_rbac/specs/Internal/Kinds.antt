@@ -1,6 +1,6 @@
 -- Definitions for private functions and proofs of separation: the decision tables of a set of either
 -- kind.
-use Rattle.std.specs.Prelude.{ℕ, not, List, [], ◌∷◌, ◌++◌, length, nat_lt, Result}
+use Rattle.std.specs.Prelude.{not, List, [], ◌∷◌, ◌++◌, length, nat_lt, Result}
 use Rattle.std.specs.List.{list_all}
 use Rattle.mpw_roles.specs.Decided.{decided}
 use Rattle.mpw_roles.specs.Hierarchy.{Name, is_role}
@@ -46,13 +46,11 @@ set_refusal Static name = Ssd name
 set_refusal Dynamic name = Dsd name
 
 -- a set of the kind is made
-abbrev pub make_set : Kind → Policy → ℕ → SeparationSet → Result Policy Refusal
-make_set kind policy connection set =
+abbrev pub make_set : Kind → Policy → SeparationSet → Result Policy Refusal
+make_set kind policy set =
     let sets = kind_sets kind policy ++ set ∷ [] in
     decided
-    (rows.in_session policy connection
-    ∷ rows.administers policy connection
-    ∷ (not (has_set (kind_sets kind policy) set.name), Known)
+    ((not (has_set (kind_sets kind policy) set.name), Known)
     ∷ (list_all (is_role policy.roles) set.roles, Unknown)
     ∷ rows.none_broken (set_refusal kind) (least_broken policy.roles sets (bound_lists kind policy))
     ∷ (nat_lt (length (kind_sets kind policy)) max_sets, Full)
@@ -60,11 +58,8 @@ make_set kind policy connection set =
     (with_sets kind policy sets)
 
 -- a set of the kind is removed
-abbrev pub remove_set : Kind → Policy → ℕ → Name → Result Policy Refusal
-remove_set kind policy connection name =
+abbrev pub remove_set : Kind → Policy → Name → Result Policy Refusal
+remove_set kind policy name =
     decided
-    (rows.in_session policy connection
-    ∷ rows.administers policy connection
-    ∷ (has_set (kind_sets kind policy) name, Unknown)
-    ∷ [])
+    ((has_set (kind_sets kind policy) name, Unknown) ∷ [])
     (with_sets kind policy (without_set (kind_sets kind policy) name))

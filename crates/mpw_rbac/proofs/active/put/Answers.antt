@@ -1,5 +1,5 @@
 -- The session at the index of the connection, or at the end.
-use Rattle.std.proofs.Common.{◌≡◌, ◌∙◌, ◌==◌, ℕ, List, Some, None, Option, ap, sym, position, slice_set}
+use Rattle.std.proofs.Common.{◌≡◌, ◌∙◌, ℕ, List, Option, ap, position, slice_set}
 use Rattle.mpw_rbac.specs.declared.active.Active.{Active}
 use Rattle.mpw_rbac.proofs.SessionLemmas.{is_connected, put-at, put-last}
 use Rattle.mpw_rbac.proofs.active.put.Goals as goal

@@ -1,5 +1,5 @@
 -- The value is at the index of the name, or at the end.
-use Rattle.std.proofs.Common.{◌≡◌, ◌∙◌, ◌+◌, sym, ap, arith, is_some, [], ◌∷◌, ◌++◌, length, length-append}
+use Rattle.std.proofs.Common.{◌∙◌, ◌+◌, sym, ap, is_some, [], ◌∷◌, ◌++◌, length, length-append}
 use Rattle.std.specs.Prelude.{zip}
 use Rattle.std.proofs.lemmas.Result.{on_ok_weaker}
 use Rattle.mpw_geom.specs.Names.{name_eq, contains_name}

@@ -3,7 +3,6 @@ use Rattle.std.proofs.Common.{◌≡◌, ◌∙◌, ◌+◌, sym, ap, subst, Lis
 use Rattle.std.proofs.lemmas.List.{map_more, take_all}
 use Rattle.mpw_roles.specs.Hierarchy.{Name}
 use Rattle.mpw_roles.specs.Places.{is_place_below}
-use Rattle.mpw_roles.specs.declared.mask.Mask.{Mask}
 use Rattle.mpw_rbac.specs.Masked.{AreBelow, IsBelow}
 use Rattle.mpw_rbac.specs.declared.session.User.{User}
 use Rattle.mpw_rbac.proofs.MaskedLemmas.{below-last}

@@ -1,9 +1,9 @@
 -- An authorized role becomes active if no set is broken.
-use Rattle.std.proofs.Common.{◌≡◌, ◌∙◌, sym, ap, subst, true, false, Ok, Err, [], ◌∷◌, ◌++◌, ◌==◌, is_some}
+use Rattle.std.proofs.Common.{◌≡◌, ◌∙◌, sym, ap, subst, true, false, Ok, Err, [], ◌∷◌, ◌++◌, ◌==◌}
 use Rattle.mpw_rbac.specs.Table.{insert_entry}
 use Rattle.mpw_geom.specs.Names.{contains_name}
 use Rattle.mpw_separation.specs.Separation.{least_broken}
-use Rattle.mpw_rbac.specs.Policy.{Policy, active_lists, authorized, session_of}
+use Rattle.mpw_rbac.specs.Policy.{Policy, active_lists, authorized}
 use Rattle.mpw_rbac.specs.Rows as rows
 use Rattle.mpw_rbac.specs.Sound.{Sound}
 use Rattle.mpw_rbac.specs.declared.refusal.Refusal.TheVariants.{Dsd}
@@ -18,8 +18,7 @@ use Rattle.mpw_rbac.proofs.policy.Policy.activate.Goals as goal
 
 -- the tests before that of the sets, and the session that it tests
 tested : (c : After-broken_by_active)
-    → (is_some (session_of c.args.self.now c.args.connection) ≡ true)
-    × (contains_name (authorized c.args.self.now (rows.user_of c.args.self.now c.args.connection))
+    → (contains_name (authorized c.args.self.now (rows.user_of c.args.self.now c.args.connection))
     c.args.role.now ≡ true)
     × (contains_name (rows.active_roles c.args.self.now c.args.connection) c.args.role.now ≡ false)
     × (least_broken c.args.self.now.roles c.args.self.now.dsd
@@ -29,13 +28,11 @@ tested : (c : After-broken_by_active)
     (c.in_ok-active.active.session.active ∷ []))
 tested c =
     let p = c.args.self.now in
-    let there = c.in_ok-activation_begins.ensures.session in
     let asked = ap (λ (s : Session). s.active) c.in_ok-active.ensures.session in (
-      there,
       c.in_ok-activation_begins.ensures.authorized,
       c.in_ok-activation_begins.ensures.new,
       activate-same p c.args.connection c.args.role.now
-          (subst Sound c.self.view_is c.self.invariant.sound) there
+          (subst Sound c.self.view_is c.self.invariant.sound) c.requires.session
           ∙ ap (λ l. least_broken p.roles p.dsd (l ∷ [])) (sym asked),
     )
 
@@ -59,8 +56,8 @@ accepted c =
     c.in_ok-insert.ensures.ok
     ∙ (λ i. insert_entry (λ a b. a == b) (c.self.view_is i).sessions connection
     (c.in_ok-active.ensures.session i)) in
-    let row = activate-ok q connection role sessions t.0 t.1 t.2
-    (t.3 ∙ sym (c.in_default.ensures c.in_ok-active.ensures.acting)) is in
+    let row = activate-ok q connection role sessions c.requires.session t.0 t.1
+    (t.2 ∙ sym (c.in_default.ensures c.in_ok-active.ensures.acting)) is in
     let sound = sound-activate_row connection role q (record q { sessions = sessions }) row
     (subst Sound c.self.view_is c.self.invariant.sound) in (
       subst (λ (p : Policy). Sound (record p { sessions = sessions })) (sym c.self.view_is) sound,
@@ -70,8 +67,8 @@ accepted c =
 pub returns-in-Some-clause-refused : goal.returns-in-Some-clause-refused
 returns-in-Some-clause-refused c =
     let t = tested (goal.at.returns-in-Some-clause-refused c).After-broken_by_active in
-    activate-broken c.args.self.now c.args.connection c.args.role.now c.in-Some.name.now t.0 t.1 t.2
-    (t.3 ∙ sym (c.in-Some.ensures c.in_ok-active.ensures.acting))
+    activate-broken c.args.self.now c.args.connection c.args.role.now c.in-Some.name.now t.0 t.1
+    (t.2 ∙ sym (c.in-Some.ensures c.in_ok-active.ensures.acting))
     ∙ ap (λ n. Err (Dsd n)) (sym c.in_ok-copy.ensures)
 
 pub invariant_of-self-2 : goal.invariant_of-self-2

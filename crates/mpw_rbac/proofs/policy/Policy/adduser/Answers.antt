@@ -1,11 +1,10 @@
 -- A new user is added at the end, without roles.
-use Rattle.std.proofs.Common.{◌≡◌, ◌∙◌, sym, ap, subst, true, false, Ok, [], ◌∷◌, ◌++◌, length}
+use Rattle.std.proofs.Common.{◌≡◌, ◌∙◌, sym, ap, subst, true, false, [], ◌∷◌, ◌++◌, length}
 use Rattle.std.specs.Prelude.{nat_lt}
 use Rattle.std.proofs.lemmas.Result.{err_from_is_err_and}
 use Rattle.mpw_rbac.specs.Table.{insert_entry}
 use Rattle.mpw_geom.specs.Names.{name_eq}
 use Rattle.mpw_rbac.specs.Policy.{Policy, policy_of, is_user}
-use Rattle.mpw_rbac.specs.Rows as rows
 use Rattle.mpw_rbac.specs.Sound.{Sound}
 use Rattle.mpw_rbac.proofs.RowFacts.{adduser-ok}
 use Rattle.mpw_rbac.proofs.KeepLemmas.{keep-adduser}
@@ -45,16 +44,12 @@ returns-clause-ok c =
     ∙ c.in_ok-may_add_user.ensures.new in
     let room : nat_lt (length p.users) 512 ≡ true = ap (λ (q : Policy). nat_lt (length q.users) 512)
     c.self.view_is ∙ c.in_ok-may_add_user.ensures.room in
-    let ok : rows.administered p c.args.connection ≡ Ok p =
-    subst (λ (q : Policy). rows.administered q c.args.connection ≡ Ok q) (sym c.self.view_is)
-    c.in_ok-may_add_user.ensures.administered in
     let is : c.in_ok-users.users.users ≡ insert_entry name_eq p.users user
     (record { digest = c.args.digest; roles = [] }) =
     c.in_ok-users.ensures.same ∙ ap (λ rs. insert_entry name_eq p.users user
     (record { digest = c.args.digest; roles = rs })) c.new-roles.ensures in
     rw (← c.self.view_is)
-    (adduser-ok p c.args.connection ok user c.args.digest c.in_ok-users.users.users
-    new room is)
+    (adduser-ok p user c.args.digest c.in_ok-users.users.users new room is)
 
 pub with-requires : goal.with-requires
 with-requires c = subst (λ h. AreAuthorized h c.self.inside.users) (sym c.roles.ensures)

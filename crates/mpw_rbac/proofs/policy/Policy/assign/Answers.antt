@@ -40,7 +40,7 @@ tested c =
 -- the decision table accepts, and the policy after it is sound
 accepted : (c : In_ok-users) → Sound
     (record (shown c.self.inside) { users = c.in_ok-users.users.users })
-    × (rows.assign c.args.self.now c.args.connection c.args.user.now c.args.role.now
+    × (rows.assign c.args.self.now c.args.user.now c.args.role.now
     ≡ Ok (record (shown c.self.inside) { users = c.in_ok-users.users.users }))
 accepted c =
     let q = c.args.self.now in
@@ -52,10 +52,9 @@ accepted c =
     (record { digest = rows.digest_of_user q user; roles = assigned_roles q user ++ role ∷ [] }) =
     c.in_ok-users.ensures.same ∙ (λ i. insert_entry name_eq (c.self.view_is i).users
     user (c.in_ok-assigned.ensures i)) in
-    let row =
-    assign-ok q c.args.connection c.in_ok-may_assign.ensures.administered user role users t.0 t.1 t.2
+    let row = assign-ok q user role users t.0 t.1 t.2
     (t.3 ∙ sym c.in_default.ensures) is in
-    let sound = sound-assign_row c.args.connection user role q (record q { users = users }) row
+    let sound = sound-assign_row user role q (record q { users = users }) row
     (subst Sound c.self.view_is c.self.invariant.sound) in (
       subst (λ (p : Policy). Sound (record p { users = users })) (sym c.self.view_is) sound,
       row ∙ ap (λ (p : Policy). Ok (record p { users = users })) (sym c.self.view_is),
@@ -64,8 +63,8 @@ accepted c =
 pub returns-in-Some-clause-refused : goal.returns-in-Some-clause-refused
 returns-in-Some-clause-refused c =
     let t = tested (goal.at.returns-in-Some-clause-refused c).After-broken_by_assigned in
-    assign-broken c.args.self.now c.args.connection c.in_ok-may_assign.ensures.administered c.args.user.now
-    c.args.role.now c.in-Some.name.now t.0 t.1 t.2 (t.3 ∙ sym c.in-Some.ensures)
+    assign-broken c.args.self.now c.args.user.now c.args.role.now c.in-Some.name.now t.0 t.1 t.2
+    (t.3 ∙ sym c.in-Some.ensures)
     ∙ ap (λ n. Err (Ssd n)) (sym c.in_ok-copy.ensures)
 
 pub invariant_of-self : goal.invariant_of-self

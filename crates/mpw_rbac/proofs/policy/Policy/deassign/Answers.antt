@@ -59,8 +59,7 @@ invariant_of-self c =
 pub returns-clause-ok : goal.returns-clause-ok
 returns-clause-ok c =
     let is = left (goal.at.returns-clause-ok c).After-trim in
-    deassign-ok c.args.self.now c.args.connection c.in_ok-administers.ensures.ok c.args.user.now
-    c.args.role.now is.0 ∙ ap Ok (sym is.1)
+    deassign-ok c.args.self.now c.args.user.now c.args.role.now is.0 ∙ ap Ok (sym is.1)
 
 pub with-requires : goal.with-requires
 with-requires c = subst (λ h. AreAuthorized h c.self.inside.users) (sym c.roles-roles.ensures)

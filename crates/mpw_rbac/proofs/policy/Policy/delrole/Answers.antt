@@ -55,10 +55,7 @@ pub returns-clause-ok : goal.returns-clause-ok
 returns-clause-ok c =
     let p = shown c.self.inside in
     let is = left (goal.at.returns-clause-ok c).After-place in
-    let ok : rows.administered p c.args.connection ≡ Ok p =
-    subst (λ (q : Policy). rows.administered q c.args.connection ≡ Ok q) (sym c.self.view_is)
-    c.in_ok-may_delete_role.ensures.administered in
     let known : is_role p.roles c.args.role.now ≡ true =
-    ap (λ (q : Policy). is_role q.roles c.args.role.now) c.self.view_is ∙ c.in_ok-may_delete_role.ensures.known in
-    rw (← c.self.view_is) (delrole-ok p c.args.connection ok c.args.role.now known is.0
-    ∙ ap Ok (sym is.1))
+    ap (λ (q : Policy). is_role q.roles c.args.role.now) c.self.view_is
+    ∙ c.in_ok-may_delete_role.ensures.known in
+    rw (← c.self.view_is) (delrole-ok p c.args.role.now known is.0 ∙ ap Ok (sym is.1))

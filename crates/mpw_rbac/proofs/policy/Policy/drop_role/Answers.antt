@@ -6,7 +6,7 @@ use Rattle.mpw_rbac.specs.Policy.{Policy}
 use Rattle.mpw_rbac.specs.Rows as rows
 use Rattle.mpw_rbac.specs.Sound.{Sound}
 use Rattle.mpw_rbac.proofs.LawLemmas.{sound-drop_role}
-use Rattle.mpw_rbac.proofs.RowLemmas.{drop-ok}
+use Rattle.mpw_rbac.proofs.RowLemmas.{active-session, drop-ok}
 use Rattle.mpw_rbac.proofs.Shown.{shown}
 use Rattle.mpw_rbac.specs.Masked.{IsBelow}
 use Rattle.mpw_rbac.proofs.policy.Policy.drop_role.Goals.{In_ok-insert}
@@ -31,8 +31,7 @@ accepted c =
     ∙ (λ i. insert_entry (λ a b. a == b) (c.self.view_is i).sessions connection
     (c.in_ok-active.ensures.session i)) in
     let row =
-    drop-ok q connection role left (sym c.has_session.ensures ∙ c.if-not-has_session.false)
-    (sym c.is_active.ensures ∙ c.if-not-is_active.false) is in (
+    drop-ok q connection role left (sym c.is_active.ensures ∙ c.if-not-is_active.false) is in (
       subst (λ (p : Policy). Sound (record p { sessions = left })) (sym c.self.view_is)
           (sound-drop_role connection role q (record q { sessions = left }) row
           (subst Sound c.self.view_is c.self.invariant.sound)),
@@ -49,6 +48,10 @@ invariant_of-self-2 c = record {
       (sym c.self.view_is) c.in_ok-active.ensures.acting);
   placed = c.self.invariant.placed;
 }
+
+pub without_active_role-requires : goal.without_active_role-requires
+without_active_role-requires c = active-session c.args.self.now c.args.connection c.args.role.now
+    (sym c.is_active.ensures ∙ c.if-not-is_active.false)
 
 pub returns-clause-ok : goal.returns-clause-ok
 returns-clause-ok c = (accepted (goal.at.returns-clause-ok c).In_ok-insert).1

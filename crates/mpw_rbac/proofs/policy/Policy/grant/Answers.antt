@@ -13,12 +13,12 @@ use Rattle.mpw_rbac.proofs.policy.Policy.grant.Goals as goal
 
 -- the decision table of the policy that the fields show, and its roles
 accepted : (c : In_ok-permissions)
-    → (rows.grant (shown c.self.inside) c.args.connection c.args.grant
+    → (rows.grant (shown c.self.inside) c.args.grant
     ≡ Ok (record (shown c.self.inside) { granted = c.in_ok-permissions.permissions.granted }))
     × (c.in_ok-permissions.permissions.roles ≡ c.self.inside.permissions.roles)
 accepted c =
     let next = c.in_ok-permissions.permissions in (
-      subst (λ (q : Policy). rows.grant q c.args.connection c.args.grant
+      subst (λ (q : Policy). rows.grant q c.args.grant
           ≡ Ok (record q { granted = next.granted })) (sym c.self.view_is)
           c.in_ok-permissions.ensures.ok,
       c.in_ok-permissions.ensures.same ∙ ap (λ (q : Policy). q.roles) (sym c.self.view_is),
@@ -33,7 +33,7 @@ invariant_of-self c =
     record {
       sound = subst (λ h. Sound (policy_of in'.users.users h next.granted in'.sets.sets
           in'.sessions.sessions)) (sym row.1)
-          (sound-grant c.args.connection c.args.grant p (record p { granted = next.granted }) row.0
+          (sound-grant c.args.grant p (record p { granted = next.granted }) row.0
           c.self.invariant.sound);
       authorized = subst (λ h. AreAuthorized h in'.users) (sym row.1) c.self.invariant.authorized;
       acting = subst (λ h. AreActing h in'.sessions) (sym row.1) c.self.invariant.acting;

@@ -71,11 +71,8 @@ invariant_of-self c =
 pub returns-clause-ok : goal.returns-clause-ok
 returns-clause-ok c =
     let p = shown c.self.inside in
-    let admin : rows.administered p c.args.connection ≡ Ok p =
-    subst (λ (q : Policy). rows.administered q c.args.connection ≡ Ok q) (sym c.self.view_is)
-    c.in_ok-administers.ensures.ok in
     let is = paired (goal.at.returns-clause-ok c).After-remask in
-    rw (← c.self.view_is) (inherit-ok p c.args.connection admin c.args.senior.now c.args.junior.now
+    rw (← c.self.view_is) (inherit-ok p c.args.senior.now c.args.junior.now
     c.in_ok-next.next.roles c.in_ok-next.ensures.ok is.0 is.1 ∙ ap Ok (sym is.2))
 
 pub returns-in_err-holds_among-clause-refused : goal.returns-in_err-holds_among-clause-refused
@@ -88,8 +85,7 @@ returns-in_err-holds_among-clause-refused c =
     let fault = c.in_err-holds_among.field-0.0 in
     let told = err_from_is_err_and c.from_residual-in_err-holds_among.result
     c.from_residual-in_err-holds_among.ensures.1 in
-    rw (told.1, told.2) (inherit-refused p c.args.connection c.in_ok-administers.ensures.ok
-    c.args.senior.now c.args.junior.now next.roles made fault
+    rw (told.1, told.2) (inherit-refused p c.args.senior.now c.args.junior.now next.roles made fault
     (subst (λ h. rows.IsFaultOf (holding p h) fault) c.roles-roles.ensures
     c.in_err-holds_among.ensures.refused))
 

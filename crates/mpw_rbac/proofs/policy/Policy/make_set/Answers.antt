@@ -14,11 +14,10 @@ use Rattle.mpw_rbac.proofs.policy.Policy.make_set.Goals.{After-is_broken, In_ok-
 use Rattle.mpw_rbac.proofs.policy.Policy.make_set.Goals as goal
 
 -- the decision table, after its tests of the name and of the roles
-row : (c : After-is_broken) → TellsSet c.args.kind c.args.self.now c.args.connection c.args.set
+row : (c : After-is_broken) → TellsSet c.args.kind c.args.self.now c.args.set
 row c =
     let q = c.args.self.now in
-    tells-set c.args.kind q c.args.connection c.args.set c.in_ok-may_make_set.ensures.administered
-    (subst Sound c.self.view_is c.self.invariant.sound)
+    tells-set c.args.kind q c.args.set (subst Sound c.self.view_is c.self.invariant.sound)
     c.in_ok-may_make_set.ensures.new c.in_ok-may_make_set.ensures.roles
 
 -- the policy after it
@@ -29,7 +28,7 @@ left c =
     p.sessions.sessions
 
 accepted : (c : In_ok-make) → Sound (left c)
-    × (make_set c.args.kind c.args.self.now c.args.connection c.args.set ≡ Ok (left c))
+    × (make_set c.args.kind c.args.self.now c.args.set ≡ Ok (left c))
 accepted c =
     let q = c.args.self.now in
     let kind = c.args.kind in
@@ -45,8 +44,8 @@ accepted c =
     ∙ ap (λ (p : Policy). sets_of (other kind) (all_sets p)) c.self.view_is) in
     let is : left c ≡ with_sets kind q more = λ i.
     let p = c.self.view_is i in policy_of p.users p.roles p.granted (sets i) p.sessions in (
-      subst Sound (sym is) (sound-made kind c.args.connection set q (with_sets kind q more) ok
-          (subst Sound c.self.view_is c.self.invariant.sound)),
+      subst Sound (sym is) (sound-made kind set c.in_ok-may_make_set.ensures.form q
+          (with_sets kind q more) ok (subst Sound c.self.view_is c.self.invariant.sound)),
       ok ∙ ap Ok (sym is),
     )
 

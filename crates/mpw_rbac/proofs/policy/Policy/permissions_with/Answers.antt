@@ -26,8 +26,7 @@ returns-clause-ok c =
     let is : next.granted ≡ p.granted ++ new ∷ [] =
     ap (λ (q : Permissions). q.granted) c.in_ok-with.ensures
     ∙ ap (λ (q : Policy). q.granted ++ new ∷ []) c.self.view_is in
-    grant-ok p c.args.connection c.in_ok-administers.ensures.ok new next.granted known
-    unknown room is
+    grant-ok p new next.granted known unknown room is
 
 pub returns-clause-same : goal.returns-clause-same
 returns-clause-same c = ap (λ (q : Permissions). q.roles) c.in_ok-with.ensures

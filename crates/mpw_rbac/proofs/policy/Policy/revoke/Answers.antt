@@ -4,7 +4,6 @@ use Rattle.std.specs.List.{list_any}
 use Rattle.mpw_permissions.specs.Grant.{grant_eq}
 use Rattle.mpw_permissions.specs.Permissions.{Permissions}
 use Rattle.mpw_rbac.specs.Policy.{Policy, policy_of}
-use Rattle.mpw_rbac.specs.Rows as rows
 use Rattle.mpw_rbac.specs.Sound.{Sound}
 use Rattle.mpw_rbac.proofs.KeepLemmas.{keep-granted}
 use Rattle.mpw_rbac.proofs.RowFacts.{revoke-ok}
@@ -35,9 +34,6 @@ returns-clause-ok c =
     let p = policy_of in'.users.users in'.permissions.roles in'.permissions.granted in'.sets.sets
     in'.sessions.sessions in
     let old = c.args.grant.now in
-    let ok : rows.administered p c.args.connection ≡ Ok p =
-    subst (λ (q : Policy). rows.administered q c.args.connection ≡ Ok q) (sym c.self.view_is)
-    c.in_ok-administers.ensures.ok in
     let known : list_any (grant_eq old) p.granted ≡ true =
     ap (λ (q : Policy). list_any (grant_eq old) q.granted) c.self.view_is
     ∙ sym c.has_grant.ensures ∙ c.if-not-has_grant.false in
@@ -45,6 +41,6 @@ returns-clause-ok c =
     let made = c.in_ok-permissions.ensures in
     let is : next.granted ≡ filter (λ other. not (grant_eq old other)) p.granted =
     ap (λ (q : Permissions). q.granted) made in
-    rw (← c.self.view_is) (revoke-ok p c.args.connection ok old next.granted known is
+    rw (← c.self.view_is) (revoke-ok p old next.granted known is
     ∙ ap (λ h. Ok (policy_of in'.users.users h next.granted in'.sets.sets in'.sessions.sessions))
     (sym (ap (λ (q : Permissions). q.roles) made)))

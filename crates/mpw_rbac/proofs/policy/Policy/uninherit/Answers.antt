@@ -1,10 +1,9 @@
 -- The pair is removed, and then the sessions are trimmed.
 use Rattle.std.proofs.Common.{◌≡◌, ◌∙◌, sym, ap, subst, true, Ok}
 use Rattle.mpw_roles.specs.Hierarchy.{is_immediate, without_pair}
-use Rattle.mpw_rbac.specs.Policy.{Policy, policy_of, trim, kept_sessions}
+use Rattle.mpw_rbac.specs.Policy.{policy_of, trim, kept_sessions}
 use Rattle.mpw_rbac.specs.Internal.Policy.{users_and_roles}
 use Rattle.mpw_rbac.specs.Sound.{Sound}
-use Rattle.mpw_rbac.specs.Rows as rows
 use Rattle.mpw_rbac.proofs.InheritLemmas.{uninherit-ok}
 use Rattle.mpw_rbac.proofs.KeepTrimmed.{keep-uninherit}
 use Rattle.mpw_rbac.proofs.RowFacts.{uninherited-pair}
@@ -54,10 +53,6 @@ invariant_of-self c =
 pub returns-clause-ok : goal.returns-clause-ok
 returns-clause-ok c =
     let is = left (goal.at.returns-clause-ok c).After-trim in
-    let admin : rows.administered (shown c.self.inside) c.args.connection
-    ≡ Ok (shown c.self.inside) =
-    subst (λ (q : Policy). rows.administered q c.args.connection ≡ Ok q) (sym c.self.view_is)
-    c.in_ok-administers.ensures.ok in
     rw (← c.self.view_is)
-    (uninherit-ok (shown c.self.inside) c.args.connection admin c.args.senior.now
-    c.args.junior.now is.0 ∙ ap Ok (sym is.1))
+    (uninherit-ok (shown c.self.inside) c.args.senior.now c.args.junior.now is.0
+    ∙ ap Ok (sym is.1))

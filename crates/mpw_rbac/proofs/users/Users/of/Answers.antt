@@ -1,5 +1,5 @@
 -- The values are the roster's.
-use Rattle.std.proofs.Common.{◌∙◌, sym, ap, subst, List}
+use Rattle.std.proofs.Common.{◌∙◌, sym, ap, subst}
 use Rattle.mpw_rbac.specs.Masked.{AreBelow}
 use Rattle.mpw_rbac.specs.Policy.{assigned_lists}
 use Rattle.mpw_rbac.proofs.users.Users.of.Goals as goal
