@@ -25,7 +25,7 @@ use Rattle.mpw_wafer.specs.Wafers as wafers
 use Rattle.mpw_events.specs.declared.event.Call.{Call}
 use Rattle.mpw_events.specs.declared.event.Event.{Event}
 use Rattle.mpw_events.specs.History.{state_after}
-use Rattle.mpw_events.specs.Step.{State, Outcome, no_change, ending_of, outcome_by, over_policy, over_shelf, over_wafer, over_run, over_waivers, policy_row, whoami_row, row_outcome, guarded, outcome_of, event_outcome, not_kept_response, settlement, step, trail_behind, after}
+use Rattle.mpw_events.specs.Step.{State, Outcome, no_change, ending_of, outcome_by, over_policy, over_shelf, over_wafer, over_run, over_waivers, policy_row, row_outcome, guarded, outcome_of, event_outcome, not_kept_response, settlement, step, trail_behind, after}
 
 -- ---- requests
 
@@ -52,9 +52,7 @@ holds-table : (P : State → Type 0) (s : State) (connection : ℕ) (request : R
 holds-table P s connection (ask.Policy asked) held policies shelves wafer_changes runs waivers =
     holds-row P ending_of (over_policy s) s (policy_row s.policy connection asked) held
     (λ part lines is. policies part)
-holds-table P s connection ask.Whoami held policies shelves wafer_changes runs waivers =
-    holds-row P ending_of (over_policy s) s (whoami_row s.policy connection) held
-    (λ part lines is. policies part)
+holds-table P s connection ask.Whoami held policies shelves wafer_changes runs waivers = held
 holds-table P s connection (ask.Layout asked) held policies shelves wafer_changes runs waivers =
     holds-row P layouts.ending_of (over_shelf s) s
     (layouts.row_of s.policy s.shelf connection asked) held (shelves asked)
