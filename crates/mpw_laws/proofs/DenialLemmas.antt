@@ -7,7 +7,6 @@ use Rattle.mpw_permissions.specs.declared.permission.Operation.{Operation}
 use Rattle.mpw_permissions.specs.declared.permission.Operation.TheVariants.{Use}
 use Rattle.mpw_rbac.specs.declared.refusal.Refusal.{Refusal}
 use Rattle.mpw_rbac.specs.declared.refusal.Refusal.TheVariants as refusal
-use Rattle.mpw_rbac_laws.specs.Laws.{DeniesRightly}
 use Rattle.mpw_rbac.specs.Policy.{Policy, authorized, permits}
 use Rattle.mpw_rbac.specs.Rows as rows
 use Rattle.mpw_rbac_laws.proofs.DenialLemmas as law
@@ -15,7 +14,7 @@ use Rattle.mpw_events.specs.declared.event.Event.TheVariants as event
 use Rattle.mpw_requests.specs.declared.request.Request.{Request}
 use Rattle.mpw_requests.specs.declared.request.Request.TheVariants as ask
 use Rattle.mpw_requests.specs.declared.policy.PolicyRequest.{PolicyRequest}
-use Rattle.mpw_requests.specs.declared.policy.PolicyRequest.TheVariants.{Open, Close, Activate, DropRole, AddUser, DelUser, AddRole, DelRole, Assign, Deassign, Grant, Revoke, Inherit, Uninherit, Ssd, Dsd, UnSsd, UnDsd}
+use Rattle.mpw_requests.specs.declared.policy.PolicyRequest.TheVariants.{Activate}
 use Rattle.mpw_requests.specs.Needs.{need_of}
 use Rattle.mpw_access.specs.Guard.{DeniedIsLacked}
 use Rattle.mpw_layouts.specs.declared.ending.LayoutEnding.{LayoutEnding}
@@ -25,7 +24,7 @@ use Rattle.mpw_signoff.specs.declared.ending.SignOffEnding.{SignOffEnding}
 use Rattle.mpw_signoff.specs.declared.ending.SignOffEnding.TheVariants as sign_off
 use Rattle.mpw_signoff.specs.SigningOff as signing
 use Rattle.mpw_events.specs.PolicyRows.{row_of}
-use Rattle.mpw_replies.proofs.RowParts.{changing_ended, listing_ended}
+use Rattle.mpw_replies.proofs.RowParts.{changing_ended}
 use Rattle.mpw_replies.specs.Rows.{denied}
 use Rattle.mpw_replies.specs.declared.reply.Denial.{Denial}
 use Rattle.mpw_replies.specs.declared.reply.Denial.TheVariants as denial
@@ -34,34 +33,24 @@ use Rattle.mpw_replies.specs.declared.row.Done.{Done}
 use Rattle.mpw_replies.specs.declared.row.Ending.TheVariants as ending
 use Rattle.mpw_events.specs.declared.event.Response.TheVariants as response
 use Rattle.mpw_events.proofs.OutcomeLemmas.{denied_by}
-use Rattle.mpw_events.specs.Step.{State, ending_of, outcome_by, over_policy, over_shelf, over_wafer, over_run, over_waivers, policy_row, whoami_row, row_outcome, response_of}
+use Rattle.mpw_events.specs.Step.{State, ending_of, outcome_by, over_policy, over_shelf, over_wafer, over_run, over_waivers, policy_row, row_outcome, response_of}
 use Rattle.mpw_laws.specs.LayoutLaws.{LayoutsDenyWhatIsLacked}
 use Rattle.mpw_laws.proofs.GuardLemmas.{guarded_denied, table_denied}
 
--- the refusal that a denial shows
+-- the refusal that a denial of the policy's tables shows
 abbrev pub told_of : Denial → Refusal
-told_of (denial.Permission operation object) = refusal.NotPermitted operation object
 told_of (denial.Activation role) = refusal.NotAuthorized role
 told_of (denial.Ssd name) = refusal.Ssd name
 told_of (denial.Dsd name) = refusal.Dsd name
-told_of denial.Login = refusal.Login
-told_of _ = refusal.NoSession
+told_of _ = refusal.Login
 
 told_by : (r : Refusal) (w : Denial) → ending_of r ≡ ending.Denied w → r ≡ told_of w
-told_by (refusal.NotPermitted operation object) w e =
-    ap told_of (let same : denial.Permission operation object ≡ w = cc in same)
 told_by (refusal.NotAuthorized role) w e =
     ap told_of (let same : denial.Activation role ≡ w = cc in same)
 told_by (refusal.Ssd name) w e = ap told_of (let same : denial.Ssd name ≡ w = cc in same)
 told_by (refusal.Dsd name) w e = ap told_of (let same : denial.Dsd name ≡ w = cc in same)
 told_by refusal.Login w e = ap told_of (let same : denial.Login ≡ w = cc in same)
-told_by refusal.NoSession w e = ap told_of (let same : denial.Session ≡ w = cc in same)
-told_by refusal.Opened w e = absurd cc
-told_by refusal.Unknown w e = absurd cc
-told_by refusal.Loop w e = absurd cc
-told_by refusal.Known w e = absurd cc
-told_by refusal.Used w e = absurd cc
-told_by refusal.Full w e = absurd cc
+told_by _ w e = absurd cc
 
 -- a denial by a decision table of the policy is its refusal
 pub refused-row : (s : State) (row : Result (Done Policy) Refusal) (w : Denial)
@@ -78,26 +67,19 @@ denied-row s connection request w e =
     changing_ended _ (λ next. []) (row_of s.policy connection request) (told_of w)
     (refused-row s (policy_row s.policy connection request) w e)
 
-lacks-row : (connection : ℕ) (request : PolicyRequest)
-    → DeniesRightly connection (λ p. row_of p connection request)
-lacks-row connection (Open user digest) = law.denies-open_session connection user digest
-lacks-row connection Close = law.denies-close_session connection
-lacks-row connection (Activate role) = law.denies-activation connection role
-lacks-row connection (DropRole role) = law.denies-drop_role connection role
-lacks-row connection (AddUser user digest) = law.denies-adduser connection user digest
-lacks-row connection (AddRole role) = law.denies-addrole connection role
-lacks-row connection (Assign user role) = law.denies-assign connection user role
-lacks-row connection (Grant grant) = law.denies-grant connection grant
-lacks-row connection (Revoke grant) = law.denies-revoke connection grant
-lacks-row connection (DelUser user) = law.denies-deluser connection user
-lacks-row connection (DelRole role) = law.denies-delrole connection role
-lacks-row connection (Deassign user role) = law.denies-deassign connection user role
-lacks-row connection (Inherit senior junior) = law.denies-inherit connection senior junior
-lacks-row connection (Uninherit senior junior) = law.denies-uninherit connection senior junior
-lacks-row connection (Ssd set) = law.denies-ssd connection set
-lacks-row connection (Dsd set) = law.denies-dsd connection set
-lacks-row connection (UnSsd name) = law.denies-unssd connection name
-lacks-row connection (UnDsd name) = law.denies-undsd connection name
+-- no table of the policy denies a permission
+policy-allows : (why : Refusal) (operation : Operation) (object : Object)
+    → ending_of why ≡ denied operation object → ⊥
+policy-allows refusal.Login operation object e = cc
+policy-allows _ operation object e = cc
+
+pub allows-row : (s : State) (connection : ℕ) (request : PolicyRequest) (operation : Operation)
+    (object : Object) → (row_outcome s connection (ask.Policy request)).response ≡ response.Told
+    (reply.Denied (denial.Permission operation object)) → ⊥
+allows-row s connection request operation object e =
+    let d = denied_by ending_of (over_policy s) s (policy_row s.policy connection request)
+    (denial.Permission operation object) e in
+    policy-allows d.0 operation object d.1.1
 
 -- no table of the sign-off denies a permission
 sign_off-allows : (why : SignOffEnding) (operation : Operation) (object : Object)
@@ -112,12 +94,8 @@ module _ (lacked : DeniedIsLacked) (shelves : LayoutsDenyWhatIsLacked) where
       (reply.Denied (denial.Permission operation object))
       → permits s.policy connection operation object ≡ false
   lacks-request s connection (ask.Policy request) operation object e =
-      lacks-row connection request s.policy operation object
-      (denied-row s connection request (denial.Permission operation object) e)
-  lacks-request s connection ask.Whoami operation object e =
-      absurd (law.denies-whoami s.policy connection operation object
-      (listing_ended _ (rows.whoami s.policy connection) (refusal.NotPermitted operation object)
-      (refused-row s (whoami_row s.policy connection) (denial.Permission operation object) e)))
+      absurd (allows-row s connection request operation object e)
+  lacks-request s connection ask.Whoami operation object e = absurd cc
   lacks-request s connection (ask.Layout request) operation object e =
       let d = denied_by layouts.ending_of (over_shelf s) s _ (denial.Permission operation object)
       e in

@@ -3,7 +3,7 @@ use Rattle.std.proofs.Common.{◌≡◌, ℕ, Bool, List, [], Result, Ok, refl, 
 use Rattle.mpw_rbac.specs.declared.refusal.Refusal.{Refusal}
 use Rattle.mpw_rbac.specs.Policy.{Policy, new_policy}
 use Rattle.mpw_rbac.specs.Rows as rows
-use Rattle.mpw_replies.proofs.RowParts.{changed, listing_changes_nothing}
+use Rattle.mpw_replies.proofs.RowParts.{changed}
 use Rattle.mpw_requests.specs.declared.policy.PolicyRequest.{PolicyRequest}
 use Rattle.mpw_replies.specs.declared.row.Ending.TheVariants as ending
 use Rattle.mpw_requests.specs.declared.request.Request.{Request}
@@ -13,7 +13,7 @@ use Rattle.mpw_events.specs.declared.event.Event.{Event}
 use Rattle.mpw_events.specs.declared.event.Event.TheVariants as event
 use Rattle.mpw_events.specs.History.{state_after}
 use Rattle.mpw_events.specs.PolicyRows.{row_of}
-use Rattle.mpw_events.specs.Step.{State, new_state, ending_of, over_policy, policy_row, whoami_row, row_outcome, event_outcome, after}
+use Rattle.mpw_events.specs.Step.{State, new_state, ending_of, over_policy, policy_row, row_outcome, event_outcome, after}
 use Rattle.mpw_core.proofs.OutcomeLemmas.{holds-guarded, holds-row, holds-step, holds-calls}
 
 -- the policy after the decision table has the property if the policy before had it
@@ -37,10 +37,7 @@ module _
         holds-row Kept ending_of (over_policy s) s (policy_row s.policy connection request) kept
         (λ next lines is. let c = changed _ (λ next. []) row next lines is in
         subst P c.2 (row_keeps connection request s.policy c.0 c.1 kept))
-    kept-row s connection ask.Whoami kept =
-        holds-row Kept ending_of (over_policy s) s (whoami_row s.policy connection) kept
-        (λ next lines is.
-        absurd (listing_changes_nothing _ (rows.whoami s.policy connection) next lines is))
+    kept-row s connection ask.Whoami kept = kept
     kept-row s connection (ask.Layout request) kept =
         holds-row Kept _ _ s _ kept (λ part lines is. kept)
     kept-row s connection (ask.Wafer request) kept =

@@ -33,7 +33,7 @@ use Rattle.mpw_events.specs.PolicyRows.{row_of}
 use Rattle.mpw_events.specs.Step.{State, identity_lines, policy_row, whoami_row, row_outcome, response_of}
 use Rattle.mpw_laws.proofs.AcceptedLemmas.{accepted}
 use Rattle.mpw_laws.proofs.GuardLemmas.{guarded_ok}
-use Rattle.mpw_laws.proofs.RowParts.{if_ok, if_listed, if_changed}
+use Rattle.mpw_laws.proofs.RowParts.{if_changed}
 
 module _ (policy : Policy) (connection : ℕ) where
   abbrev Readable : List Listed → Type 0
@@ -66,9 +66,7 @@ module _ (policy : Policy) (connection : ℕ) where
       All-cons (IsOfReadable policy connection) (stored (User who.user)) _ tt rest
 
   of_whoami : IfOk (whoami_row policy connection) (λ done. Readable (lines_of done))
-  of_whoami =
-      let row = rows.whoami policy connection in
-      if_listed _ _ row (if_ok _ row (λ who is. of_identity who))
+  of_whoami = of_identity (rows.whoami policy connection)
 
   -- the reply to a request of the wafer has a version, or nothing
   of_version : (version : Option ℕ) → Readable (map stored (wafers.version_lines version))

@@ -4,7 +4,7 @@ use Rattle.mpw_roles.specs.Hierarchy.{with_pair}
 use Rattle.mpw_rbac.specs.Policy.{Policy, assigned_roles}
 use Rattle.mpw_rbac.specs.Rows as rows
 use Rattle.mpw_requests.specs.declared.policy.PolicyRequest.{PolicyRequest}
-use Rattle.mpw_requests.specs.declared.policy.PolicyRequest.TheVariants.{Open, Close, Activate, DropRole, AddUser, DelUser, AddRole, DelRole, Assign, Deassign, Grant, Revoke, Inherit, Uninherit, Ssd, Dsd, UnSsd, UnDsd}
+use Rattle.mpw_requests.specs.declared.policy.PolicyRequest.TheVariants.{Open, Close, Activate, DropRole, Assign, Inherit, Ssd, Dsd}
 
 -- Whether a request administers the desk.
 abbrev pub is_administration : PolicyRequest → Bool
@@ -12,42 +12,17 @@ is_administration (Open user digest) = false
 is_administration Close = false
 is_administration (Activate role) = false
 is_administration (DropRole role) = false
-is_administration (AddUser user digest) = true
-is_administration (DelUser user) = true
-is_administration (AddRole role) = true
-is_administration (DelRole role) = true
-is_administration (Assign user role) = true
-is_administration (Deassign user role) = true
-is_administration (Grant grant) = true
-is_administration (Revoke grant) = true
-is_administration (Inherit senior junior) = true
-is_administration (Uninherit senior junior) = true
-is_administration (Ssd set) = true
-is_administration (Dsd set) = true
-is_administration (UnSsd name) = true
-is_administration (UnDsd name) = true
+is_administration _ = true
 
 -- The policy that a request asks for, if its decision table tests the sets of separation of duty. No other
 -- table's denial names a set.
 abbrev pub requested_policy : Policy → ℕ → PolicyRequest → Policy
-requested_policy policy connection (Open user digest) = policy
-requested_policy policy connection Close = policy
 requested_policy policy connection (Activate role) =
     rows.with_active policy connection (rows.active_roles policy connection ++ role ∷ [])
-requested_policy policy connection (DropRole role) = policy
-requested_policy policy connection (AddUser user digest) = policy
-requested_policy policy connection (DelUser user) = policy
-requested_policy policy connection (AddRole role) = policy
-requested_policy policy connection (DelRole role) = policy
 requested_policy policy connection (Assign user role) =
     rows.with_assigned policy user (assigned_roles policy user ++ role ∷ [])
-requested_policy policy connection (Deassign user role) = policy
-requested_policy policy connection (Grant grant) = policy
-requested_policy policy connection (Revoke grant) = policy
 requested_policy policy connection (Inherit senior junior) =
     record policy { roles = with_pair policy.roles senior junior }
-requested_policy policy connection (Uninherit senior junior) = policy
 requested_policy policy connection (Ssd set) = record policy { ssd = policy.ssd ++ set ∷ [] }
 requested_policy policy connection (Dsd set) = record policy { dsd = policy.dsd ++ set ∷ [] }
-requested_policy policy connection (UnSsd name) = policy
-requested_policy policy connection (UnDsd name) = policy
+requested_policy policy connection _ = policy

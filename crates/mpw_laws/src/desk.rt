@@ -60,7 +60,7 @@ use crate::sign_off::{
 use mpw_access::entering_is_by_the_need;
 use mpw_rbac_laws::{
     denied_only_for_the_least_broken_set, each_request_keeps_the_tables,
-    own_requests_need_no_permission, sets_are_told_where_they_are_tested,
+    sets_are_told_where_they_are_tested,
 };
 
 /// In every state that calls lead to, the user of each session is authorized for each of its active roles.
@@ -170,7 +170,6 @@ pub fn own_requests_are_never_denied_a_permission()
         response_of state (event.Ask connection (ask.Policy request)) kept ≡ response.Told (Reply.Denied (denial.Permission operation object)) → ⊥ }
 {
     entering_is_by_the_need();
-    own_requests_need_no_permission();
 }
 
 /// The trail after an event is that before it, and after a request one more entry: its user, and the first line of its reply. So it has

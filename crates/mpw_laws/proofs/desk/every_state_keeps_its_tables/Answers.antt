@@ -13,23 +13,23 @@ returns c = λ officer digest calls.
     let keeps : (connection : ℕ) (request : PolicyRequest)
     → KeepsTables (λ p. row_of p connection request) = λ connection. elim [
       | Open user digest ↦ law.open_session connection user digest
-      | Close ↦ law.close_session connection
+      | Close ↦ law.end_session connection
       | Activate role ↦ law.activate connection role
       | DropRole role ↦ law.drop_role connection role
-      | AddUser user digest ↦ law.adduser connection user digest
-      | DelUser user ↦ law.deluser connection user
-      | AddRole role ↦ law.addrole connection role
-      | DelRole role ↦ law.delrole connection role
-      | Assign user role ↦ law.assign connection user role
-      | Deassign user role ↦ law.deassign connection user role
-      | Grant grant ↦ law.grant connection grant
-      | Revoke grant ↦ law.revoke connection grant
-      | Inherit senior junior ↦ law.inherit connection senior junior
-      | Uninherit senior junior ↦ law.uninherit connection senior junior
-      | Ssd set ↦ law.ssd connection set
-      | Dsd set ↦ law.dsd connection set
-      | UnSsd name ↦ law.unssd connection name
-      | UnDsd name ↦ law.undsd connection name
+      | AddUser user digest ↦ law.adduser user digest
+      | DelUser user ↦ law.deluser user
+      | AddRole role ↦ law.addrole role
+      | DelRole role ↦ law.delrole role
+      | Assign user role ↦ law.assign user role
+      | Deassign user role ↦ law.deassign user role
+      | Grant grant ↦ law.grant grant
+      | Revoke grant ↦ law.revoke grant
+      | Inherit senior junior ↦ law.inherit senior junior
+      | Uninherit senior junior ↦ law.uninherit senior junior
+      | Ssd set ↦ law.ssd set
+      | Dsd set ↦ law.dsd set
+      | UnSsd name ↦ law.unssd name
+      | UnDsd name ↦ law.undsd name
     ] in
     kept-history AreTablesSound keeps law.end_session law.end_sessions officer digest calls
     (law.new_desk officer digest)

@@ -20,50 +20,49 @@ returns c =
     λ connection. elim [
       | Open user digest ↦ tells_none _ _ (told.open_session_static connection user digest)
           (told.open_session_dynamic connection user digest)
-      | Close ↦ tells_none _ _ (told.close_session_static connection)
-          (told.close_session_dynamic connection)
+      | Close ↦ tells_none _ _ (λ p name is. cc) (λ p name is. cc)
       | Activate role ↦ record {
         static = λ p name is. absurd (told.activate_static connection role p name is);
         dynamic = λ p name is. least.activate p connection role name is;
       }
       | DropRole role ↦ tells_none _ _ (told.drop_role_static connection role)
           (told.drop_role_dynamic connection role)
-      | AddUser user digest ↦ tells_none _ _ (told.adduser_static connection user digest)
-          (told.adduser_dynamic connection user digest)
-      | DelUser user ↦ tells_none _ _ (told.deluser_static connection user)
-          (told.deluser_dynamic connection user)
-      | AddRole role ↦ tells_none _ _ (told.addrole_static connection role)
-          (told.addrole_dynamic connection role)
-      | DelRole role ↦ tells_none _ _ (told.delrole_static connection role)
-          (told.delrole_dynamic connection role)
+      | AddUser user digest ↦ tells_none _ _ (told.adduser_static user digest)
+          (told.adduser_dynamic user digest)
+      | DelUser user ↦ tells_none _ _ (told.deluser_static user)
+          (told.deluser_dynamic user)
+      | AddRole role ↦ tells_none _ _ (told.addrole_static role)
+          (told.addrole_dynamic role)
+      | DelRole role ↦ tells_none _ _ (told.delrole_static role)
+          (told.delrole_dynamic role)
       | Assign user role ↦ record {
-        static = λ p name is. least.assign p connection user role name is;
-        dynamic = λ p name is. absurd (told.assign_dynamic connection user role p name is);
+        static = λ p name is. least.assign p user role name is;
+        dynamic = λ p name is. absurd (told.assign_dynamic user role p name is);
       }
-      | Deassign user role ↦ tells_none _ _ (told.deassign_static connection user role)
-          (told.deassign_dynamic connection user role)
-      | Grant grant ↦ tells_none _ _ (told.grant_static connection grant)
-          (told.grant_dynamic connection grant)
-      | Revoke grant ↦ tells_none _ _ (told.revoke_static connection grant)
-          (told.revoke_dynamic connection grant)
+      | Deassign user role ↦ tells_none _ _ (told.deassign_static user role)
+          (told.deassign_dynamic user role)
+      | Grant grant ↦ tells_none _ _ (told.grant_static grant)
+          (told.grant_dynamic grant)
+      | Revoke grant ↦ tells_none _ _ (told.revoke_static grant)
+          (told.revoke_dynamic grant)
       | Inherit senior junior ↦ record {
-        static = λ p name is. least.inherit_static p connection senior junior name is;
-        dynamic = λ p name is. least.inherit_dynamic p connection senior junior name is;
+        static = λ p name is. least.inherit_static p senior junior name is;
+        dynamic = λ p name is. least.inherit_dynamic p senior junior name is;
       }
-      | Uninherit senior junior ↦ tells_none _ _ (told.uninherit_static connection senior junior)
-          (told.uninherit_dynamic connection senior junior)
+      | Uninherit senior junior ↦ tells_none _ _ (told.uninherit_static senior junior)
+          (told.uninherit_dynamic senior junior)
       | Ssd set ↦ record {
-        static = λ p name is. least.ssd p connection set name is;
-        dynamic = λ p name is. absurd (told.ssd_dynamic connection set p name is);
+        static = λ p name is. least.ssd p set name is;
+        dynamic = λ p name is. absurd (told.ssd_dynamic set p name is);
       }
       | Dsd set ↦ record {
-        static = λ p name is. absurd (told.dsd_static connection set p name is);
-        dynamic = λ p name is. least.dsd p connection set name is;
+        static = λ p name is. absurd (told.dsd_static set p name is);
+        dynamic = λ p name is. least.dsd p set name is;
       }
-      | UnSsd name ↦ tells_none _ _ (told.unssd_static connection name)
-          (told.unssd_dynamic connection name)
-      | UnDsd name ↦ tells_none _ _ (told.undsd_static connection name)
-          (told.undsd_dynamic connection name)
+      | UnSsd name ↦ tells_none _ _ (told.unssd_static name)
+          (told.unssd_dynamic name)
+      | UnDsd name ↦ tells_none _ _ (told.undsd_static name)
+          (told.undsd_dynamic name)
     ] in
     let lacked = c.entering_is_by_the_need.ensures.lacks in
     record {
