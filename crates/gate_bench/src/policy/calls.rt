@@ -41,7 +41,7 @@ fn next(at: usize, count: usize) -> usize {
 pub fn known(policy: &Policy, calls: u32) -> u32 {
     let mut known = 0u32;
     for _ in 0..calls {
-        known = known.saturating_add(u32::from(policy.whoami(2).is_ok()));
+        known = known.saturating_add(u32::from(policy.has_session(2) && policy.whoami(2).is_ok()));
     }
     known
 }
@@ -50,7 +50,7 @@ pub fn known(policy: &Policy, calls: u32) -> u32 {
 pub fn activated(policy: &mut Policy, role: &Name, calls: u32) -> u32 {
     let mut accepted = 0u32;
     for _ in 0..calls {
-        let active = policy.activate(2, role).is_ok();
+        let active = policy.has_session(2) && policy.activate(2, role).is_ok();
         let dropped = policy.drop_role(2, role).is_ok();
         accepted = accepted.saturating_add(u32::from(active && dropped));
     }

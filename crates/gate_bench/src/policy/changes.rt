@@ -17,21 +17,21 @@ fn change(
 ) -> Result<(), PolicyFault> {
     let [top, first, second] = roles;
     match kind {
-        "assign" => policy.assign(1, user, first),
-        "inherit" => policy.inherit(1, first, second),
-        "deluser" => policy.deluser(1, user),
-        "delrole" => policy.delrole(1, first),
-        _ => policy.uninherit(1, top, first),
+        "assign" => policy.assign(user, first),
+        "inherit" => policy.inherit(first, second),
+        "deluser" => policy.deluser(user),
+        "delrole" => policy.delrole(first),
+        _ => policy.uninherit(top, first),
     }
 }
 
 /// Makes the change of that name in the policy.
 fn change_named(alloc: Global, policy: &mut Policy, kind: &str) -> Result<bool, AllocError> {
     let made = match kind {
-        "grant" => policy.grant(1, grant_of(alloc, NEW_CELL, 0)?),
-        "revoke" => policy.revoke(1, &grant_of(alloc, 0, 0)?),
-        "adduser" => policy.adduser(1, name(alloc, "new")?, DIGEST),
-        "addrole" => policy.addrole(1, name(alloc, "new")?),
+        "grant" => policy.grant(grant_of(alloc, NEW_CELL, 0)?),
+        "revoke" => policy.revoke(&grant_of(alloc, 0, 0)?),
+        "adduser" => policy.adduser(name(alloc, "new")?, DIGEST),
+        "addrole" => policy.addrole(name(alloc, "new")?),
         _ => {
             let roles = [name(alloc, "r0")?, name(alloc, "r1")?, name(alloc, "r2")?];
             change(policy, kind, &name(alloc, "ann")?, &roles)

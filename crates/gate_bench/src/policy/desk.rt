@@ -62,16 +62,18 @@ impl Desk {
         let role = name(self.alloc, role)?;
         let opened = self.policy.open(conn, &user, &DIGEST);
         self.count(opened);
-        let active = self.policy.activate(conn, &role);
-        self.count(active);
+        if self.policy.has_session(conn) {
+            let active = self.policy.activate(conn, &role);
+            self.count(active);
+        }
         Ok(())
     }
 
     /// Adds a user with a role.
     fn add_user(&mut self, user: Name, role: &Name) -> Result<(), AllocError> {
-        let added = self.policy.adduser(1, user.copy()?, DIGEST);
+        let added = self.policy.adduser(user.copy()?, DIGEST);
         self.count(added);
-        let assigned = self.policy.assign(1, &user, role);
+        let assigned = self.policy.assign(&user, role);
         self.count(assigned);
         Ok(())
     }
@@ -80,7 +82,7 @@ impl Desk {
     fn add_roles(&mut self, roles: u32) -> Result<(), AllocError> {
         for number in 1..roles {
             let role = numbered(self.alloc, "r", number.saturating_sub(1))?;
-            let made = self.policy.addrole(1, role);
+            let made = self.policy.addrole(role);
             self.count(made);
         }
         Ok(())
@@ -91,7 +93,7 @@ impl Desk {
         for number in 2..roles {
             let junior = numbered(self.alloc, "r", number.saturating_sub(1))?;
             let senior = numbered(self.alloc, "r", number.saturating_sub(2) / 2)?;
-            let made = self.policy.inherit(1, &senior, &junior);
+            let made = self.policy.inherit(&senior, &junior);
             self.count(made);
         }
         Ok(())
@@ -101,7 +103,7 @@ impl Desk {
     fn add_grants(&mut self, roles: u32, grants: u32) -> Result<(), AllocError> {
         for cell in 0..grants {
             let grant = grant_of(self.alloc, cell, turn(cell, roles))?;
-            let made = self.policy.grant(1, grant);
+            let made = self.policy.grant(grant);
             self.count(made);
         }
         Ok(())

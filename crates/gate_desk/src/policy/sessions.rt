@@ -66,6 +66,15 @@ enum NameCall {
     DeleteRole,
 }
 
+/// The answer to an activation.
+fn activate(policy: &mut Policy, conn: u32, role: &Name) -> &'static str {
+    if policy.has_session(conn) {
+        told(policy.activate(conn, role))
+    } else {
+        "no session"
+    }
+}
+
 /// The answer to a call with one name.
 fn call(
     alloc: Global,
@@ -77,8 +86,8 @@ fn call(
     let name = name(alloc, text)?;
     match call {
         NameCall::Open => Ok(told(policy.open(conn, &name, &DIGEST))),
-        NameCall::Activate => Ok(told(policy.activate(conn, &name))),
-        NameCall::DeleteRole => Ok(told(policy.delrole(conn, &name))),
+        NameCall::Activate => Ok(activate(policy, conn, &name)),
+        NameCall::DeleteRole => Ok(told(policy.delrole(&name))),
     }
 }
 
@@ -101,9 +110,9 @@ fn call_pair(
     let one = name(alloc, one)?;
     let other = name(alloc, other)?;
     match call {
-        PairCall::Inherit => Ok(told(policy.inherit(1, &one, &other))),
-        PairCall::Uninherit => Ok(told(policy.uninherit(1, &one, &other))),
-        PairCall::Assign => Ok(told(policy.assign(1, &one, &other))),
+        PairCall::Inherit => Ok(told(policy.inherit(&one, &other))),
+        PairCall::Uninherit => Ok(told(policy.uninherit(&one, &other))),
+        PairCall::Assign => Ok(told(policy.assign(&one, &other))),
     }
 }
 
@@ -133,15 +142,16 @@ fn print_told(rt: &HostRuntime, identity: &Identity) -> io::Result<()> {
 
 /// Prints what `whoami` shows on connection 2.
 fn print_identity(rt: &HostRuntime, policy: &Policy) -> io::Result<()> {
-    match policy.whoami(2) {
-        Ok(identity) => print_told(rt, &identity),
-        Err(_) => println!(rt; "no session"),
+    if !policy.has_session(2) {
+        return println!(rt; "no session");
     }
+    let identity = policy.whoami(2)?;
+    print_told(rt, &identity)
 }
 
 /// Adds a role, and returns the answer.
 fn add_role(policy: &mut Policy, role: Name) -> &'static str {
-    told(policy.addrole(1, role))
+    told(policy.addrole(role))
 }
 
 /// The roles a, b, c, d, and the user ann.
@@ -151,7 +161,7 @@ fn people(policy: &mut Policy, alloc: Global) -> Result<&'static str, AllocError
             return Ok("refused");
         }
     }
-    Ok(told(policy.adduser(1, name(alloc, "ann")?, DIGEST)))
+    Ok(told(policy.adduser(name(alloc, "ann")?, DIGEST)))
 }
 
 /// Prints the answer to removing one pair, and what `whoami` shows after it.
