@@ -8,7 +8,7 @@ use Rattle.mpw_requests.specs.declared.request.Request.{Request}
 use Rattle.mpw_requests.specs.declared.request.Request.TheVariants as ask
 use Rattle.mpw_signoff.specs.SigningOff as signing
 use Rattle.mpw_replies.specs.Listing.{Listed}
-use Rattle.mpw_replies.specs.Rows.{IsNegative, changing, ended_by}
+use Rattle.mpw_replies.specs.Rows.{IsNegative, changing}
 use Rattle.mpw_replies.specs.Trail.{trail_lines}
 use Rattle.mpw_replies.specs.declared.reply.Line.{Line}
 use Rattle.mpw_replies.specs.declared.reply.Reply.{Reply}
@@ -17,14 +17,10 @@ use Rattle.mpw_replies.specs.declared.row.Done.{Done}
 use Rattle.mpw_replies.specs.declared.row.Done.TheVariants.{Lists, Changes}
 use Rattle.mpw_replies.specs.declared.row.Ending.{Ending}
 use Rattle.mpw_replies.specs.declared.row.Ending.TheVariants as ending
+use Rattle.mpw_events.proofs.OutcomeLemmas.{no_lines}
 use Rattle.mpw_events.specs.declared.event.Response.TheVariants as response
 use Rattle.mpw_events.specs.Step.{State, Outcome, ending_of, guarded, no_change, outcome_by, outcome_of, over_policy, over_shelf, over_wafer, over_run, over_waivers, row_outcome}
 use Rattle.mpw_laws.specs.Readable.{lines_of}
-
-pub no_lines : (e : Ending) (lines : List Listed)
-    → response.Told (ended_by e) ≡ response.Told (reply.Ok lines) → ⊥
-no_lines (ending.Denied why) lines told = cc
-no_lines (ending.Refused code) lines told = cc
 
 -- what holds of the table's lines holds of those of the accepted request
 pub accepted : {E P : Type 0} (how : E → Ending) (over : P → State) (s : State)

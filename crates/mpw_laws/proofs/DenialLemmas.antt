@@ -32,10 +32,10 @@ use Rattle.mpw_replies.specs.declared.reply.Reply.TheVariants as reply
 use Rattle.mpw_replies.specs.declared.row.Done.{Done}
 use Rattle.mpw_replies.specs.declared.row.Ending.TheVariants as ending
 use Rattle.mpw_events.specs.declared.event.Response.TheVariants as response
-use Rattle.mpw_events.proofs.OutcomeLemmas.{denied_by}
+use Rattle.mpw_events.proofs.OutcomeLemmas.{ended_at}
 use Rattle.mpw_events.specs.Step.{State, ending_of, outcome_by, over_policy, over_shelf, over_wafer, over_run, over_waivers, policy_row, row_outcome, response_of}
 use Rattle.mpw_laws.specs.LayoutLaws.{LayoutsDenyWhatIsLacked}
-use Rattle.mpw_laws.proofs.GuardLemmas.{guarded_denied, table_denied}
+use Rattle.mpw_laws.proofs.GuardLemmas.{guarded_ended, table_ended}
 
 -- the refusal that a denial of the policy's tables shows
 abbrev pub told_of : Denial → Refusal
@@ -53,19 +53,14 @@ told_by refusal.Login w e = ap told_of (let same : denial.Login ≡ w = cc in sa
 told_by _ w e = absurd cc
 
 -- a denial by a decision table of the policy is its refusal
-pub refused-row : (s : State) (row : Result (Done Policy) Refusal) (w : Denial)
-    → (outcome_by ending_of (over_policy s) s row).response ≡ response.Told (reply.Denied w)
-    → row ≡ Err (told_of w)
-refused-row s row w e =
-    let d = denied_by ending_of (over_policy s) s row w e in
-    d.1.0 ∙ ap (λ r. Err r) (told_by d.0 w d.1.1)
-
 pub denied-row : (s : State) (connection : ℕ) (request : PolicyRequest) (w : Denial)
     → (row_outcome s connection (ask.Policy request)).response ≡ response.Told (reply.Denied w)
     → row_of s.policy connection request ≡ Err (told_of w)
 denied-row s connection request w e =
+    let d = ended_at ending_of (over_policy s) s (policy_row s.policy connection request)
+    (ending.Denied w) e in
     changing_ended _ (λ next. []) (row_of s.policy connection request) (told_of w)
-    (refused-row s (policy_row s.policy connection request) w e)
+    (d.1.0 ∙ ap (λ r. Err r) (told_by d.0 w d.1.1))
 
 -- no table of the policy denies a permission
 policy-allows : (why : Refusal) (operation : Operation) (object : Object)
@@ -77,8 +72,8 @@ pub allows-row : (s : State) (connection : ℕ) (request : PolicyRequest) (opera
     (object : Object) → (row_outcome s connection (ask.Policy request)).response ≡ response.Told
     (reply.Denied (denial.Permission operation object)) → ⊥
 allows-row s connection request operation object e =
-    let d = denied_by ending_of (over_policy s) s (policy_row s.policy connection request)
-    (denial.Permission operation object) e in
+    let d = ended_at ending_of (over_policy s) s (policy_row s.policy connection request)
+    (denied operation object) e in
     policy-allows d.0 operation object d.1.1
 
 -- no table of the sign-off denies a permission
@@ -97,8 +92,7 @@ module _ (lacked : DeniedIsLacked) (shelves : LayoutsDenyWhatIsLacked) where
       absurd (allows-row s connection request operation object e)
   lacks-request s connection ask.Whoami operation object e = absurd cc
   lacks-request s connection (ask.Layout request) operation object e =
-      let d = denied_by layouts.ending_of (over_shelf s) s _ (denial.Permission operation object)
-      e in
+      let d = ended_at layouts.ending_of (over_shelf s) s _ (denied operation object) e in
       go d.0 d.1.0 d.1.1
     where
       go : (why : LayoutEnding) → layouts.row_of s.policy s.shelf connection request ≡ Err why
@@ -110,14 +104,13 @@ module _ (lacked : DeniedIsLacked) (shelves : LayoutsDenyWhatIsLacked) where
           let ob : Cell cell ≡ object = cc in
           rw (← op, ← ob) (shelves s.policy s.shelf connection request cell is)
   lacks-request s connection (ask.Wafer request) operation object e =
-      let d = denied_by ending.Refused (over_wafer s) s _ (denial.Permission operation object) e in
+      let d = ended_at ending.Refused (over_wafer s) s _ (denied operation object) e in
       absurd (let h = d.1.1 in cc)
   lacks-request s connection (ask.Run request) operation object e =
-      let d = denied_by ending.Refused (over_run s) s _ (denial.Permission operation object) e in
+      let d = ended_at ending.Refused (over_run s) s _ (denied operation object) e in
       absurd (let h = d.1.1 in cc)
   lacks-request s connection (ask.SignOff request) operation object e =
-      let d = denied_by signing.ending_of (over_waivers s) s _
-      (denial.Permission operation object) e in
+      let d = ended_at signing.ending_of (over_waivers s) s _ (denied operation object) e in
       absurd (sign_off-allows d.0 operation object d.1.1)
   lacks-request s connection ask.Trail operation object e = absurd cc
 
@@ -127,7 +120,7 @@ module _ (lacked : DeniedIsLacked) (shelves : LayoutsDenyWhatIsLacked) where
       (reply.Denied (denial.Permission operation object))
       → permits s.policy connection operation object ≡ false
   lacks-permission s connection request kept operation object e =
-      elim (guarded_denied s connection request kept (denial.Permission operation object) e) [
+      elim (guarded_ended s connection request kept (denied operation object) (λ is. cc) e) [
         | inl g ↦ (lacked s.policy connection (need_of request) (denied operation object) g).1
         | inr r ↦ lacks-request s connection request operation object r
       ]
@@ -139,5 +132,6 @@ module _ (lacked : DeniedIsLacked) (shelves : LayoutsDenyWhatIsLacked) where
       role ≡ false)
   lacks-role s connection role other kept e =
       law.denies-activate s.policy connection role other
-      (denied-row s connection (Activate role) (denial.Activation other) (table_denied lacked s
-      connection (ask.Policy (Activate role)) kept (denial.Activation other) (λ no. no) e))
+      (denied-row s connection (Activate role) (denial.Activation other) (table_ended lacked s
+      connection (ask.Policy (Activate role)) kept (ending.Denied (denial.Activation other))
+      (λ is. cc) (λ no. no) e))

@@ -15,6 +15,7 @@ pub mod Keeping
 pub mod KeptLemmas
 pub mod LayoutDenials
 pub mod Listed
+pub mod LoginLemmas
 pub mod Naming
 pub mod OwnCells
 pub mod PlaceLemmas

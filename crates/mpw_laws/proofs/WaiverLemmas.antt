@@ -29,10 +29,10 @@ use Rattle.mpw_core.specs.Answer.{run_response}
 use Rattle.mpw_events.specs.declared.event.Event.TheVariants as event
 use Rattle.mpw_events.specs.declared.event.Response.TheVariants as response
 use Rattle.mpw_run.specs.Laws.{finishes}
-use Rattle.mpw_events.proofs.OutcomeLemmas.{denied_by}
+use Rattle.mpw_events.proofs.OutcomeLemmas.{ended_at}
 use Rattle.mpw_events.specs.Step.{State, Outcome, of_run, over_waivers, event_outcome, step, response_of, after}
 use Rattle.mpw_laws.proofs.AcceptedLemmas.{accepted, accepted_change}
-use Rattle.mpw_laws.proofs.GuardLemmas.{guarded_ok, table_denied}
+use Rattle.mpw_laws.proofs.GuardLemmas.{guarded_ok, table_ended}
 use Rattle.mpw_laws.proofs.RefusalLemmas.{settlement-run}
 
 -- ---- with their run
@@ -81,8 +81,9 @@ denied-as : DeniedIsLacked
     (reply.Denied why)
     → signing.row_of s.policy s.wafer s.run s.waivers connection request ≡ Err cause
 denied-as lacked s connection request kept why cause never back is =
-    let d = denied_by signing.ending_of (over_waivers s) s _ why
-    (table_denied lacked s connection (ask.SignOff request) kept why never is) in
+    let d = ended_at signing.ending_of (over_waivers s) s _ (ending.Denied why)
+    (table_ended lacked s connection (ask.SignOff request) kept (ending.Denied why) (λ e. cc) never
+    is) in
     d.1.0 ∙ ap (λ e. Err e) (back d.0 d.1.1)
 
 submitter-is : (cell : List ℕ) (e : SignOffEnding)

@@ -172,6 +172,15 @@ pub fn own_requests_are_never_denied_a_permission()
     entering_is_by_the_need();
 }
 
+/// Only `open` is answered `DENIED login`. Of the requests that change the policy, only `open` is refused because the connection has a
+/// session already (code 30).
+pub fn only_open_is_answered_for_a_login()
+    ensures login { (state : State) (connection : ℕ) (request : AnyRequest) (kept : Bool) → response_of state (event.Ask connection request) kept ≡ response.Told (Reply.Denied denial.Login) → (user : List ℕ) × (digest : List ℕ) × (request ≡ ask.Policy (Request.Open user digest)) }
+    ensures opened { (state : State) (connection : ℕ) (request : AnyPolicyRequest) (kept : Bool) → response_of state (event.Ask connection (ask.Policy request)) kept ≡ response.Told (Reply.Refused code.Opened) → (user : List ℕ) × (digest : List ℕ) × (request ≡ Request.Open user digest) }
+{
+    entering_is_by_the_need();
+}
+
 /// The trail after an event is that before it, and after a request one more entry: its user, and the first line of its reply. So it has
 /// each request that is a call of the history, in order, and nothing else.
 pub fn the_trail_has_each_request()

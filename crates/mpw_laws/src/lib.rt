@@ -23,10 +23,11 @@ pub use desk::{
     denials_and_refusals_change_nothing, denials_name_what_the_session_lacks,
     denials_to_sign_are_true, every_state_has_a_place_for_each_marker,
     every_state_keeps_authorization, every_state_keeps_its_tables, every_state_keeps_separation,
-    lines_are_of_readable_cells, own_requests_are_never_denied_a_permission,
-    sets_are_denied_for_what_was_asked, states_are_left_unless_a_request_is_accepted,
-    the_trail_has_each_request, unknown_users_are_denied_like_wrong_tokens,
-    waivers_are_signed_apart, waivers_go_with_their_run, what_is_not_kept_leaves_the_run,
+    lines_are_of_readable_cells, only_open_is_answered_for_a_login,
+    own_requests_are_never_denied_a_permission, sets_are_denied_for_what_was_asked,
+    states_are_left_unless_a_request_is_accepted, the_trail_has_each_request,
+    unknown_users_are_denied_like_wrong_tokens, waivers_are_signed_apart, waivers_go_with_their_run,
+    what_is_not_kept_leaves_the_run,
 };
 pub use layouts::{
     denials_of_layouts_name_what_is_lacked, lines_of_layouts_are_of_readable_cells,

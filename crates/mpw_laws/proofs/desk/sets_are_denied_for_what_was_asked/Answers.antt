@@ -4,10 +4,11 @@ use Rattle.mpw_requests.specs.declared.policy.PolicyRequest.{PolicyRequest}
 use Rattle.mpw_requests.specs.declared.policy.PolicyRequest.TheVariants.{Open, Close, Activate, DropRole, AddUser, DelUser, AddRole, DelRole, Assign, Deassign, Grant, Revoke, Inherit, Uninherit, Ssd, Dsd, UnSsd, UnDsd}
 use Rattle.mpw_requests.specs.declared.request.Request.TheVariants as ask
 use Rattle.mpw_replies.specs.declared.reply.Denial.TheVariants as denial
+use Rattle.mpw_replies.specs.declared.row.Ending.TheVariants as ending
 use Rattle.mpw_events.specs.PolicyRows.{row_of}
 use Rattle.mpw_laws.specs.Requested.{requested_policy}
 use Rattle.mpw_laws.proofs.DenialLemmas.{denied-row}
-use Rattle.mpw_laws.proofs.GuardLemmas.{table_denied}
+use Rattle.mpw_laws.proofs.GuardLemmas.{table_ended}
 use Rattle.mpw_laws.proofs.SetLemmas.{TellsRightly, tells_none}
 use Rattle.mpw_laws.proofs.desk.sets_are_denied_for_what_was_asked.Goals as goal
 
@@ -67,9 +68,9 @@ returns c =
     let lacked = c.entering_is_by_the_need.ensures.lacks in
     record {
       ssd = λ s connection request kept name e. (each connection request).static s.policy name
-          (denied-row s connection request (denial.Ssd name) (table_denied lacked s connection
-          (ask.Policy request) kept (denial.Ssd name) (λ no. no) e));
+          (denied-row s connection request (denial.Ssd name) (table_ended lacked s connection
+          (ask.Policy request) kept (ending.Denied (denial.Ssd name)) (λ is. cc) (λ no. no) e));
       dsd = λ s connection request kept name e. (each connection request).dynamic s.policy name
-          (denied-row s connection request (denial.Dsd name) (table_denied lacked s connection
-          (ask.Policy request) kept (denial.Dsd name) (λ no. no) e));
+          (denied-row s connection request (denial.Dsd name) (table_ended lacked s connection
+          (ask.Policy request) kept (ending.Denied (denial.Dsd name)) (λ is. cc) (λ no. no) e));
     }
