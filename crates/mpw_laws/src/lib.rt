@@ -26,8 +26,8 @@ pub use desk::{
     lines_are_of_readable_cells, only_open_is_answered_for_a_login,
     own_requests_are_never_denied_a_permission, sets_are_denied_for_what_was_asked,
     states_are_left_unless_a_request_is_accepted, the_trail_has_each_request,
-    unknown_users_are_denied_like_wrong_tokens, waivers_are_signed_apart, waivers_go_with_their_run,
-    what_is_not_kept_leaves_the_run,
+    unknown_users_are_denied_like_wrong_tokens, waivers_are_signed_apart,
+    waivers_go_with_their_run, what_is_not_kept_leaves_the_run,
 };
 pub use layouts::{
     denials_of_layouts_name_what_is_lacked, lines_of_layouts_are_of_readable_cells,
