@@ -84,11 +84,6 @@ adds-end_session connection p q is = stays p [] (rows.end_session p connection) 
 pub adds-end_sessions : AddsNoActive (λ p. Ok (rows.end_sessions p))
 adds-end_sessions p q is = stays p [] (rows.end_sessions p) q is refl
 
-pub adds-close_session : (connection : ℕ) → AddsNoActive (λ p. rows.close_session p connection)
-adds-close_session connection p q is =
-    stays p (rows.in_session p connection ∷ []) (rows.end_session p connection) q
-    is (stays-filter (λ (e : ℕ × Session). not (connection == e.0)) p.sessions)
-
 stays-of : (request : row.Administration) (p : Policy)
     → Stays p.sessions (row.next-of request p).sessions
 stays-of (row.DeleteUser user) p = stays-trim (row.user_deleted p user)
@@ -97,9 +92,6 @@ stays-of (row.Deassign user role) p = stays-trim (row.deassigned p user role)
 stays-of (row.Uninherit senior junior) p = stays-trim (row.uninherited p senior junior)
 stays-of request p = stays-same p.sessions
 
-pub adds-administration : (connection : ℕ) (request : row.Administration)
-    → AddsNoActive (row.row-of request connection)
-adds-administration connection request p q is =
-    stays p (row.administer-tests p connection (row.tests-of request p))
-    (row.next-of request p) q is
-    (stays-of request p)
+pub adds-administration : (request : row.Administration) → AddsNoActive (row.row-of request)
+adds-administration request p q is =
+    stays p (row.tests-of request p) (row.next-of request p) q is (stays-of request p)

@@ -7,12 +7,8 @@ use Rattle.mpw_separation.specs.declared.set.Kind.TheVariants.{Static, Dynamic}
 use Rattle.mpw_rbac.specs.Internal.Kinds.{set_refusal}
 use Rattle.mpw_rbac.specs.Policy.{Policy}
 use Rattle.mpw_rbac.specs.Rows as rows
-use Rattle.mpw_permissions.specs.declared.permission.Object.{Object}
-use Rattle.mpw_permissions.specs.declared.permission.Object.TheVariants.{Desk}
-use Rattle.mpw_permissions.specs.declared.permission.Operation.{Operation}
-use Rattle.mpw_permissions.specs.declared.permission.Operation.TheVariants.{Admin}
 use Rattle.mpw_rbac.specs.declared.refusal.Refusal.{Refusal}
-use Rattle.mpw_rbac.specs.declared.refusal.Refusal.TheVariants.{Opened, Login, NoSession, NotPermitted, NotAuthorized, Unknown, Known, Full, Used, Loop, Ssd, Dsd}
+use Rattle.mpw_rbac.specs.declared.refusal.Refusal.TheVariants.{Opened, Login, NotAuthorized, Unknown, Known, Full, Used, Loop, Ssd, Dsd}
 use Rattle.mpw_rbac.proofs.RowTests as row
 
 abbrev pub refused : Refusal → Result Policy Refusal
@@ -38,24 +34,16 @@ none-denied denial (t ∷ ts) next none is =
 -- refusals of other kinds
 abbrev pub IsPlain : Refusal → Type 0
 IsPlain denial = (Known ≡ denial → ⊥) × (Unknown ≡ denial → ⊥) × (Full ≡ denial → ⊥)
-    × (Used ≡ denial → ⊥) × (Loop ≡ denial → ⊥) × (NoSession ≡ denial → ⊥)
-
-pub permission-plain : (operation : Operation) (object : Object)
-    → IsPlain (NotPermitted operation object)
-permission-plain operation object = (λ e. cc, λ e. cc, λ e. cc, λ e. cc, λ e. cc, λ e. cc)
+    × (Used ≡ denial → ⊥) × (Loop ≡ denial → ⊥)
 
 pub ssd-plain : (name : Name) → IsPlain (Ssd name)
-ssd-plain name = (λ e. cc, λ e. cc, λ e. cc, λ e. cc, λ e. cc, λ e. cc)
+ssd-plain name = (λ e. cc, λ e. cc, λ e. cc, λ e. cc, λ e. cc)
 
 pub dsd-plain : (name : Name) → IsPlain (Dsd name)
-dsd-plain name = (λ e. cc, λ e. cc, λ e. cc, λ e. cc, λ e. cc, λ e. cc)
+dsd-plain name = (λ e. cc, λ e. cc, λ e. cc, λ e. cc, λ e. cc)
 
-pub kind-permission : (kind : Kind) (operation : Operation) (object : Object) (o : Option Name)
-    → (rows.none_broken (set_refusal kind) o).1 ≡ NotPermitted operation object → ⊥
-kind-permission Static operation object None e = cc
-kind-permission Static operation object (Some n) e = cc
-kind-permission Dynamic operation object None e = cc
-kind-permission Dynamic operation object (Some n) e = cc
+pub activation-plain : (role : Name) → IsPlain (NotAuthorized role)
+activation-plain role = (λ e. cc, λ e. cc, λ e. cc, λ e. cc, λ e. cc)
 
 pub dsd-static : (name : Name) (o : Option Name) → (rows.none_broken Dsd o).1 ≡ Ssd name → ⊥
 dsd-static name None e = cc
@@ -65,27 +53,22 @@ pub ssd-dynamic : (name : Name) (o : Option Name) → (rows.none_broken Ssd o).1
 ssd-dynamic name None e = cc
 ssd-dynamic name (Some n) e = cc
 
-pub admin-static : (name : Name) → NotPermitted Admin Desk ≡ Ssd name → ⊥
-admin-static name e = cc
-
-pub admin-dynamic : (name : Name) → NotPermitted Admin Desk ≡ Dsd name → ⊥
-admin-dynamic name e = cc
+pub dsd-activation : (role : Name) (o : Option Name)
+    → (rows.none_broken Dsd o).1 ≡ NotAuthorized role
+    → ⊥
+dsd-activation role None e = cc
+dsd-activation role (Some n) e = cc
 
 pub activation-static : (role name : Name) → NotAuthorized role ≡ Ssd name → ⊥
 activation-static role name e = cc
 
-pub activation-permission : (role : Name) (operation : Operation) (object : Object)
-    → NotAuthorized role ≡ NotPermitted operation object → ⊥
-activation-permission role operation object e = cc
+pub activation-dynamic : (role name : Name) → NotAuthorized role ≡ Dsd name → ⊥
+activation-dynamic role name e = cc
 
 -- the refusal of a broken set of a kind
 pub kind-plain : (kind : Kind) (name : Name) → IsPlain (set_refusal kind name)
 kind-plain Static name = ssd-plain name
 kind-plain Dynamic name = dsd-plain name
-
-pub kind-admin : (kind : Kind) (name : Name) → NotPermitted Admin Desk ≡ set_refusal kind name → ⊥
-kind-admin Static name = admin-static name
-kind-admin Dynamic name = admin-dynamic name
 
 -- the sets of a kind have no such denial
 abbrev pub NoneOfKind : Kind → Refusal → Type 0
@@ -128,17 +111,11 @@ none-tells-opened denial opened login connection user digest p is =
     none-denied denial (row.open-tests p connection user digest) (row.opened p connection user)
     (opened, (login, tt)) is
 
-pub none-tells-closed : (denial : Refusal) → IsPlain denial → (connection : ℕ) (p : Policy)
-    → rows.close_session p connection ≡ refused denial → ⊥
-none-tells-closed denial f connection p is =
-    none-denied denial (rows.in_session p connection ∷ []) (rows.end_session p connection)
-    (f.5, tt) is
-
 pub none-tells-dropped : (denial : Refusal) → IsPlain denial → (connection : ℕ) (role : Name)
     (p : Policy) → rows.drop_role p connection role ≡ refused denial → ⊥
 none-tells-dropped denial f connection role p is =
     none-denied denial (row.drop-tests p connection role) (row.dropped p connection role)
-    (f.5, (f.1, tt)) is
+    (f.1, tt) is
 
 pub none-tells-activated : (denial : Refusal) → IsPlain denial → (connection : ℕ) (role : Name)
     → (NotAuthorized role ≡ denial → ⊥)
@@ -146,4 +123,4 @@ pub none-tells-activated : (denial : Refusal) → IsPlain denial → (connection
     → rows.activate p connection role ≡ refused denial → ⊥
 none-tells-activated denial f connection role authorized dynamic p is =
     none-denied denial (row.activate-tests p connection role) (row.activated p connection role)
-    (f.5, (authorized, (f.0, (dynamic _, tt)))) is
+    (authorized, (f.0, (dynamic _, tt))) is

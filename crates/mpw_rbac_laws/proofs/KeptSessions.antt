@@ -1,5 +1,5 @@
 -- After an accepted request of a session, the tables are still sound.
-use Rattle.std.proofs.Common.{[], ◌≡◌, ℕ, Ok, true, refl, sym, subst, List, ◌∷◌, arith}
+use Rattle.std.proofs.Common.{[], ◌≡◌, ℕ, Ok, true, refl, sym, subst, List, arith}
 use Rattle.mpw_roles.specs.Decided.{decided}
 use Rattle.mpw_rbac_laws.specs.Existing.{assigns_roles, leads_to_roles, grants_roles, KeepsLimits, AreTablesSound, KeepsTables}
 use Rattle.mpw_rbac.specs.Policy.{Policy, new_policy}
@@ -64,11 +64,6 @@ kept-open_session connection user digest p q is k =
     of-sessions p (row.opened p connection user).sessions
     (row.open-tests p connection user digest) q is
     (law.sound-open_session connection user digest p q is k.sound) k
-
-pub kept-close_session : (connection : ℕ) → KeepsTables (λ p. rows.close_session p connection)
-kept-close_session connection p q is k =
-    of-sessions p (rows.end_session p connection).sessions (rows.in_session p connection ∷ []) q is
-    (law.sound-close_session connection p q is k.sound) k
 
 pub kept-activate : (connection : ℕ) (role : List ℕ)
     → KeepsTables (λ p. rows.activate p connection role)

@@ -11,6 +11,7 @@ use Rattle.mpw_permissions.specs.declared.permission.Grant.{Grant}
 use Rattle.mpw_rbac.specs.declared.session.Session.{Session}
 use Rattle.mpw_rbac.specs.declared.session.User.{User}
 use Rattle.mpw_rbac_laws.specs.Existing.{AreTablesSound, KeepsTables}
+use Rattle.mpw_rbac_laws.specs.Laws.{KeepsInSession}
 use Rattle.mpw_permissions.specs.Grant.{grant_eq}
 use Rattle.mpw_rbac.specs.Policy.{Policy, assigned_roles, trim}
 use Rattle.mpw_rbac.specs.Rows as rows
@@ -22,14 +23,11 @@ use Rattle.mpw_rbac.proofs.RowTests as row
 use Rattle.mpw_rbac.proofs.SeparationLemmas.{parts, both, all-append, all-filter}
 use Rattle.mpw_rbac_laws.proofs.KeptSessions.{kept}
 
-pub kept-adduser : (connection : ℕ) (user digest : List ℕ)
-    → KeepsTables (λ p. rows.adduser p connection user digest)
-kept-adduser connection user digest p q is k =
-    let t = all-pass (row.administer-tests p connection (row.adduser-tests p user))
-    (row.user_added p user digest) q is in
-    kept (row.administer-tests p connection (row.adduser-tests p user))
-    (row.user_added p user digest) q
-    is (law.sound-adduser_row connection user digest p q is k.sound)
+pub kept-adduser : (user digest : List ℕ) → KeepsTables (λ p. rows.adduser p user digest)
+kept-adduser user digest p q is k =
+    let t = all-pass (row.adduser-tests p user) (row.user_added p user digest) q is in
+    kept (row.adduser-tests p user) (row.user_added p user digest) q is
+    (law.sound-adduser_row user digest p q is k.sound)
     (all-append _ p.users ((user, record { digest = digest; roles = [] }) ∷ []) k.names.assignments
     refl)
     (k.names.pairs)
@@ -38,25 +36,21 @@ kept-adduser connection user digest p q is k =
       arith,
       k.limits,
       there.one_more p.users (user, record { digest = digest; roles = [] })
-          512 t.1.1.1.0,
+          512 t.1.0,
     ))
 
-pub kept-deluser : (connection : ℕ) (user : List ℕ)
-    → KeepsTables (λ p. rows.deluser p connection user)
-kept-deluser connection user p q is k =
-    kept (row.administer-tests p connection (row.deluser-tests p user))
-    (trim (row.user_deleted p user)) q
-    is (law.sound-deluser connection user p q is k.sound)
+pub kept-deluser : (user : List ℕ) → KeepsTables (λ p. rows.deluser p user)
+kept-deluser user p q is k =
+    kept (row.deluser-tests p user) (trim (row.user_deleted p user)) q is
+    (law.sound-deluser user p q is k.sound)
     (all-filter _ (λ e. not (name_eq user e.0)) p.users k.names.assignments) (k.names.pairs)
     (k.names.grants) (grind (arith, k.limits, there.fewer (λ e. not (name_eq user e.0)) p.users))
 
-pub kept-addrole : (connection : ℕ) (role : List ℕ)
-    → KeepsTables (λ p. rows.addrole p connection role)
-kept-addrole connection role p q is k =
-    let t = all-pass (row.administer-tests p connection (row.addrole-tests p role))
-    (row.role_added p role) q is in
-    kept (row.administer-tests p connection (row.addrole-tests p role)) (row.role_added p role) q is
-    (law.sound-addrole_row connection role p q is k.sound)
+pub kept-addrole : (role : List ℕ) → KeepsTables (λ p. rows.addrole p role)
+kept-addrole role p q is k =
+    let t = all-pass (row.addrole-tests p role) (row.role_added p role) q is in
+    kept (row.addrole-tests p role) (row.role_added p role) q is
+    (law.sound-addrole_row role p q is k.sound)
     (there.assigns-more p.roles (with_role p.roles role) (roles-with_role p.roles role) p.users
     k.names.assignments)
     (all-append _ p.roles ((role, []) ∷ [])
@@ -64,13 +58,12 @@ kept-addrole connection role p q is k =
     k.names.pairs) refl)
     (there.grants-more p.roles (with_role p.roles role) (roles-with_role p.roles role) p.granted
     k.names.grants)
-    (grind (arith, k.limits, there.one_more p.roles (role, []) 512 t.1.1.1.0))
+    (grind (arith, k.limits, there.one_more p.roles (role, []) 512 t.1.0))
 
-pub kept-delrole : (connection : ℕ) (role : List ℕ)
-    → KeepsTables (λ p. rows.delrole p connection role)
-kept-delrole connection role p q is k =
-    kept (row.administer-tests p connection (row.delrole-tests p role))
-    (trim (rows.without_role_of p role)) q is (law.sound-delrole connection role p q is k.sound)
+pub kept-delrole : (role : List ℕ) → KeepsTables (λ p. rows.delrole p role)
+kept-delrole role p q is k =
+    kept (row.delrole-tests p role) (trim (rows.without_role_of p role)) q is
+    (law.sound-delrole role p q is k.sound)
     (there.assigns-left p.roles role p.users k.names.assignments)
     (there.leads-left p.roles role k.names.pairs)
     (there.grants-left p.roles role p.granted k.names.grants)
@@ -95,43 +88,37 @@ of-assigned p user roles sessions tests q is sound known k =
     k.names.grants
     (grind (arith, k.limits, there.same-users p.users user value))
 
-pub kept-assign : (connection : ℕ) (user role : List ℕ)
-    → KeepsTables (λ p. rows.assign p connection user role)
-kept-assign connection user role p q is k =
-    let tests = row.administer-tests p connection (row.assign-tests p user role) in
+pub kept-assign : (user role : List ℕ) → KeepsTables (λ p. rows.assign p user role)
+kept-assign user role p q is k =
+    let tests = row.assign-tests p user role in
     let t = all-pass tests (row.assigned p user role) q is in
     of-assigned p user (assigned_roles p user ++ role ∷ []) p.sessions tests q is
-    (law.sound-assign_row connection user role p q is k.sound)
+    (law.sound-assign_row user role p q is k.sound)
     (all-append (is_role p.roles) (assigned_roles p user) (role ∷ [])
     (there.roles-assigned p.roles p.users user k.names.assignments)
-    (both (is_role p.roles role) true (parts _ (is_role p.roles role) t.1.1.0).1 refl)) k
+    (both (is_role p.roles role) true (parts _ (is_role p.roles role) t.0).1 refl)) k
 
-pub kept-deassign : (connection : ℕ) (user role : List ℕ)
-    → KeepsTables (λ p. rows.deassign p connection user role)
-kept-deassign connection user role p q is k =
+pub kept-deassign : (user role : List ℕ) → KeepsTables (λ p. rows.deassign p user role)
+kept-deassign user role p q is k =
     of-assigned p user (without_name (assigned_roles p user) role)
     (trim (row.deassigned p user role)).sessions
-    (row.administer-tests p connection (row.deassign-tests p user role)) q is
-    (law.sound-deassign connection user role p q is k.sound)
+    (row.deassign-tests p user role) q is (law.sound-deassign user role p q is k.sound)
     (there.all-without p.roles (assigned_roles p user) role
     (there.roles-assigned p.roles p.users user k.names.assignments)) k
 
-pub kept-grant : (connection : ℕ) (new : Grant) → KeepsTables (λ p. rows.grant p connection new)
-kept-grant connection new p q is k =
-    let t = all-pass (row.administer-tests p connection (row.grant-tests p new))
-    (row.grant_added p new) q
-    is in
-    kept (row.administer-tests p connection (row.grant-tests p new)) (row.grant_added p new) q is
-    (law.sound-grant connection new p q is k.sound)
-    (k.names.assignments) (k.names.pairs)
+pub kept-grant : (new : Grant) → KeepsTables (λ p. rows.grant p new)
+kept-grant new p q is k =
+    let t = all-pass (row.grant-tests p new) (row.grant_added p new) q is in
+    kept (row.grant-tests p new) (row.grant_added p new) q is
+    (law.sound-grant new p q is k.sound) k.names.assignments k.names.pairs
     (all-append _ p.granted (new ∷ []) k.names.grants
-    (both (is_role p.roles new.role) true t.1.1.0 refl))
-    (grind (arith, k.limits, there.one_more p.granted new 4096 t.1.1.1.1.0))
+    (both (is_role p.roles new.role) true t.0 refl))
+    (grind (arith, k.limits, there.one_more p.granted new 4096 t.1.1.0))
 
-pub kept-revoke : (connection : ℕ) (old : Grant) → KeepsTables (λ p. rows.revoke p connection old)
-kept-revoke connection old p q is k =
-    kept (row.administer-tests p connection (row.revoke-tests p old)) (row.grant_revoked p old) q is
-    (law.sound-revoke connection old p q is k.sound)
+pub kept-revoke : (old : Grant) → KeepsTables (λ p. rows.revoke p old)
+kept-revoke old p q is k =
+    kept (row.revoke-tests p old) (row.grant_revoked p old) q is
+    (law.sound-revoke old p q is k.sound)
     (k.names.assignments)
     (k.names.pairs)
     (all-filter _ (λ other. not (grant_eq old other)) p.granted k.names.grants)
@@ -154,25 +141,22 @@ of-juniors p senior juniors sessions tests q is sound known k =
     (there.grants-more p.roles h more p.granted k.names.grants)
     (grind (arith, k.limits, there.same-pairs p.roles senior juniors))
 
-pub kept-inherit : (connection : ℕ) (senior junior : List ℕ)
-    → KeepsTables (λ p. rows.inherit p connection senior junior)
-kept-inherit connection senior junior p q is k =
-    let tests = row.administer-tests p connection (row.inherit-tests p senior junior) in
+pub kept-inherit : (senior junior : List ℕ) → KeepsTables (λ p. rows.inherit p senior junior)
+kept-inherit senior junior p q is k =
+    let tests = row.inherit-tests p senior junior in
     let t = all-pass tests (row.inherited p senior junior) q is in
     of-juniors p senior (immediate_juniors p.roles senior ++ junior ∷ []) p.sessions tests q is
-    (law.sound-inherit connection senior junior p q is k.sound)
+    (law.sound-inherit senior junior p q is k.sound)
     (all-append (is_role p.roles) (immediate_juniors p.roles senior) (junior ∷ [])
     (there.roles-linked p.roles p.roles senior k.names.pairs)
     (both (is_role p.roles junior) true
-    (parts (is_role p.roles senior) (is_role p.roles junior) t.1.1.0).1 refl)) k
+    (parts (is_role p.roles senior) (is_role p.roles junior) t.0).1 refl)) k
 
-pub kept-uninherit : (connection : ℕ) (senior junior : List ℕ)
-    → KeepsTables (λ p. rows.uninherit p connection senior junior)
-kept-uninherit connection senior junior p q is k =
+pub kept-uninherit : (senior junior : List ℕ) → KeepsTables (λ p. rows.uninherit p senior junior)
+kept-uninherit senior junior p q is k =
     of-juniors p senior (without_name (immediate_juniors p.roles senior) junior)
     (trim (row.uninherited p senior junior)).sessions
-    (row.administer-tests p connection (row.uninherit-tests p senior junior)) q is
-    (law.sound-uninherit connection senior junior p q is k.sound)
+    (row.uninherit-tests p senior junior) q is (law.sound-uninherit senior junior p q is k.sound)
     (there.all-without p.roles (immediate_juniors p.roles senior) junior
     (there.roles-linked p.roles p.roles senior k.names.pairs)) k
 
@@ -184,19 +168,21 @@ of-sets p ssd dsd tests q is sound static dynamic k =
     kept tests (record p { ssd = ssd; dsd = dsd }) q is sound k.names.assignments k.names.pairs
     k.names.grants (grind (arith, k.limits, static, dynamic))
 
-pub kept-ssd : (connection : ℕ) (set : SeparationSet) → KeepsTables (λ p. rows.ssd p connection set)
-kept-ssd connection set p q is k =
-    let tests = row.administer-tests p connection (row.ssd-tests p set) in
+pub kept-ssd : (connection : ℕ) (set : SeparationSet)
+    → KeepsInSession AreTablesSound connection (λ p. rows.ssd p set)
+kept-ssd connection set p q in' is k =
+    let tests = row.ssd-tests p set in
     let t = all-pass tests (row.ssd_made p set) q is in
-    of-sets p (p.ssd ++ set ∷ []) p.dsd tests q is (law.sound-ssd connection set p q is k.sound)
-    (there.one_more p.ssd set 64 t.1.1.1.1.1.0) k.limits.dynamic k
+    of-sets p (p.ssd ++ set ∷ []) p.dsd tests q is (law.sound-ssd connection set p q in' is k.sound)
+    (there.one_more p.ssd set 64 t.1.1.1.0) k.limits.dynamic k
 
-pub kept-dsd : (connection : ℕ) (set : SeparationSet) → KeepsTables (λ p. rows.dsd p connection set)
-kept-dsd connection set p q is k =
-    let tests = row.administer-tests p connection (row.dsd-tests p set) in
+pub kept-dsd : (connection : ℕ) (set : SeparationSet)
+    → KeepsInSession AreTablesSound connection (λ p. rows.dsd p set)
+kept-dsd connection set p q in' is k =
+    let tests = row.dsd-tests p set in
     let t = all-pass tests (row.dsd_made p set) q is in
-    of-sets p p.ssd (p.dsd ++ set ∷ []) tests q is (law.sound-dsd connection set p q is k.sound)
-    k.limits.static (there.one_more p.dsd set 64 t.1.1.1.1.1.0) k
+    of-sets p p.ssd (p.dsd ++ set ∷ []) tests q is (law.sound-dsd connection set p q in' is k.sound)
+    k.limits.static (there.one_more p.dsd set 64 t.1.1.1.0) k
 
 fewer-sets : (sets : List SeparationSet) (name : Name) → length sets ≤ 64
     → length (without_set sets name) ≤ 64
@@ -206,14 +192,12 @@ fewer-sets sets name fit = omega (
   fit,
 )
 
-pub kept-unssd : (connection : ℕ) (name : List ℕ) → KeepsTables (λ p. rows.unssd p connection name)
-kept-unssd connection name p q is k = of-sets p (without_set p.ssd name) p.dsd
-    (row.administer-tests p connection (row.unssd-tests p name)) q is
-    (law.sound-unssd connection name p q is k.sound) (fewer-sets p.ssd name k.limits.static)
+pub kept-unssd : (name : List ℕ) → KeepsTables (λ p. rows.unssd p name)
+kept-unssd name p q is k = of-sets p (without_set p.ssd name) p.dsd (row.unssd-tests p name) q is
+    (law.sound-unssd name p q is k.sound) (fewer-sets p.ssd name k.limits.static)
     k.limits.dynamic k
 
-pub kept-undsd : (connection : ℕ) (name : List ℕ) → KeepsTables (λ p. rows.undsd p connection name)
-kept-undsd connection name p q is k = of-sets p p.ssd (without_set p.dsd name)
-    (row.administer-tests p connection (row.undsd-tests p name)) q is
-    (law.sound-undsd connection name p q is k.sound) k.limits.static
+pub kept-undsd : (name : List ℕ) → KeepsTables (λ p. rows.undsd p name)
+kept-undsd name p q is k = of-sets p p.ssd (without_set p.dsd name) (row.undsd-tests p name) q is
+    (law.sound-undsd name p q is k.sound) k.limits.static
     (fewer-sets p.dsd name k.limits.dynamic) k

@@ -1,5 +1,5 @@
 -- Each accepted request preserves that every active role is authorized.
-use Rattle.std.proofs.Common.{[], ◌≡◌, ℕ, Ok, true, refl, subst, List, ◌∷◌}
+use Rattle.std.proofs.Common.{[], ◌≡◌, ℕ, Ok, true, refl, subst, List}
 use Rattle.mpw_roles.specs.Decided.{decided}
 use Rattle.mpw_roles.specs.Hierarchy.{is_role}
 use Rattle.mpw_separation.specs.Set.{SeparationSet}
@@ -41,19 +41,13 @@ keeps-open_session connection user digest p q is s =
     keeps (row.open-tests p connection user digest) (row.opened p connection user) q is
     (sound-open p connection user (login-user p user digest t.1.0) s)
 
-pub keeps-close_session : (connection : ℕ)
-    → KeepsAuthorization (λ p. rows.close_session p connection)
-keeps-close_session connection p q is s =
-    keeps (rows.in_session p connection ∷ []) (rows.end_session p connection) q is
-    (sound-end p connection s)
-
 pub keeps-activate : (connection : ℕ) (role : List ℕ)
     → KeepsAuthorization (λ p. rows.activate p connection role)
 keeps-activate connection role p q is s =
     let t = all-pass (row.activate-tests p connection role)
     (row.activated p connection role) q is in
     keeps (row.activate-tests p connection role) (row.activated p connection role) q is
-    (sound-activate p connection role t.1.0 s)
+    (sound-activate p connection role t.0 s)
 
 pub keeps-drop_role : (connection : ℕ) (role : List ℕ)
     → KeepsAuthorization (λ p. rows.drop_role p connection role)
@@ -61,76 +55,62 @@ keeps-drop_role connection role p q is s =
     keeps (row.drop-tests p connection role) (row.dropped p connection role) q
     is (keep.authorized-drop p connection role s)
 
-request-keeps : (connection : ℕ) (request : row.Administration)
-    → ((p : Policy) → Passed connection request p → active_authorized p ≡ true
+request-keeps : (request : row.Administration)
+    → ((p : Policy) → Passed request p → active_authorized p ≡ true
     → active_authorized (row.next-of request p) ≡ true)
-    → KeepsAuthorization (row.row-of request connection)
-request-keeps connection request left p q is s =
-    let tests = row.administer-tests p connection (row.tests-of request p) in
+    → KeepsAuthorization (row.row-of request)
+request-keeps request left p q is s =
+    let tests = row.tests-of request p in
     let next = row.next-of request p in
     keeps tests next q is (left p (all-pass tests next q is) s)
 
-pub keeps-adduser : (connection : ℕ) (user digest : List ℕ)
-    → KeepsAuthorization (λ p. rows.adduser p connection user digest)
-keeps-adduser connection user digest =
-    request-keeps connection (row.AddUser user digest) (λ p t. sound-adduser p user digest)
+pub keeps-adduser : (user digest : List ℕ) → KeepsAuthorization (λ p. rows.adduser p user digest)
+keeps-adduser user digest =
+    request-keeps (row.AddUser user digest) (λ p t. sound-adduser p user digest)
 
-pub keeps-deluser : (connection : ℕ) (user : List ℕ)
-    → KeepsAuthorization (λ p. rows.deluser p connection user)
-keeps-deluser connection user = request-keeps connection (row.DeleteUser user)
+pub keeps-deluser : (user : List ℕ) → KeepsAuthorization (λ p. rows.deluser p user)
+keeps-deluser user = request-keeps (row.DeleteUser user)
     (λ p t s. trimmed.trim-authorized (row.user_deleted p user))
 
-pub keeps-addrole : (connection : ℕ) (role : List ℕ)
-    → KeepsAuthorization (λ p. rows.addrole p connection role)
-keeps-addrole connection role =
-    request-keeps connection (row.AddRole role) (λ p t. sound-addrole p role)
+pub keeps-addrole : (role : List ℕ) → KeepsAuthorization (λ p. rows.addrole p role)
+keeps-addrole role = request-keeps (row.AddRole role) (λ p t. sound-addrole p role)
 
-pub keeps-delrole : (connection : ℕ) (role : List ℕ)
-    → KeepsAuthorization (λ p. rows.delrole p connection role)
-keeps-delrole connection role = request-keeps connection (row.DeleteRole role)
+pub keeps-delrole : (role : List ℕ) → KeepsAuthorization (λ p. rows.delrole p role)
+keeps-delrole role = request-keeps (row.DeleteRole role)
     (λ p t s. trimmed.trim-authorized (rows.without_role_of p role))
 
-pub keeps-assign : (connection : ℕ) (user role : List ℕ)
-    → KeepsAuthorization (λ p. rows.assign p connection user role)
-keeps-assign connection user role =
-    request-keeps connection (row.Assign user role) (λ p t. sound-assign p user role)
+pub keeps-assign : (user role : List ℕ) → KeepsAuthorization (λ p. rows.assign p user role)
+keeps-assign user role = request-keeps (row.Assign user role) (λ p t. sound-assign p user role)
 
-pub keeps-deassign : (connection : ℕ) (user role : List ℕ)
-    → KeepsAuthorization (λ p. rows.deassign p connection user role)
-keeps-deassign connection user role = request-keeps connection (row.Deassign user role)
+pub keeps-deassign : (user role : List ℕ) → KeepsAuthorization (λ p. rows.deassign p user role)
+keeps-deassign user role = request-keeps (row.Deassign user role)
     (λ p t s. trimmed.trim-authorized (row.deassigned p user role))
 
-pub keeps-grant : (connection : ℕ) (new : Grant)
-    → KeepsAuthorization (λ p. rows.grant p connection new)
-keeps-grant connection new = request-keeps connection (row.AddGrant new) (λ p t s. s)
+pub keeps-grant : (new : Grant) → KeepsAuthorization (λ p. rows.grant p new)
+keeps-grant new = request-keeps (row.AddGrant new) (λ p t s. s)
 
-pub keeps-revoke : (connection : ℕ) (old : Grant)
-    → KeepsAuthorization (λ p. rows.revoke p connection old)
-keeps-revoke connection old = request-keeps connection (row.Revoke old) (λ p t s. s)
+pub keeps-revoke : (old : Grant) → KeepsAuthorization (λ p. rows.revoke p old)
+keeps-revoke old = request-keeps (row.Revoke old) (λ p t s. s)
 
-pub keeps-inherit : (connection : ℕ) (senior junior : List ℕ)
-    → KeepsAuthorization (λ p. rows.inherit p connection senior junior)
-keeps-inherit connection senior junior = request-keeps connection (row.Inherit senior junior)
+pub keeps-inherit : (senior junior : List ℕ)
+    → KeepsAuthorization (λ p. rows.inherit p senior junior)
+keeps-inherit senior junior = request-keeps (row.Inherit senior junior)
     (λ p t. trimmed.authorized-inherit p senior junior
-    (parts (is_role p.roles senior) (is_role p.roles junior) t.1.1.0).0)
+    (parts (is_role p.roles senior) (is_role p.roles junior) t.0).0)
 
-pub keeps-uninherit : (connection : ℕ) (senior junior : List ℕ)
-    → KeepsAuthorization (λ p. rows.uninherit p connection senior junior)
-keeps-uninherit connection senior junior = request-keeps connection (row.Uninherit senior junior)
+pub keeps-uninherit : (senior junior : List ℕ)
+    → KeepsAuthorization (λ p. rows.uninherit p senior junior)
+keeps-uninherit senior junior = request-keeps (row.Uninherit senior junior)
     (λ p t s. trimmed.trim-authorized (row.uninherited p senior junior))
 
-pub keeps-ssd : (connection : ℕ) (set : SeparationSet)
-    → KeepsAuthorization (λ p. rows.ssd p connection set)
-keeps-ssd connection set = request-keeps connection (row.MakeStatic set) (λ p t s. s)
+pub keeps-ssd : (set : SeparationSet) → KeepsAuthorization (λ p. rows.ssd p set)
+keeps-ssd set = request-keeps (row.MakeStatic set) (λ p t s. s)
 
-pub keeps-dsd : (connection : ℕ) (set : SeparationSet)
-    → KeepsAuthorization (λ p. rows.dsd p connection set)
-keeps-dsd connection set = request-keeps connection (row.MakeDynamic set) (λ p t s. s)
+pub keeps-dsd : (set : SeparationSet) → KeepsAuthorization (λ p. rows.dsd p set)
+keeps-dsd set = request-keeps (row.MakeDynamic set) (λ p t s. s)
 
-pub keeps-unssd : (connection : ℕ) (name : List ℕ)
-    → KeepsAuthorization (λ p. rows.unssd p connection name)
-keeps-unssd connection name = request-keeps connection (row.RemoveStatic name) (λ p t s. s)
+pub keeps-unssd : (name : List ℕ) → KeepsAuthorization (λ p. rows.unssd p name)
+keeps-unssd name = request-keeps (row.RemoveStatic name) (λ p t s. s)
 
-pub keeps-undsd : (connection : ℕ) (name : List ℕ)
-    → KeepsAuthorization (λ p. rows.undsd p connection name)
-keeps-undsd connection name = request-keeps connection (row.RemoveDynamic name) (λ p t s. s)
+pub keeps-undsd : (name : List ℕ) → KeepsAuthorization (λ p. rows.undsd p name)
+keeps-undsd name = request-keeps (row.RemoveDynamic name) (λ p t s. s)

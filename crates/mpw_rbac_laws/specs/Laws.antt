@@ -1,16 +1,15 @@
 -- Laws of the decision tables.
-use Rattle.std.specs.Prelude.{◌≡◌, ℕ, Bool, true, false, ◌&&◌, ◌==◌, List, Result, Ok, Err, Some}
+use Rattle.std.specs.Prelude.{◌≡◌, ℕ, Bool, true, ◌&&◌, ◌==◌, List, Result, Ok, Some, is_some}
 use Rattle.std.specs.List.{list_any, list_all}
 use Rattle.mpw_geom.specs.Names.{name_eq, contains_name}
 use Rattle.mpw_roles.specs.Hierarchy.{Name}
 use Rattle.mpw_geom.specs.Least.{IsLeast}
 use Rattle.mpw_separation.specs.Separation.{broken_names}
 use Rattle.mpw_rbac.specs.declared.refusal.Refusal.{Refusal}
-use Rattle.mpw_rbac.specs.declared.refusal.Refusal.TheVariants.{NotPermitted}
 use Rattle.mpw_permissions.specs.declared.permission.Object.{Object}
 use Rattle.mpw_permissions.specs.declared.permission.Operation.{Operation}
 use Rattle.mpw_rbac.specs.declared.session.Session.{Session}
-use Rattle.mpw_rbac.specs.Policy.{Policy, permits, session_permits, assigned_lists, active_lists}
+use Rattle.mpw_rbac.specs.Policy.{Policy, session_of, session_permits, assigned_lists, active_lists}
 use Rattle.mpw_rbac.specs.Sound.{active_authorized}
 
 -- if a table accepts, the policy after it preserves that every active role is authorized
@@ -18,17 +17,16 @@ abbrev pub KeepsAuthorization : (Policy → Result Policy Refusal) → Type 0
 KeepsAuthorization row =
     (p q : Policy) → row p ≡ Ok q → active_authorized p ≡ true → active_authorized q ≡ true
 
+-- the same of any property, if the connection has a session
+abbrev pub KeepsInSession : (Policy → Type 0) → ℕ → (Policy → Result Policy Refusal) → Type 0
+KeepsInSession P connection row = (p q : Policy) → is_some (session_of p connection) ≡ true
+    → row p ≡ Ok q → P p → P q
+
 -- what the first active roles permit a user, the others permit too
 abbrev pub PermitsNoLess : Policy → Name → List Name → List Name → Operation → Object → Type 0
 PermitsNoLess policy user few many operation object =
     session_permits policy (record { user = user; active = few }) operation object ≡ true
     → session_permits policy (record { user = user; active = many }) operation object ≡ true
-
--- if a table denies a permission, the connection's session lacks it
-abbrev pub DeniesRightly : ℕ → (Policy → Result Policy Refusal) → Type 0
-DeniesRightly connection row =
-    (p : Policy) (operation : Operation) (object : Object)
-    → row p ≡ Err (NotPermitted operation object) → permits p connection operation object ≡ false
 
 -- the name is the first, in alphabetical order, of the static sets that some user of the policy
 -- breaks

@@ -8,12 +8,9 @@ mod accepted;
 mod laws;
 mod tables;
 
-pub use accepted::{
-    administration_needs_its_permission, own_requests_need_no_permission,
-    sets_are_told_where_they_are_tested,
-};
+pub use accepted::sets_are_told_where_they_are_tested;
 pub use laws::{
-    denied_only_for_the_least_broken_set, denied_only_without_the_permission,
+    activation_is_denied_only_to_the_unauthorized, denied_only_for_the_least_broken_set,
     each_request_keeps_authorization, each_request_keeps_separation, ended_sessions_permit_nothing,
     more_active_roles_never_permit_less, only_activation_adds_active_roles,
     sound_policies_keep_duties_apart, static_sets_are_tested_first, trim_leaves_sound_policies,

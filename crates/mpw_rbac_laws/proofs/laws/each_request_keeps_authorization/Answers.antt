@@ -8,7 +8,6 @@ returns c = record {
   end_session = law.keeps-end_session;
   end_sessions = law.keeps-end_sessions;
   open_session = law.keeps-open_session;
-  close_session = law.keeps-close_session;
   activate = law.keeps-activate;
   adduser = law.keeps-adduser;
   addrole = law.keeps-addrole;

@@ -8,7 +8,6 @@ returns c = record {
   end_session = law.sound-end_session;
   end_sessions = law.sound-end_sessions;
   open_session = law.sound-open_session;
-  close_session = law.sound-close_session;
   activate = law.sound-activate_row;
   drop_role = law.sound-drop_role;
   adduser = law.sound-adduser_row;

@@ -7,21 +7,20 @@ pub returns : goal.returns
 returns c = record {
   end_session = active.adds-end_session;
   end_sessions = active.adds-end_sessions;
-  close_session = active.adds-close_session;
-  adduser = λ connection user digest. active.adds-administration connection (AddUser user digest);
-  deluser = λ connection user. active.adds-administration connection (DeleteUser user);
-  addrole = λ connection role. active.adds-administration connection (AddRole role);
-  delrole = λ connection role. active.adds-administration connection (DeleteRole role);
-  assign = λ connection user role. active.adds-administration connection (Assign user role);
-  deassign = λ connection user role. active.adds-administration connection (Deassign user role);
-  grant = λ connection grant. active.adds-administration connection (AddGrant grant);
-  revoke = λ connection grant. active.adds-administration connection (Revoke grant);
+  adduser = λ user digest. active.adds-administration (AddUser user digest);
+  deluser = λ user. active.adds-administration (DeleteUser user);
+  addrole = λ role. active.adds-administration (AddRole role);
+  delrole = λ role. active.adds-administration (DeleteRole role);
+  assign = λ user role. active.adds-administration (Assign user role);
+  deassign = λ user role. active.adds-administration (Deassign user role);
+  grant = λ grant. active.adds-administration (AddGrant grant);
+  revoke = λ grant. active.adds-administration (Revoke grant);
   inherit =
-      λ connection senior junior. active.adds-administration connection (Inherit senior junior);
+      λ senior junior. active.adds-administration (Inherit senior junior);
   uninherit =
-      λ connection senior junior. active.adds-administration connection (Uninherit senior junior);
-  ssd = λ connection set. active.adds-administration connection (MakeStatic set);
-  dsd = λ connection set. active.adds-administration connection (MakeDynamic set);
-  unssd = λ connection name. active.adds-administration connection (RemoveStatic name);
-  undsd = λ connection name. active.adds-administration connection (RemoveDynamic name);
+      λ senior junior. active.adds-administration (Uninherit senior junior);
+  ssd = λ set. active.adds-administration (MakeStatic set);
+  dsd = λ set. active.adds-administration (MakeDynamic set);
+  unssd = λ name. active.adds-administration (RemoveStatic name);
+  undsd = λ name. active.adds-administration (RemoveDynamic name);
 }

@@ -9,7 +9,6 @@ returns c = record {
   end_session = sessions.kept-end_session;
   end_sessions = sessions.kept-end_sessions;
   open_session = sessions.kept-open_session;
-  close_session = sessions.kept-close_session;
   activate = sessions.kept-activate;
   drop_role = sessions.kept-drop_role;
   adduser = kept.kept-adduser;
