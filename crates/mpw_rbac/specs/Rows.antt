@@ -1,5 +1,5 @@
--- The requests of the policy: each with its tests in order, and the policy after it if all pass. A session and a permission are
--- tested before them, by the guard of the desk.
+-- The requests of the policy: each with its tests in order, and the policy after it if all pass. The guard of the desk tests before
+-- them what a request needs: a session, or the permission `admin` on the desk.
 use Rattle.std.specs.Prelude.{◌≡◌, ℕ, Bool, true, false, not, ◌&&◌, ◌||◌, ◌==◌, List, [], ◌∷◌, ◌++◌, length, map, filter, nat_lt, Result, Err, is_none, Option, None, Some}
 use Rattle.std.specs.List.{list_any, list_all}
 use Rattle.std.specs.Option.{option_map_or}
