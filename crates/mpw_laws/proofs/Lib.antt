@@ -33,7 +33,6 @@ pub mod Shown
 pub mod SignOffDenials
 pub mod SignOffReadable
 pub mod Signed
-pub mod SoundLemmas
 pub mod Staying
 pub mod Tests
 pub mod TileLemmas

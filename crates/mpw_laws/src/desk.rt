@@ -66,13 +66,17 @@ use mpw_rbac_laws::{
 /// In every state that calls lead to, the user of each session is authorized for each of its active roles.
 pub fn every_state_keeps_authorization()
     ensures { (officer digest : List ℕ) (calls : List Call) → active_authorized (state_after (new_state officer digest) calls).policy ≡ true }
-{}
+{
+    every_state_keeps_separation();
+}
 
 /// In every state that calls lead to, the policy is sound: every active role is authorized, the static sets hold for every user, and the
 /// dynamic ones for every session.
 pub fn every_state_keeps_separation()
     ensures { (officer digest : List ℕ) (calls : List Call) → Sound (state_after (new_state officer digest) calls).policy }
-{}
+{
+    every_state_keeps_its_tables();
+}
 
 /// A login with an unknown user and one with a wrong token are denied in the same way.
 pub fn unknown_users_are_denied_like_wrong_tokens()
@@ -142,6 +146,7 @@ pub fn denials_name_what_the_session_lacks()
 pub fn every_state_keeps_its_tables()
     ensures { (officer digest : List ℕ) (calls : List Call) → AreTablesSound (state_after (new_state officer digest) calls).policy }
 {
+    entering_is_by_the_need();
     each_request_keeps_the_tables();
 }
 

@@ -1,6 +1,6 @@
 -- Answers to the goals of `every_state_keeps_authorization` in `src/desk.rt`.
-use Rattle.mpw_laws.proofs.SoundLemmas.{sound-history}
 use Rattle.mpw_laws.proofs.desk.every_state_keeps_authorization.Goals as goal
 
 pub returns : goal.returns
-returns c = λ officer digest calls. (sound-history officer digest calls).sessions
+returns c = λ officer digest calls.
+    (c.every_state_keeps_separation.ensures officer digest calls).sessions
