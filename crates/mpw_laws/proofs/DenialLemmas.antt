@@ -1,5 +1,5 @@
 -- A denial names what the connection's session lacks.
-use Rattle.std.proofs.Common.{◌≡◌, inl, inr, ℕ, Bool, List, [], Result, Err, false, ap, ◌∙◌}
+use Rattle.std.proofs.Common.{◌≡◌, inl, inr, ℕ, Bool, List, [], Result, Err, None, false, ap, ◌∙◌}
 use Rattle.mpw_geom.specs.Names.{contains_name}
 use Rattle.mpw_permissions.specs.declared.permission.Object.{Object}
 use Rattle.mpw_permissions.specs.declared.permission.Object.TheVariants.{Cell}
@@ -7,7 +7,7 @@ use Rattle.mpw_permissions.specs.declared.permission.Operation.{Operation}
 use Rattle.mpw_permissions.specs.declared.permission.Operation.TheVariants.{Use}
 use Rattle.mpw_rbac.specs.declared.refusal.Refusal.{Refusal}
 use Rattle.mpw_rbac.specs.declared.refusal.Refusal.TheVariants as refusal
-use Rattle.mpw_rbac.specs.Policy.{Policy, authorized, permits}
+use Rattle.mpw_rbac.specs.Policy.{Policy, authorized, permits, session_of}
 use Rattle.mpw_rbac.specs.Rows as rows
 use Rattle.mpw_rbac_laws.proofs.DenialLemmas as law
 use Rattle.mpw_events.specs.declared.event.Event.TheVariants as event
@@ -82,6 +82,52 @@ sign_off-allows : (why : SignOffEnding) (operation : Operation) (object : Object
 sign_off-allows (sign_off.Refused code) operation object e = cc
 sign_off-allows (sign_off.Submitter cell) operation object e = cc
 sign_off-allows sign_off.Asker operation object e = cc
+
+-- no decision table denies a session
+policy-inside : (why : Refusal) → ending_of why ≡ ending.Denied denial.Session → ⊥
+policy-inside refusal.Login e = cc
+policy-inside _ e = cc
+
+layouts-inside : (why : LayoutEnding) → layouts.ending_of why ≡ ending.Denied denial.Session → ⊥
+layouts-inside (layout.Refused code) e = cc
+layouts-inside (layout.Unusable cell) e = cc
+
+sign_off-inside : (why : SignOffEnding) → signing.ending_of why ≡ ending.Denied denial.Session → ⊥
+sign_off-inside (sign_off.Refused code) e = cc
+sign_off-inside (sign_off.Submitter cell) e = cc
+sign_off-inside sign_off.Asker e = cc
+
+inside-row : (s : State) (connection : ℕ) (request : Request)
+    → (row_outcome s connection request).response ≡ response.Told (reply.Denied denial.Session) → ⊥
+inside-row s connection (ask.Policy request) e =
+    let d = ended_at ending_of (over_policy s) s (policy_row s.policy connection request)
+    (ending.Denied denial.Session) e in
+    policy-inside d.0 d.1.1
+inside-row s connection (ask.Layout request) e =
+    let d = ended_at layouts.ending_of (over_shelf s) s _ (ending.Denied denial.Session) e in
+    layouts-inside d.0 d.1.1
+inside-row s connection (ask.Wafer request) e =
+    let d = ended_at ending.Refused (over_wafer s) s _ (ending.Denied denial.Session) e in
+    let h = d.1.1 in
+    cc
+inside-row s connection (ask.Run request) e =
+    let d = ended_at ending.Refused (over_run s) s _ (ending.Denied denial.Session) e in
+    let h = d.1.1 in
+    cc
+inside-row s connection (ask.SignOff request) e =
+    let d = ended_at signing.ending_of (over_waivers s) s _ (ending.Denied denial.Session) e in
+    sign_off-inside d.0 d.1.1
+inside-row s connection _ e = cc
+
+pub lacks-session : DeniedIsLacked → (s : State) (connection : ℕ) (request : Request) (kept : Bool)
+    → response_of s (event.Ask connection request) kept ≡ response.Told
+    (reply.Denied denial.Session)
+    → session_of s.policy connection ≡ None
+lacks-session lacked s connection request kept e =
+    elim (guarded_ended s connection request kept (ending.Denied denial.Session) (λ is. cc) e) [
+      | inl g ↦ lacked s.policy connection (need_of request) (ending.Denied denial.Session) g
+      | inr r ↦ absurd (inside-row s connection request r)
+    ]
 
 module _ (lacked : DeniedIsLacked) (shelves : LayoutsDenyWhatIsLacked) where
   lacks-request : (s : State) (connection : ℕ) (request : Request) (operation : Operation)

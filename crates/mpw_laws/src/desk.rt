@@ -129,9 +129,10 @@ pub fn lines_are_of_readable_cells()
     lines_of_the_sign_off_are_of_readable_cells();
 }
 
-/// Whatever the request, if a permission is denied, the connection's session lacks it. A denied activation names the requested role, for
-/// which the session's user is not authorized.
+/// Whatever the request, if a session is denied, the connection has none, and if a permission is denied, its session lacks it. A denied
+/// activation names the requested role, for which the session's user is not authorized.
 pub fn denials_name_what_the_session_lacks()
+    ensures session { (state : State) (connection : ℕ) (request : AnyRequest) (kept : Bool) → response_of state (event.Ask connection request) kept ≡ response.Told (Reply.Denied denial.Session) → session_of state.policy connection ≡ None }
     ensures permission { (state : State) (connection : ℕ) (request : AnyRequest) (kept : Bool) (operation : Operation) (object : Object) →
         response_of state (event.Ask connection request) kept ≡ response.Told (Reply.Denied (denial.Permission operation object)) →
         permits state.policy connection operation object ≡ false }
