@@ -11,12 +11,7 @@ pub passed : {A B E : Type 0} (x : Result A E) (f : A → Result B E) (y : B)
 passed (Ok a) f y e = (a, refl, e)
 passed (Err s) f y e = absurd cc
 
--- a table that lists or changes ends where its tests end
-pub listing_ended : {A E P : Type 0} (lines : A → List Listed) (row : Result A E) (e : E)
-    → listing {P = P} lines row ≡ Err e → row ≡ Err e
-listing_ended lines (Ok x) e is = absurd cc
-listing_ended lines (Err why) e is = cc
-
+-- a table that changes a part ends where its tests end
 pub changing_ended : {A E P : Type 0} (part : A → P) (lines : A → List Line) (row : Result A E)
     (e : E) → changing part lines row ≡ Err e → row ≡ Err e
 changing_ended part lines (Ok x) e is = absurd cc

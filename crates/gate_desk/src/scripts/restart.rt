@@ -76,7 +76,7 @@ fn restart_a_closed_desk(rt: &HostRuntime, core: &mut Core) -> Result<()> {
         failures: 0,
     };
     let word = open(rt.alloc(), core, &mut keeper)?;
-    println!(rt; "a login that could not be kept: {word}")?;
+    println!(rt; "a login that could not be stored: {word}")?;
     tell_restart(rt, core)
 }
 
