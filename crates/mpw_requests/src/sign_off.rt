@@ -2,12 +2,12 @@
 ghost use Rattle.std.specs.Prelude.{◌≡◌};
 ghost use Rattle.mpw_requests.specs.Parts.{seen, parts_of, request_of};
 ghost use Rattle.mpw_requests.specs.SignOff.{sign_off_need};
-ghost use Rattle.mpw_requests.specs.Table.{verb_text, verb_shape, has_payload};
+ghost use Rattle.mpw_requests.specs.Table.{verb_text, verb_shape, has_payload, lists};
 
 use crate::need::{Need, on_desk};
 use crate::parts::{Operands, Parts};
 use crate::request::Request;
-use crate::table::{Form, Shape, Verb, line};
+use crate::table::{Form, Shape, Verb, line, listing};
 use mpw_edges::Piece;
 use mpw_geom::Name;
 use mpw_permissions::Operation;
@@ -72,17 +72,18 @@ pub(crate) fn sign_off_need(request: &SignOffRequest) -> Need
 }
 
 /// The form of a verb's line.
-#[tactic(auto, unfolding(crate::specs::Table::verb_form, crate::specs::Table::has_payload))]
+#[tactic(auto, unfolding(crate::specs::Table::verb_form, crate::specs::Table::has_payload, crate::specs::Table::lists))]
 pub(crate) const fn sign_off_form(verb: SignOffVerb) -> Form
     ensures word { result.word.now ≡ verb_text (Verb.SignOff verb) }
     ensures shape { result.shape ≡ verb_shape (Verb.SignOff verb) }
     ensures payload { result.has_payload ≡ has_payload (Verb.SignOff verb) }
+    ensures lists { result.lists ≡ lists (Verb.SignOff verb) }
 {
     match verb {
         SignOffVerb::Waive => line("waive", " key", Shape::Key),
         SignOffVerb::Sign => line("sign", " key", Shape::Key),
-        SignOffVerb::Waivers => line("waivers", "", Shape::Alone),
-        SignOffVerb::Verdict => line("verdict", "", Shape::Alone),
+        SignOffVerb::Waivers => listing("waivers", "", Shape::Alone),
+        SignOffVerb::Verdict => listing("verdict", "", Shape::Alone),
     }
 }
 
