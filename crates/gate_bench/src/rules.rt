@@ -8,7 +8,7 @@ use std::io;
 fn of_rule(markers: &[Marker], place: usize) -> usize {
     let mut count = 0usize;
     for marker in markers {
-        count = count.saturating_add(usize::from(marker.rule as usize == place));
+        count = count.saturating_add(usize::from(marker.key.rule as usize == place));
     }
     count
 }

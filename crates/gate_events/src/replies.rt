@@ -2,8 +2,7 @@
 
 use crate::words::operation_word;
 use anyhow::{Result, bail};
-use mpw_edges::Axis;
-use mpw_markers::Key;
+use mpw_edges::{Axis, Piece};
 use mpw_permissions::{Object, Operation};
 use mpw_replies::{
     Code, Denial, Kept, Line, Lines, MarkerListing, MarkerView, MarkerViews, MaskedViews, MetCells,
@@ -51,9 +50,16 @@ fn axis_letter(axis: Axis) -> &'static str {
 }
 
 /// Prints a marker's key.
-fn tell_key(rt: &impl Print, rule: &str, key: Key) -> Result<()> {
-    let axis = axis_letter(key.axis);
-    let (side, x1, x2, y0, y1) = (key.side, key.x1, key.x2, key.y0, key.y1);
+fn tell_key(rt: &impl Print, rule: &str, piece: Piece) -> Result<()> {
+    let Piece {
+        side,
+        x1,
+        x2,
+        y0,
+        y1,
+        ..
+    } = piece;
+    let axis = axis_letter(piece.axis);
     Ok(print!(rt; "    {rule}:{axis}:{side}:{x1}:{x2}:{y0}:{y1}")?)
 }
 
@@ -71,7 +77,7 @@ fn tell_cells(rt: &impl Print, cells: MetCells<'_>) -> Result<()> {
 
 /// Prints a marker.
 fn tell_marker(rt: &impl Print, marker: MarkerView<'_>) -> Result<()> {
-    tell_key(rt, marker.rule.as_str(), marker.key)?;
+    tell_key(rt, marker.rule.as_str(), marker.key.piece)?;
     tell_cells(rt, marker.cells)
 }
 

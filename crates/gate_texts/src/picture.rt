@@ -51,7 +51,7 @@ fn print_near(rt: &HostRuntime, given: &Given, snapshot: &Snapshot, place: u32) 
         .context("a marker")?;
     let view = View {
         window: marker_window(snapshot.deck().rules().as_slice(), marker),
-        wanted: Some(marker.key()),
+        wanted: Some(marker.key),
         limit: usize::MAX,
     };
     let picture = draw_view(rt.alloc(), snapshot, given.markers.as_slice(), view)?;

@@ -11,7 +11,7 @@ mod tables;
 mod words;
 
 pub use answers::{Answers, HEAD, answer_lines, read_input, table};
-pub use markers::{axis, key, letter, marker, marker_of, print_marker, side, tell_marker};
+pub use markers::{axis, key, letter, marker, print_marker, side, tell_marker};
 pub use numerals::{coordinate, coordinate_or_zero, number, numbers};
 pub use plane::{
     ORIENTS, coordinates, is_coordinate, is_near, is_ordered, orient, orient_of, orient_word,

@@ -3,7 +3,7 @@
 use crate::numerals::{coordinate, number};
 use crate::words::Words;
 use anyhow::{Result, bail};
-use mpw_edges::Axis;
+use mpw_edges::{Axis, Piece};
 use mpw_markers::{Key, Marker, Met};
 use std::alloc::Global;
 use std::io;
@@ -45,10 +45,11 @@ pub fn letter(axis: Axis) -> &'static str {
 /// # Errors
 /// The output fails.
 pub fn print_marker(rt: &impl Print, marker: &Marker) -> Result<()> {
-    let axis = letter(marker.axis);
+    let p = marker.key.piece;
+    let (rule, axis) = (marker.key.rule, letter(p.axis));
     print!(rt;
-        "    {} {axis} {} {} {} {} {} met",
-        marker.rule, marker.side, marker.x1, marker.x2, marker.y0, marker.y1
+        "    {rule} {axis} {} {} {} {} {} met",
+        p.side, p.x1, p.x2, p.y0, p.y1
     )?;
     for number in marker.met.as_slice() {
         print!(rt; " {number}")?;
@@ -65,14 +66,18 @@ pub fn marker(alloc: Global, line: &str) -> Result<Marker> {
     let [rule, on, of, x1, x2, y0, y1] = words.as_slice() else {
         bail!("seven words");
     };
-    Ok(Marker {
-        rule: number(rule)?,
+    let rule = number(rule)?;
+    let piece = Piece {
         axis: axis(on)?,
         side: side(of)?,
         x1: coordinate(x1)?,
         x2: coordinate(x2)?,
         y0: coordinate(y0)?,
         y1: coordinate(y1)?,
+    };
+    let key = Key { rule, piece };
+    Ok(Marker {
+        key,
         met: Met::none(),
     })
 }
@@ -103,29 +108,16 @@ fn next_side(words: &mut Words<'_>) -> u8 {
 
 /// Takes the seven words of a marker's key: rule, axis, side, x1, x2, y0, y1.
 pub fn key(words: &mut Words<'_>) -> Key {
-    Key {
-        rule: words.number(),
+    let rule = words.number();
+    let piece = Piece {
         axis: next_axis(words),
         side: next_side(words),
         x1: words.coordinate(),
         x2: words.coordinate(),
         y0: words.coordinate(),
         y1: words.coordinate(),
-    }
-}
-
-/// The marker of a key that touches these submissions.
-pub fn marker_of(key: Key, met: Met) -> Marker {
-    Marker {
-        rule: key.rule,
-        axis: key.axis,
-        side: key.side,
-        x1: key.x1,
-        x2: key.x2,
-        y0: key.y0,
-        y1: key.y1,
-        met,
-    }
+    };
+    Key { rule, piece }
 }
 
 /// Prints a marker on its own line: its key, and the submissions that it touches.
@@ -133,10 +125,11 @@ pub fn marker_of(key: Key, met: Met) -> Marker {
 /// # Errors
 /// The output fails.
 pub fn tell_marker(rt: &HostRuntime, marker: &Marker) -> io::Result<()> {
-    let axis = letter(marker.axis);
+    let p = marker.key.piece;
+    let (rule, axis) = (marker.key.rule, letter(p.axis));
     print!(rt;
-        "    {} {axis} {} {} {} {} {} met",
-        marker.rule, marker.side, marker.x1, marker.x2, marker.y0, marker.y1
+        "    {rule} {axis} {} {} {} {} {} met",
+        p.side, p.x1, p.x2, p.y0, p.y1
     )?;
     for number in marker.met.as_slice() {
         print!(rt; " {number}")?;

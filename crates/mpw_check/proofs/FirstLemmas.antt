@@ -21,7 +21,7 @@ use Rattle.mpw_check.specs.Internal.First.{AddsOne, AreFirstSeen}
 -- ---- one element more
 
 abbrev is_of : ℕ → Marker → Bool
-is_of place m = m.rule == place
+is_of place m = m.key.rule == place
 
 module _ {X : Type 0} (most : ℕ) (xs : List X) (x : X) where
   takes_one : length xs < most → take most xs ++ x ∷ [] ≡ take most (xs ++ x ∷ [])
@@ -43,11 +43,11 @@ none_seen most rules book f none zeros = record {
 
 -- the marker's rule has a count
 pub rule_counted : (rules : ℕ) (book : List Marker) (i : ℕ) (m : Marker) (counts : List ℕ)
-    → i < length book → m ≡ get_or book i m → All (λ m. m.rule < rules) book
-    → length counts ≡ rules → m.rule < length counts
+    → i < length book → m ≡ get_or book i m → All (λ m. m.key.rule < rules) book
+    → length counts ≡ rules → m.key.rule < length counts
 rule_counted rules book i m counts inside at below long =
-    let own = subst (λ (x : Marker). x.rule < rules) (sym at)
-    (All-get_or (λ m. m.rule < rules) book i m inside below) in
+    let own = subst (λ (x : Marker). x.key.rule < rules) (sym at)
+    (All-get_or (λ m. m.key.rule < rules) book i m inside below) in
     omega (arith, own, long)
 
 -- the counts are at most the number of markers that were read
@@ -59,51 +59,53 @@ count_few most book i place f inside seen within =
     omega (
       arith,
       count,
-      length-filter_both (is_of place) (λ (x : Marker). not (x.rule == place)) (λ x. refl)
+      length-filter_both (is_of place) (λ (x : Marker). not (x.key.rule == place)) (λ x. refl)
           (take i book),
       length-take-le i book (omega (arith, inside)),
     )
 
 module _ (most : ℕ) (book : List Marker) (i : ℕ) (m : Marker) (old new : FirstMarkers)
-    (inside : i < length book) (at : m ≡ get_or book i m) (there : m.rule < length old.counts.items)
+    (inside : i < length book) (at : m ≡ get_or book i m)
+    (there : m.key.rule < length old.counts.items)
     (adds : AddsOne most m old new) (seen : AreFirstSeen most (take i book) old) where
   -- one more of the rule, or the same
   seen_more : (place : ℕ)
       → of_rule (take (i + 1) book) place
-      ≡ of_rule (take i book) place ++ cond (m.rule == place) (m ∷ []) []
+      ≡ of_rule (take i book) place ++ cond (m.key.rule == place) (m ∷ []) []
   seen_more place =
       filter_more (is_of place) book i m inside
-      ∙ ap (λ (x : Marker). of_rule (take i book) place ++ cond (x.rule == place) (x ∷ []) [])
+      ∙ ap (λ (x : Marker). of_rule (take i book) place ++ cond (x.key.rule == place) (x ∷ []) [])
       (sym at)
 
   with_one : (place : ℕ) → new.markers.items ≡ old.markers.items ++ m ∷ []
       → of_rule new.markers.items place
-      ≡ take most (of_rule (take i book) place) ++ cond (m.rule == place) (m ∷ []) []
+      ≡ take most (of_rule (take i book) place) ++ cond (m.key.rule == place) (m ∷ []) []
   with_one place e =
       ap (λ (ms : List Marker). of_rule ms place) e
       ∙ filter-append (is_of place) old.markers.items (m ∷ [])
-      ∙ ap (λ (ms : List Marker). ms ++ cond (m.rule == place) (m ∷ []) []) (seen.first place)
+      ∙ ap (λ (ms : List Marker). ms ++ cond (m.key.rule == place) (m ∷ []) []) (seen.first place)
 
-  own : of_rule new.markers.items m.rule ≡ take most (of_rule (take i book) m.rule ++ m ∷ [])
+  own : of_rule new.markers.items m.key.rule ≡ take most (of_rule (take i book) m.key.rule ++ m
+      ∷ [])
   own =
-      let same = eq-eqb m.rule m.rule refl in
-      let count = seen.counted m.rule there in
-      let before = of_rule (take i book) m.rule in
-      elim (cases_lt (slice_index old.counts.items m.rule) most) as
-      (λ t. of_rule new.markers.items m.rule ≡ take most (before ++ m ∷ [])) [
+      let same = eq-eqb m.key.rule m.key.rule refl in
+      let count = seen.counted m.key.rule there in
+      let before = of_rule (take i book) m.key.rule in
+      elim (cases_lt (slice_index old.counts.items m.key.rule) most) as
+      (λ t. of_rule new.markers.items m.key.rule ≡ take most (before ++ m ∷ [])) [
         | inl lt ↦
-            with_one m.rule (adds.taken lt)
+            with_one m.key.rule (adds.taken lt)
             ∙ ap (λ (b : Bool). take most before ++ cond b (m ∷ []) []) same
             ∙ takes_one most before m (omega (arith, lt, count))
         | inr le ↦
-            ap (λ (ms : List Marker). of_rule ms m.rule) (adds.left le) ∙ seen.first m.rule
+            ap (λ (ms : List Marker). of_rule ms m.key.rule) (adds.left le) ∙ seen.first m.key.rule
             ∙ sym (take-append-le most before (m ∷ []) (omega (arith, le, count)))
       ]
 
-  other : (place : ℕ) → (m.rule == place) ≡ false
+  other : (place : ℕ) → (m.key.rule == place) ≡ false
       → of_rule new.markers.items place ≡ take most (of_rule (take i book) place)
   other place differs =
-      elim (cases_lt (slice_index old.counts.items m.rule) most) as
+      elim (cases_lt (slice_index old.counts.items m.key.rule) most) as
       (λ t. of_rule new.markers.items place ≡ take most (of_rule (take i book) place)) [
         | inl lt ↦
             with_one place (adds.taken lt)
@@ -117,15 +119,15 @@ module _ (most : ℕ) (book : List Marker) (i : ℕ) (m : Marker) (old new : Fir
   first_more : (place : ℕ)
       → of_rule new.markers.items place ≡ take most (of_rule (take (i + 1) book) place)
   first_more place =
-      elim (eqb_tells m.rule place) as
+      elim (eqb_tells m.key.rule place) as
       (λ t. of_rule new.markers.items place ≡ take most (of_rule (take (i + 1) book) place)) [
         | inl same ↦
             subst (λ (p : ℕ). of_rule new.markers.items p
             ≡ take most (of_rule (take (i + 1) book) p))
             same.1
-            (own ∙ ap (take most) (sym (seen_more m.rule
-            ∙ ap (λ (b : Bool). of_rule (take i book) m.rule ++ cond b (m ∷ []) [])
-            (eq-eqb m.rule m.rule refl))))
+            (own ∙ ap (take most) (sym (seen_more m.key.rule
+            ∙ ap (λ (b : Bool). of_rule (take i book) m.key.rule ++ cond b (m ∷ []) [])
+            (eq-eqb m.key.rule m.key.rule refl))))
         | inr differs ↦
             other place differs.0
             ∙ ap (take most) (sym (seen_more place
@@ -140,9 +142,9 @@ module _ (most : ℕ) (book : List Marker) (i : ℕ) (m : Marker) (old new : Fir
         let long = adds.long in
         let before : place < length old.counts.items = omega (arith, within, long) in
         adds.counted place before
-        ∙ ap (λ n. n + cond (m.rule == place) 1 0) (seen.counted place before)
+        ∙ ap (λ n. n + cond (m.key.rule == place) 1 0) (seen.counted place before)
         ∙ sym (length-filter_more (is_of place) book i m inside
-        ∙ ap (λ (x : Marker). length (of_rule (take i book) place) + cond (x.rule == place) 1 0)
+        ∙ ap (λ (x : Marker). length (of_rule (take i book) place) + cond (x.key.rule == place) 1 0)
         (sym at));
   }
 
@@ -178,7 +180,7 @@ whole_seen most rules book i f past small long all seen = record {
         let count = seen.counted place lt
         ∙ ap (λ (ms : List Marker). length (of_rule ms place)) whole in
         let few =
-        length-filter_both (is_of place) (λ (x : Marker). not (x.rule == place)) (λ x. refl)
+        length-filter_both (is_of place) (λ (x : Marker). not (x.key.rule == place)) (λ x. refl)
         book in
         grind (arith, count, few, small)
 
@@ -186,12 +188,12 @@ whole_seen most rules book i f past small long all seen = record {
 
 -- Each marker's rule is one of the deck's.
 pub rules_there : (s : Snapshot) (book : List Marker) → AreLayoutMarkers s book
-    → All (λ m. m.rule < length s.deck.rules) book
+    → All (λ m. m.key.rule < length s.deck.rules) book
 rules_there s book are = λ i d lt.
     let m = get_or book i d in
     let run = are.runs.sound m (Contains-get_or book i d lt) in
-    let step = run.rows m.y0 (omega (arith, ints)) run.filled in
-    slice_get_within s.deck.rules m.rule step.0 step.1
+    let step = run.rows m.key.piece.y0 (omega (arith, ints)) run.filled in
+    slice_get_within s.deck.rules m.key.rule step.0 step.1
 
 -- The first of each rule of its book are those of the layout.
 pub is_first_of : {E : Type 0} (most : ℕ) (s : Snapshot) (book : List Marker)

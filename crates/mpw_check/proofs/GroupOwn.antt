@@ -10,9 +10,9 @@ use Rattle.mpw_groups.specs.Joined.{joined_from, taken, taken_at, with_rule}
 use Rattle.mpw_job.proofs.Tests.{is_false}
 
 taken_rule : (place rule : ℕ) (ms : List Marker)
-    → All (λ (m : Marker). m.rule ≡ rule) (taken place rule ms)
+    → All (λ (m : Marker). m.key.rule ≡ rule) (taken place rule ms)
 taken_rule place rule ms =
-    All-map (λ (m : Marker). m.rule ≡ rule) (with_rule rule) (of_rule ms place)
+    All-map (λ (m : Marker). m.key.rule ≡ rule) (with_rule rule) (of_rule ms place)
     (λ i d lt. refl)
 
 differs : (a b : ℕ) → (a ≡ b → ⊥) → (a == b) ≡ false
@@ -33,20 +33,20 @@ none_kept p (x ∷ xs) h =
 
 own_taken : (place rule : ℕ) (ms : List Marker)
     → of_rule (taken place rule ms) rule ≡ taken place rule ms
-own_taken place rule ms = all_kept (λ (m : Marker). m.rule == rule) (taken place rule ms)
+own_taken place rule ms = all_kept (λ (m : Marker). m.key.rule == rule) (taken place rule ms)
     (λ i d lt. eq-eqb _ rule (taken_rule place rule ms i d lt))
 
 other_taken : (place rule other : ℕ) (ms : List Marker) → (rule == other) ≡ false
     → of_rule (taken place rule ms) other ≡ []
 other_taken place rule other ms differs =
-    none_kept (λ (m : Marker). m.rule == other) (taken place rule ms)
+    none_kept (λ (m : Marker). m.key.rule == other) (taken place rule ms)
     (λ i d lt. ap (λ n. n == other) (taken_rule place rule ms i d lt) ∙ differs)
 
 module _ (lists : List (List Marker)) where
   before_joined : (k r : ℕ) (os : List Owner) → r < k → of_rule (joined_from lists k os) r ≡ []
   before_joined k r [] less = refl
   before_joined k r (o ∷ os) less =
-      filter-append (λ (m : Marker). m.rule == r) (taken_at lists o k)
+      filter-append (λ (m : Marker). m.key.rule == r) (taken_at lists o k)
       (joined_from lists (k + 1) os)
       ∙ ap (λ ms. ms ++ of_rule (joined_from lists (k + 1) os) r)
       (other_taken o.place k r (slice_index_or lists o.group [])
@@ -58,7 +58,7 @@ module _ (lists : List (List Marker)) where
   of_joined k [] i o at r e = absurd (let clash : None ≡ Some o = at in cc)
   of_joined k (p ∷ os) zero o at r e =
       let number : r ≡ k = omega (arith, e) in
-      filter-append (λ (m : Marker). m.rule == r) (taken_at lists p k)
+      filter-append (λ (m : Marker). m.key.rule == r) (taken_at lists p k)
       (joined_from lists (k + 1) os)
       ∙ ap (λ ms. of_rule (taken_at lists p k) r ++ ms)
       (before_joined (k + 1) r os (omega (arith, number)))
@@ -70,7 +70,7 @@ module _ (lists : List (List Marker)) where
       same : (a b : Owner) → (let x : Option Owner = Some a in x) ≡ Some b → a ≡ b
       same a b h = cc
   of_joined k (p ∷ os) (suc i) o at r e =
-      filter-append (λ (m : Marker). m.rule == r) (taken_at lists p k)
+      filter-append (λ (m : Marker). m.key.rule == r) (taken_at lists p k)
       (joined_from lists (k + 1) os)
       ∙ ap (λ ms. ms ++ of_rule (joined_from lists (k + 1) os) r)
       (other_taken p.place k r (slice_index_or lists p.group [])
@@ -81,7 +81,7 @@ module _ (lists : List (List Marker)) where
       → of_rule (joined_from lists k os) r ≡ []
   past_joined k [] r past = refl
   past_joined k (o ∷ os) r past =
-      filter-append (λ (m : Marker). m.rule == r) (taken_at lists o k)
+      filter-append (λ (m : Marker). m.key.rule == r) (taken_at lists o k)
       (joined_from lists (k + 1) os)
       ∙ ap (λ ms. ms ++ of_rule (joined_from lists (k + 1) os) r)
       (other_taken o.place k r (slice_index_or lists o.group [])

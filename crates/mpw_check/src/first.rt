@@ -19,11 +19,11 @@ use std::thread::Threads;
 
 /// Counts a marker, and stores it if fewer than `most` of its rule were stored. The only error is out of memory.
 fn add_one(first: &mut FirstMarkers, marker: &Marker, most: usize) -> Result<(), AllocError>
-    requires there { marker.now.rule < length first.old.counts.items }
-    requires room { slice_index first.old.counts.items marker.now.rule + 1 < 2 ^ 64 }
+    requires there { marker.now.key.rule < length first.old.counts.items }
+    requires room { slice_index first.old.counts.items marker.now.key.rule + 1 < 2 ^ 64 }
     ensures { OnOk result (AddsOne most marker.now first.old first.new) }
 {
-    let rule = marker.rule as usize;
+    let rule = marker.key.rule as usize;
     let count = first.counts[rule];
     if count < most {
         first.markers.push(marker.copy()?)?;
@@ -52,7 +52,7 @@ fn first_of_book(
     book: &[Marker],
     most: usize,
 ) -> Result<FirstMarkers, AllocError>
-    requires { All (λ m. m.rule < rules) book.now }
+    requires { All (λ m. m.key.rule < rules) book.now }
     ensures { IfOk result (λ f. AreFirstOf most rules book.now f.markers.items f.counts.items f.all) }
 {
     let mut first = none_yet(alloc, rules, book.len())?;

@@ -123,11 +123,14 @@ found_same rules layers distance axis on other core k short layered agree f =
       rule = f.rule;
       at = f.at;
       on_axis = f.on_axis;
-      run = run_same (HasStepAt f.rule on core k) (HasStepAt f.rule other core k) k.y0 k.y1
-          (λ j s. vertical_same f.rule distance a b a' b' core near first second k.side k.x1 k.x2 j
+      run =
+          run_same (HasStepAt f.rule on core k) (HasStepAt f.rule other core k) k.piece.y0
+          k.piece.y1
+          (λ j s. vertical_same f.rule distance a b a' b' core near first second k.piece.side
+          k.piece.x1 k.piece.x2 j
           s)
           (λ j s. vertical_same f.rule distance a' b' a b core near (back window a a' first)
-          (back window b b' second) k.side k.x1 k.x2 j s) f.run;
+          (back window b b' second) k.piece.side k.piece.x1 k.piece.x2 j s) f.run;
     }
 
 pub found_agree : (rules : List Rule) (layers : List Layer) (distance : ℕ) (axis : Axis)

@@ -15,7 +15,7 @@ use Rattle.mpw_tiles.specs.Snapshots.{Snapshot, shown, shown_extent}
 use Rattle.mpw_markers.specs.declared.marker.Key.{Key}
 use Rattle.mpw_markers.specs.declared.marker.Marker.{Marker}
 use Rattle.mpw_markers.specs.Book.{IsBook}
-use Rattle.mpw_markers.specs.Markers.{key_of, line_of_key}
+use Rattle.mpw_markers.specs.Markers.{line_of_key}
 use Rattle.mpw_markers.specs.Order.{StandsBefore}
 use Rattle.mpw_markers.specs.Whole.{AreMarkersOf}
 use Rattle.mpw_job.specs.Computed.{steps_of, shown_on}
@@ -75,7 +75,8 @@ module _ (laws : Laws) (s : Snapshot) (rule side : ℕ) (small : side < 2) where
       λ there.
           let run = (h.exact k).0 (kept k there) in
           let ruled_so = ruled laws.decides s k run.run in
-          let parts = same_number side k.rule k.side ruled_so.side small rule (number k there) in
+          let parts =
+          same_number side k.rule k.piece.side ruled_so.side small rule (number k there) in
           (parts.0, parts.1, run),
       λ p. filter_has keeps keys k ((h.exact k).1 p.2) (eq-eqb (list_number k) (2 * rule + side)
           (let e = p.0 in let f = p.1 in omega (arith, e, f))),
@@ -114,7 +115,8 @@ module _ (laws : Laws) (s : Snapshot) (rule side : ℕ) (small : side < 2) where
         to = (seen_box axis extent).x1 +ℤ pos 1;
       }) (list_of (2 * rule + side) lists)
   whole_list axis extent cs lists cover each =
-      subst (IsListFor s rule side _) (flat_map-map (λ (keys : List Key). keys) (filter keeps) lists)
+      subst (IsListFor s rule side _) (flat_map-map (λ (keys : List Key). keys) (filter keeps)
+      lists)
       (follow_on s rule side axis (seen_box axis extent).x0 ((seen_box axis extent).x1 +ℤ pos 1) cs
       (map (filter keeps) lists) cover (lists_for cs lists each))
 
@@ -143,10 +145,11 @@ joined P Q R xs ys f g parts across = record {
 
 -- a run of the rule on the axis and on the side; of both sides; on both axes; of a rule below n
 abbrev OfList : Snapshot → ℕ → Axis → ℕ → Key → Type 0
-OfList s rule axis side k = (k.rule ≡ rule) × (k.axis ≡ axis) × (k.side ≡ side) × IsRunOf s k
+OfList s rule axis side k =
+    (k.rule ≡ rule) × (k.piece.axis ≡ axis) × (k.piece.side ≡ side) × IsRunOf s k
 
 abbrev OfSides : Snapshot → ℕ → Axis → Key → Type 0
-OfSides s rule axis k = (k.rule ≡ rule) × (k.axis ≡ axis) × IsRunOf s k
+OfSides s rule axis k = (k.rule ≡ rule) × (k.piece.axis ≡ axis) × IsRunOf s k
 
 abbrev OfRule : Snapshot → ℕ → Key → Type 0
 OfRule s rule k = (k.rule ≡ rule) × IsRunOf s k
@@ -160,9 +163,9 @@ either_axis H = inr refl
 
 module _ (laws : Laws) (s : Snapshot) (extent : Box2) (found : shown_extent s ≡ Some extent) where
   -- a run lies in the extent
-  stands : (k : Key) → IsRunOf s k → StandsIn (seen_box k.axis extent) k.x1 k.y0
-  stands k run = steps_stand laws s extent (line_of_key k) k.y0 found
-      (run.rows k.y0 (omega (arith, ints)) run.filled)
+  stands : (k : Key) → IsRunOf s k → StandsIn (seen_box k.piece.axis extent) k.piece.x1 k.piece.y0
+  stands k run = steps_stand laws s extent (line_of_key k) k.piece.y0 found
+      (run.rows k.piece.y0 (omega (arith, ints)) run.filled)
 
   just_list : (rule side : ℕ) (axis : Axis) (cs : List Column) (lists : List (List Key)) → side < 2
       → AreColumnsOf axis extent cs → AllZip (IsColumnList s) cs lists
@@ -178,8 +181,10 @@ module _ (laws : Laws) (s : Snapshot) (extent : Box2) (found : shown_extent s �
             record {
               run = p.3;
               on_axis = p.1;
-              left = subst (λ (a : Axis). (seen_box a extent).x0 ≤ℤ k.x1) p.1 (stands k p.3).left;
-              right = subst (λ (a : Axis). k.x1 <ℤ ((seen_box a extent).x1 +ℤ pos 1)) p.1
+              left =
+                  subst (λ (a : Axis). (seen_box a extent).x0 ≤ℤ k.piece.x1) p.1
+                  (stands k p.3).left;
+              right = subst (λ (a : Axis). k.piece.x1 <ℤ ((seen_box a extent).x1 +ℤ pos 1)) p.1
                   (stands k p.3).right;
             },
           ),
@@ -196,8 +201,8 @@ module _ (laws : Laws) (s : Snapshot) (extent : Box2) (found : shown_extent s �
             }) (whole.ordered i j d less within);
       }
 
-  either_side : (k : Key) → IsRunOf s k → (k.side ≡ 0) ⊎ (k.side ≡ 1)
-  either_side k run = at k.side (ruled laws.decides s k run).side
+  either_side : (k : Key) → IsRunOf s k → (k.piece.side ≡ 0) ⊎ (k.piece.side ≡ 1)
+  either_side k run = at k.piece.side (ruled laws.decides s k run).side
     where
       at : (n : ℕ) → n < 2 → (n ≡ 0) ⊎ (n ≡ 1)
       at zero less = inl refl
@@ -222,7 +227,8 @@ module _ (laws : Laws) (s : Snapshot) (extent : Box2) (found : shown_extent s �
       (λ k l p q. before_by_side k l (p.0 ∙ sym q.0) (p.1 ∙ sym q.1)
       (let e = p.2 in let f = q.2 in omega (arith, e, f)))
 
-  module _ (vs hs : List Column) (upright across : List (List Key)) (on_v : AreColumnsOf V extent vs)
+  module _ (vs hs : List Column) (upright across : List (List Key))
+      (on_v : AreColumnsOf V extent vs)
       (on_h : AreColumnsOf H extent hs) (first : AllZip (IsColumnList s) vs upright)
       (second : AllZip (IsColumnList s) hs across) where
     just_rule : (rule : ℕ) → IsJust (OfRule s rule) (lists_of_rule upright across rule)
@@ -231,7 +237,11 @@ module _ (laws : Laws) (s : Snapshot) (extent : Box2) (found : shown_extent s �
         (lists_of_sides rule across) (just_sides rule V vs upright on_v first)
         (just_sides rule H hs across on_h second)
         (λ k. (
-          λ r. elim (either_axis k.axis) [ inl e ↦ inl (r.0, e, r.1) | inr e ↦ inr (r.0, e, r.1) ],
+          λ r. elim (either_axis k.piece.axis) [
+            | inl e ↦ inl (r.0, e, r.1)
+            | inr e
+                ↦ inr (r.0, e, r.1)
+          ],
           λ p. elim p [ inl q ↦ (q.0, q.2) | inr q ↦ (q.0, q.2) ],
         ))
         (λ k l p q. before_by_axis k l (p.0 ∙ sym q.0) p.1 q.1)
@@ -254,7 +264,8 @@ module _ (laws : Laws) (s : Snapshot) (extent : Box2) (found : shown_extent s �
             | inr q ↦ (let same = q.0 in omega (arith, same), q.1)
           ],
         ))
-        (λ k l p q. before_by_rule k l (let less = p.0 in let same = q.0 in omega (arith, less, same)))
+        (λ k l p q. before_by_rule k l (let less = p.0 in let same = q.0 in
+        omega (arith, less, same)))
 
     pub just_layout : IsJust (IsRunOf s) (together (length s.deck.rules) upright across)
     just_layout =
@@ -268,24 +279,27 @@ module _ (laws : Laws) (s : Snapshot) (extent : Box2) (found : shown_extent s �
 
 -- ---- the book
 
+abbrev key_of : Marker → Key
+key_of m = m.key
+
 module _ (s : Snapshot) (keys : List Key) (book : List Marker) (just : IsJust (IsRunOf s) keys)
     (are : map key_of book ≡ keys) (meets : All (MeetsShown s) book) where
-  run_of : (m : Marker) → Contains book m → IsRunOf s (key_of m)
-  run_of m c = (just.exact (key_of m)).0 (subst (λ (ks : List Key). Contains ks (key_of m)) are
+  run_of : (m : Marker) → Contains book m → IsRunOf s m.key
+  run_of m c = (just.exact m.key).0 (subst (λ (ks : List Key). Contains ks m.key) are
       (to_map key_of book m c))
 
   at_key : (i : ℕ) (d : Marker) → i < length book
-      → get_or keys i (key_of d) ≡ key_of (get_or book i d)
-  at_key i d less = ap (λ (ks : List Key). get_or ks i (key_of d)) (sym are)
-      ∙ get_or-map key_of book i d (key_of d) less
+      → get_or keys i d.key ≡ (get_or book i d).key
+  at_key i d less = ap (λ (ks : List Key). get_or ks i d.key) (sym are)
+      ∙ get_or-map key_of book i d d.key less
 
-  stands_before : (m n : Marker) → Contains book m → Contains book n → Before (key_of m) (key_of n)
+  stands_before : (m n : Marker) → Contains book m → Contains book n → Before m.key n.key
       → StandsBefore m n
   stands_before m n c d (inl less) = inl less
   stands_before m n c d (inr tied) = inr (
     tied.0,
     gap (steps_of s.deck.rules (shown_on (shown s)))
-        (key_of m) (key_of n) (run_of m c) (run_of n d) tied.0 tied.1,
+        m.key n.key (run_of m c) (run_of n d) tied.0 tied.1,
   )
 
   pub is_book : IsBook book
@@ -296,9 +310,9 @@ module _ (s : Snapshot) (keys : List Key) (book : List Marker) (just : IsJust (I
         let long : length keys ≡ length book = ap length (sym are) ∙ length-map book key_of in
         stands_before (get_or book i d) (get_or book j d) (Contains-get_or book i d first)
         (Contains-get_or book j d within)
-        (subst (λ (l : Key). Before (key_of (get_or book i d)) l) (at_key j d within)
-        (subst (λ (k : Key). Before k (get_or keys j (key_of d))) (at_key i d first)
-        (just.ordered i j (key_of d) less (omega (arith, within, long)))));
+        (subst (λ (l : Key). Before (get_or book i d).key l) (at_key j d within)
+        (subst (λ (k : Key). Before k (get_or keys j d.key)) (at_key i d first)
+        (just.ordered i j d.key less (omega (arith, within, long)))));
     ascending = λ k d less. (meets k d less).ascending;
   }
 
@@ -323,7 +337,8 @@ keys_again [] = refl
 keys_again (k ∷ ks) = ap (λ (xs : List Key). k ∷ xs) (keys_again ks)
 
 -- the same of a layout of one submission
-pub layout_markers : Laws → ColumnsMakeTheLayout → (s : Snapshot) (extent : Box2) (vs hs : List Column)
+pub layout_markers : Laws → ColumnsMakeTheLayout
+    → (s : Snapshot) (extent : Box2) (vs hs : List Column)
     (upright across : List (List Key)) (book : List Marker) → shown_extent s ≡ Some extent
     → AreOfFirst (shown s) → AreColumnsOf V extent vs → AreColumnsOf H extent hs
     → AllZip (IsColumnList s) vs upright → AllZip (IsColumnList s) hs across

@@ -125,22 +125,23 @@ ordered (Enclosing l m) a b side x1 x2 j w = w.0
 
 -- the second edge of a run is no further from the first than the greatest distance
 pub record IsNarrow (k : Key) (distance : ℕ) : Type 0 where
-  pub ordered : k.x1 ≤ℤ k.x2
-  pub near : (k.x2 -ℤ k.x1) <ℤ pos distance
+  pub ordered : k.piece.x1 ≤ℤ k.piece.x2
+  pub near : (k.piece.x2 -ℤ k.piece.x1) <ℤ pos distance
 
 narrow : TestDecidesPairSteps → (s : Snapshot) (layers : List Layer) (distance : ℕ) (k : Key)
     → IsLook s.deck.rules layers distance → IsRunOf s k → IsNarrow k distance
 narrow law s layers distance k look m =
     let on = shown_on (shown s) in
-    let r = rule_of s.deck.rules on (line_of_key k) k.y0
-    (m.rows k.y0 (omega (arith, ints)) m.filled) in
-    let step = (step_on_seen law r.rule on k.axis k.side k.x1 k.x2 k.y0).0 r.step in
+    let r = rule_of s.deck.rules on (line_of_key k) k.piece.y0
+    (m.rows k.piece.y0 (omega (arith, ints)) m.filled) in
+    let step = (step_on_seen law r.rule on k.piece.axis k.piece.side k.piece.x1 k.piece.x2
+    k.piece.y0).0 r.step in
     let short : r.rule.distance ≤ distance =
     All-contains (λ (rule : Rule). rule.distance ≤ distance) s.deck.rules r.rule look.near
     (get_contains s.deck.rules k.rule r.rule r.at) in
     let less = step.1 in
     record {
-      ordered = ordered r.rule.check _ _ k.side k.x1 k.x2 k.y0 step.0;
+      ordered = ordered r.rule.check _ _ k.piece.side k.piece.x1 k.piece.x2 k.piece.y0 step.0;
       near = omega (arith, ints, less, short);
     }
 

@@ -140,12 +140,13 @@ row_on rule by on core k j =
     let a = first_squares rule.check on in
     let b = second_squares rule.check on in
     let Is : Squares → Squares → Type 0 =
-    λ p q. HasVerticalStep rule p q core k.side k.x1 k.x2 j
-    ↔ HasVerticalStep rule a b (displaced by core) k.side (k.x1 +ℤ by) (k.x2 +ℤ by) j in
+    λ p q. HasVerticalStep rule p q core k.piece.side k.piece.x1 k.piece.x2 j
+    ↔ HasVerticalStep rule a b (displaced by core) k.piece.side (k.piece.x1 +ℤ by)
+    (k.piece.x2 +ℤ by) j in
     subst (λ (p : Squares). Is p (second_squares rule.check (shifted_on by on)))
     (sym (first_shifted rule.check by on))
     (subst (λ (q : Squares). Is (shifted by a) q) (sym (second_shifted rule.check by on))
-    (step_on rule by a b core k.side k.x1 k.x2 j))
+    (step_on rule by a b core k.piece.side k.piece.x1 k.piece.x2 j))
 
 -- ---- runs
 
@@ -158,7 +159,7 @@ found_on rules axis by on core k = (
     at = f.at;
     on_axis = f.on_axis;
     run = run_same (HasStepAt f.rule (shifted_on by on) core k)
-        (HasStepAt f.rule on (displaced by core) (displaced_key by k)) k.y0 k.y1
+        (HasStepAt f.rule on (displaced by core) (displaced_key by k)) k.piece.y0 k.piece.y1
         (λ j. (row_on f.rule by on core k j).0) (λ j. (row_on f.rule by on core k j).1) f.run;
   },
   λ f. record {
@@ -166,7 +167,7 @@ found_on rules axis by on core k = (
     at = f.at;
     on_axis = f.on_axis;
     run = run_same (HasStepAt f.rule on (displaced by core) (displaced_key by k))
-        (HasStepAt f.rule (shifted_on by on) core k) k.y0 k.y1
+        (HasStepAt f.rule (shifted_on by on) core k) k.piece.y0 k.piece.y1
         (λ j. (row_on f.rule by on core k j).1) (λ j. (row_on f.rule by on core k j).0) f.run;
   },
 )

@@ -17,21 +17,24 @@ use Rattle.mpw_columns.proofs.Agreeing.{run_same, found_agree, agree_back}
 pub found_in_half : (rules : List Rule) (axis : Axis) (on : Coverage) (core : Box2) (at : ℤ)
     (k : Key) → core.x0 ≤ℤ at → at ≤ℤ core.x1 → IsFound rules axis on core k
     → IsFound rules axis on (left_of core at) k ⊎ IsFound rules axis on (right_of core at) k
-found_in_half rules axis on core at k low high f = by_lt_z k.x1 at
+found_in_half rules axis on core at k low high f = by_lt_z k.piece.x1 at
     (λ less. inl (record {
       rule = f.rule;
       at = f.at;
       on_axis = f.on_axis;
-      run = run_same (HasStepAt f.rule on core k) (HasStepAt f.rule on (left_of core at) k) k.y0
-          k.y1 (λ j s. (s.0, (s.1.0, less, s.1.2, s.1.3)))
+      run =
+          run_same (HasStepAt f.rule on core k) (HasStepAt f.rule on (left_of core at) k) k.piece.y0
+          k.piece.y1 (λ j s. (s.0, (s.1.0, less, s.1.2, s.1.3)))
           (λ j s. (s.0, (s.1.0, omega (arith, ints, less, high), s.1.2, s.1.3))) f.run;
     }))
     (λ more. inr (record {
       rule = f.rule;
       at = f.at;
       on_axis = f.on_axis;
-      run = run_same (HasStepAt f.rule on core k) (HasStepAt f.rule on (right_of core at) k) k.y0
-          k.y1 (λ j s. (s.0, (more, s.1.1, s.1.2, s.1.3)))
+      run =
+          run_same (HasStepAt f.rule on core k) (HasStepAt f.rule on (right_of core at) k)
+          k.piece.y0
+          k.piece.y1 (λ j s. (s.0, (more, s.1.1, s.1.2, s.1.3)))
           (λ j s. (s.0, (omega (arith, ints, more, low), s.1.1, s.1.2, s.1.3))) f.run;
     }))
 
@@ -39,13 +42,14 @@ pub found_of_left : (rules : List Rule) (axis : Axis) (on : Coverage) (core : Bo
     (k : Key) → at ≤ℤ core.x1 → IsFound rules axis on (left_of core at) k
     → IsFound rules axis on core k
 found_of_left rules axis on core at k high f =
-    let first = f.run.rows k.y0 (omega (arith, ints)) f.run.filled in
+    let first = f.run.rows k.piece.y0 (omega (arith, ints)) f.run.filled in
     let less = first.1.1 in record {
       rule = f.rule;
       at = f.at;
       on_axis = f.on_axis;
-      run = run_same (HasStepAt f.rule on (left_of core at) k) (HasStepAt f.rule on core k) k.y0
-          k.y1 (λ j s. (s.0, (s.1.0, omega (arith, ints, less, high), s.1.2, s.1.3)))
+      run =
+          run_same (HasStepAt f.rule on (left_of core at) k) (HasStepAt f.rule on core k) k.piece.y0
+          k.piece.y1 (λ j s. (s.0, (s.1.0, omega (arith, ints, less, high), s.1.2, s.1.3)))
           (λ j s. (s.0, (s.1.0, less, s.1.2, s.1.3))) f.run;
     }
 
@@ -53,13 +57,15 @@ pub found_of_right : (rules : List Rule) (axis : Axis) (on : Coverage) (core : B
     (k : Key) → core.x0 ≤ℤ at → IsFound rules axis on (right_of core at) k
     → IsFound rules axis on core k
 found_of_right rules axis on core at k low f =
-    let first = f.run.rows k.y0 (omega (arith, ints)) f.run.filled in
+    let first = f.run.rows k.piece.y0 (omega (arith, ints)) f.run.filled in
     let more = first.1.0 in record {
       rule = f.rule;
       at = f.at;
       on_axis = f.on_axis;
-      run = run_same (HasStepAt f.rule on (right_of core at) k) (HasStepAt f.rule on core k) k.y0
-          k.y1 (λ j s. (s.0, (omega (arith, ints, more, low), s.1.1, s.1.2, s.1.3)))
+      run =
+          run_same (HasStepAt f.rule on (right_of core at) k) (HasStepAt f.rule on core k)
+          k.piece.y0
+          k.piece.y1 (λ j s. (s.0, (omega (arith, ints, more, low), s.1.1, s.1.2, s.1.3)))
           (λ j s. (s.0, (more, s.1.1, s.1.2, s.1.3))) f.run;
     }
 
@@ -78,11 +84,13 @@ halves_added rules layers distance axis on on_low on_high core at old mid new lo
           | inl o ↦ inl o
           | inr s ↦ inr (found_of_left rules axis on core at k high
               (found_agree rules layers distance axis on_low on (left_of core at) k look
-              (agree_back layers (across (left_of core at) (distance + 1)) on on_low (λ l h. agree l)) s))
+              (agree_back layers (across (left_of core at) (distance + 1)) on on_low
+              (λ l h. agree l)) s))
         ]
         | inr s ↦ inr (found_of_right rules axis on core at k low
             (found_agree rules layers distance axis on_high on (right_of core at) k look
-            (agree_back layers (across (right_of core at) (distance + 1)) on on_high (λ l h. agree' l)) s))
+            (agree_back layers (across (right_of core at) (distance + 1)) on on_high
+            (λ l h. agree' l)) s))
       ],
       λ c. elim c [
         | inl o ↦ (g k).1 (inl ((f k).1 (inl o)))

@@ -16,7 +16,8 @@ use Rattle.mpw_columns.specs.Runs.{IsRunWithin}
 use Rattle.mpw_columns.specs.FollowingOn.{ComesFirst, IsListFor, ColumnsFollowOn}
 use Rattle.mpw_columns.proofs.Covering.{forwards}
 
-pub pairs_append : {X : Type 0} (R : X → X → Type 0) (xs ys : List X) → AllPairs R xs → AllPairs R ys
+pub pairs_append : {X : Type 0} (R : X → X → Type 0) (xs ys : List X) → AllPairs R xs
+    → AllPairs R ys
     → ((x y : X) → Contains xs x → Contains ys y → R x y) → AllPairs R (xs ++ ys)
 pairs_append R [] ys a b cross = b
 pairs_append R (x ∷ xs) ys a b cross =
@@ -29,9 +30,10 @@ pairs_append R (x ∷ xs) ys a b cross =
 less_from : (x y : ℤ) → x <ℤ y → int_cmp x y ≡ Less
 less_from x y h = grind (arith, ints)
 
-first_by : (k l : Key) → k.x1 <ℤ l.x1 → ComesFirst k l
+first_by : (k l : Key) → k.piece.x1 <ℤ l.piece.x1 → ComesFirst k l
 first_by k l h = ap (λ (o : Ordering). ordering_then o
-    (ordering_then (int_cmp k.x2 l.x2) (int_cmp k.y0 l.y0))) (less_from k.x1 l.x1 h)
+    (ordering_then (int_cmp k.piece.x2 l.piece.x2) (int_cmp k.piece.y0 l.piece.y0)))
+    (less_from k.piece.x1 l.piece.x1 h)
 
 abbrev span : Axis → ℤ → ℤ → Column
 span axis low high = record { axis = axis; from = low; to = high }
@@ -41,7 +43,7 @@ split : (s : Snapshot) (axis : Axis) (low mid high : ℤ) (k : Key) → low ≤�
     → IsRunWithin s (span axis low high) k
     ↔ (IsRunWithin s (span axis low mid) k ⊎ IsRunWithin s (span axis mid high) k)
 split s axis low mid high k l h = (
-  λ r. by_lt_z k.x1 mid
+  λ r. by_lt_z k.piece.x1 mid
       (λ less. inl (record {
         run = r.run;
         on_axis = r.on_axis;

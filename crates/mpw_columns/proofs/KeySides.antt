@@ -1,41 +1,16 @@
 -- Keys whose lines are displaced by sums.
-use Rattle.std.proofs.Common.{◌≡◌, ℤ, pos, neg_ℤ, ◌+ℤ◌, ap, ◌∙◌, arith}
+use Rattle.std.proofs.Common.{◌≡◌, ℤ, pos, neg_ℤ, ◌+ℤ◌, arith}
 use Rattle.std.proofs.lemmas.Int.{ints}
 use Rattle.mpw_markers.specs.declared.marker.Key.{Key}
 use Rattle.mpw_keys.specs.Keys.{displaced_key}
 
 abbrev with_lines : (ℤ → ℤ) → Key → Key
-with_lines f k = record {
-  rule = k.rule;
-  axis = k.axis;
-  side = k.side;
-  x1 = f k.x1;
-  x2 = f k.x2;
-  y0 = k.y0;
-  y1 = k.y1;
-}
+with_lines f k = record k { piece = record k.piece { x1 = f k.piece.x1; x2 = f k.piece.x2 } }
 
 -- two sums that are equal
 same_lines : (f g : ℤ → ℤ) (k : Key) → ((x : ℤ) → f x ≡ g x) → with_lines f k ≡ with_lines g k
 same_lines f g k same =
-    ap (λ (x : ℤ). let l : Key = record {
-      rule = k.rule;
-      axis = k.axis;
-      side = k.side;
-      x1 = x;
-      x2 = f k.x2;
-      y0 = k.y0;
-      y1 = k.y1;
-    } in l) (same k.x1)
-    ∙ ap (λ (x : ℤ). let l : Key = record {
-      rule = k.rule;
-      axis = k.axis;
-      side = k.side;
-      x1 = g k.x1;
-      x2 = x;
-      y0 = k.y0;
-      y1 = k.y1;
-    } in l) (same k.x2)
+    λ i. record k { piece = record k.piece { x1 = same k.piece.x1 i; x2 = same k.piece.x2 i } }
 
 -- displaced there and back, twice, and not at all
 pub there_and_back : (by : ℤ) (k : Key) → displaced_key by (displaced_key (neg_ℤ by) k) ≡ k

@@ -12,7 +12,7 @@ use Rattle.mpw_region.proofs.Held.{held_map, map_held}
 use Rattle.mpw_region.proofs.Joins.{no_run}
 use Rattle.mpw_edges.specs.declared.run.Axis.{Axis}
 use Rattle.mpw_edges.specs.Pieces.{HasVerticalStep}
-use Rattle.mpw_edges.proofs.Maximal.{HoldJust, run_is_maximal as run_of_apart, maximal_is_run as apart_has_run}
+use Rattle.mpw_edges.proofs.Maximal.{HoldJust, run_of, run_is_maximal as run_of_apart, maximal_is_run as apart_has_run}
 use Rattle.mpw_markers.specs.declared.marker.Key.{Key}
 use Rattle.mpw_job.specs.Layers.{Coverage, first_squares, second_squares}
 use Rattle.mpw_columns.specs.Found.{IsRun, HasStepAt, IsFound}
@@ -34,15 +34,11 @@ maximal_is_run runs P r h same m =
 
 -- ---- keys
 
-abbrev run_at : Key → Run
-run_at k =
-    record { line = record { side = k.side; first = k.x1; second = k.x2 }; from = k.y0; to = k.y1 }
-
-same_key : (place : ℕ) (axis : Axis) (k : Key) → k.rule ≡ place → k.axis ≡ axis
-    → key_of_run place axis (run_at k) ≡ k
+same_key : (place : ℕ) (axis : Axis) (k : Key) → k.rule ≡ place → k.piece.axis ≡ axis
+    → key_of_run place axis (run_of k.piece) ≡ k
 same_key place axis k e f =
-    ap (λ (n : ℕ). key_of_run n axis (run_at k)) (sym e)
-    ∙ ap (λ (a : Axis). key_of_run k.rule a (run_at k)) (sym f)
+    ap (λ (n : ℕ). key_of_run n axis (run_of k.piece)) (sym e)
+    ∙ ap (λ (a : Axis). key_of_run k.rule a (run_of k.piece)) (sym f)
 
 same_rule : (o : Option Rule) (a b : Rule) → o ≡ Some a → o ≡ Some b → a ≡ b
 same_rule o a b e f = cc
@@ -83,9 +79,11 @@ rule_keys place rules axis on core rule runs old new at apart just is k =
     from (inr f) =
         let same : f.1.rule ≡ rule = same_rule (slice_get rules place) f.1.rule rule
         (ap (slice_get rules) (sym f.0) ∙ f.1.at) at in
-        let run = subst (λ (r : Rule). IsRun (HasStepAt r on core k) k.y0 k.y1) same f.1.run in
-        let there = maximal_is_run runs (RowsOf rule on core) (run_at k) apart just run in
-        let m = map_held (key_of_run place axis) runs (λ q. q ≡ k) (run_at k) there
+        let run =
+        subst (λ (r : Rule). IsRun (HasStepAt r on core k) k.piece.y0 k.piece.y1) same f.1.run
+        in
+        let there = maximal_is_run runs (RowsOf rule on core) (run_of k.piece) apart just run in
+        let m = map_held (key_of_run place axis) runs (λ q. q ≡ k) (run_of k.piece) there
         (same_key place axis k f.0 f.1.on_axis) in
         Contains-append_right old (map (key_of_run place axis) runs) k
         (subst (λ (q : Key). Contains (map (key_of_run place axis) runs) q) m.2 m.1)

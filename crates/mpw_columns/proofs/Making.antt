@@ -85,8 +85,8 @@ whole_runs laws s extent c k found = (to, from)
         let parts : (j : ℤ) → steps_in steps (is_in_column extent c) line j ≡ true
         → (steps line j ≡ true) × (is_in_column extent c line j ≡ true) =
         λ j e. and_parts (steps line j) (is_in_column extent c line j) e in
-        let first = from_column extent c line k.y0
-        (parts k.y0 (m.rows k.y0 (omega (arith, ints)) m.filled)).1 in
+        let first = from_column extent c line k.piece.y0
+        (parts k.piece.y0 (m.rows k.piece.y0 (omega (arith, ints)) m.filled)).1 in
         let there : (j : ℤ) → steps line j ≡ true
         → steps_in steps (is_in_column extent c) line j ≡ true =
         λ j e. and_from _ _ e (in_column extent c line j first.on_axis
@@ -95,8 +95,8 @@ whole_runs laws s extent c k found = (to, from)
           run = record {
             filled = m.filled;
             rows = λ j l u. (parts j (m.rows j l u)).0;
-            below = is_false _ (λ e. false≢true (sym m.below ∙ there (k.y0 -ℤ pos 1) e));
-            above = is_false _ (λ e. false≢true (sym m.above ∙ there k.y1 e));
+            below = is_false _ (λ e. false≢true (sym m.below ∙ there (k.piece.y0 -ℤ pos 1) e));
+            above = is_false _ (λ e. false≢true (sym m.above ∙ there k.piece.y1 e));
           };
           on_axis = first.on_axis;
           left = first.left;
@@ -120,6 +120,6 @@ whole_runs laws s extent c k found = (to, from)
         record {
           filled = m.filled;
           rows = λ j l u. there j (m.rows j l u);
-          below = is_false _ (λ e. false≢true (sym m.below ∙ (parts (k.y0 -ℤ pos 1) e).0));
-          above = is_false _ (λ e. false≢true (sym m.above ∙ (parts k.y1 e).0));
+          below = is_false _ (λ e. false≢true (sym m.below ∙ (parts (k.piece.y0 -ℤ pos 1) e).0));
+          above = is_false _ (λ e. false≢true (sym m.above ∙ (parts k.piece.y1 e).0));
         }

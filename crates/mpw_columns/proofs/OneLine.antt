@@ -42,22 +42,22 @@ module _ (steps : Line → ℤ → Bool) (k l : Key) (m : IsMaximal steps k) (n 
   on_first j h = subst (λ (line : Line). steps line j ≡ true) (sym e) h
 
   -- the one that begins later begins after the other's end, with a gap
-  pub gap : k.y0 <ℤ l.y0 → k.y1 <ℤ l.y0
-  gap h = by_lt_z k.y1 l.y0 (λ less. less)
-      (λ more. absurd (false≢true (sym n.below ∙ on_other (l.y0 -ℤ pos 1)
-      (m.rows (l.y0 -ℤ pos 1) (omega (arith, ints, h)) (omega (arith, ints, more))))))
+  pub gap : k.piece.y0 <ℤ l.piece.y0 → k.piece.y1 <ℤ l.piece.y0
+  gap h = by_lt_z k.piece.y1 l.piece.y0 (λ less. less)
+      (λ more. absurd (false≢true (sym n.below ∙ on_other (l.piece.y0 -ℤ pos 1)
+      (m.rows (l.piece.y0 -ℤ pos 1) (omega (arith, ints, h)) (omega (arith, ints, more))))))
 
   -- those that begin at the same row end at the same row
-  pub same_end : k.y0 ≡ l.y0 → k.y1 ≡ l.y1
+  pub same_end : k.piece.y0 ≡ l.piece.y0 → k.piece.y1 ≡ l.piece.y1
   same_end h =
       let first = m.filled in
       let second = n.filled in
-      by_lt_z k.y1 l.y1
-      (λ less. absurd (false≢true (sym m.above ∙ on_first k.y1
-      (n.rows k.y1 (omega (arith, ints, h, first)) less))))
-      (λ more. by_lt_z l.y1 k.y1
-      (λ less. absurd (false≢true (sym n.above ∙ on_other l.y1
-      (m.rows l.y1 (omega (arith, ints, h, second)) less))))
+      by_lt_z k.piece.y1 l.piece.y1
+      (λ less. absurd (false≢true (sym m.above ∙ on_first k.piece.y1
+      (n.rows k.piece.y1 (omega (arith, ints, h, first)) less))))
+      (λ more. by_lt_z l.piece.y1 k.piece.y1
+      (λ less. absurd (false≢true (sym n.above ∙ on_other l.piece.y1
+      (m.rows l.piece.y1 (omega (arith, ints, h, second)) less))))
       (λ no_more. omega (arith, ints, more, no_more)))
 
 -- ---- rule and side of a run
@@ -80,16 +80,18 @@ within rules i rule e = elim (slice_get_cases rules i).1 [
 
 pub record IsRuled (s : Snapshot) (k : Key) : Type 0 where
   pub rule : k.rule < length s.deck.rules
-  pub side : k.side < 2
+  pub side : k.piece.side < 2
 
 pub ruled : TestDecidesPairSteps → (s : Snapshot) (k : Key) → IsRunOf s k → IsRuled s k
 ruled law s k m =
     let on = shown_on (shown s) in
-    let r = rule_of s.deck.rules on (line_of_key k) k.y0
-    (m.rows k.y0 (omega (arith, ints)) m.filled) in record {
+    let r = rule_of s.deck.rules on (line_of_key k) k.piece.y0
+    (m.rows k.piece.y0 (omega (arith, ints)) m.filled) in record {
       rule = within s.deck.rules k.rule r.rule r.at;
-      side = small_side r.rule.check r.rule.distance _ _ k.side k.x1 k.x2 k.y0
-          ((step_on_seen law r.rule on k.axis k.side k.x1 k.x2 k.y0).0 r.step);
+      side =
+          small_side r.rule.check r.rule.distance _ _ k.piece.side k.piece.x1 k.piece.x2 k.piece.y0
+          ((step_on_seen law r.rule on k.piece.axis k.piece.side k.piece.x1 k.piece.x2 k.piece.y0).0
+          r.step);
     }
 
 -- ---- the order of lines
@@ -97,7 +99,7 @@ ruled law s k m =
 -- the first key's line comes first, or on one line it begins first
 abbrev pub Before : Key → Key → Type 0
 Before k l = (line_cmp (line_of_key k) (line_of_key l) ≡ Less)
-    ⊎ ((line_of_key k ≡ line_of_key l) × (k.y0 <ℤ l.y0))
+    ⊎ ((line_of_key k ≡ line_of_key l) × (k.piece.y0 <ℤ l.piece.y0))
 
 pub then_equal : (o p : Ordering) → o ≡ Equal → ordering_then o p ≡ p
 then_equal Less p e = cc
@@ -135,56 +137,65 @@ first_or_last Greater p q e = cc
 -- the keys of one list
 pub record IsOneList (k l : Key) : Type 0 where
   pub rule : k.rule ≡ l.rule
-  pub axis : k.axis ≡ l.axis
-  pub side : k.side ≡ l.side
+  pub axis : k.piece.axis ≡ l.piece.axis
+  pub side : k.piece.side ≡ l.piece.side
 
 pub before_in_list : (k l : Key) → IsOneList k l → ComesFirst k l → Before k l
 before_in_list k l one e =
-    let edges = ordering_then (int_cmp k.x1 l.x1) (int_cmp k.x2 l.x2) in
-    let sides = ordering_then (nat_cmp k.side l.side) edges in
-    elim (first_or_last (int_cmp k.x1 l.x1) (int_cmp k.x2 l.x2) (int_cmp k.y0 l.y0) e) [
+    let edges = ordering_then (int_cmp k.piece.x1 l.piece.x1) (int_cmp k.piece.x2 l.piece.x2) in
+    let sides = ordering_then (nat_cmp k.piece.side l.piece.side) edges in
+    elim (first_or_last (int_cmp k.piece.x1 l.piece.x1) (int_cmp k.piece.x2 l.piece.x2)
+    (int_cmp k.piece.y0 l.piece.y0) e) [
       | inl less ↦ inl (then_equal (nat_cmp k.rule l.rule)
-          (ordering_then (axis_cmp k.axis l.axis) sides) (nat_alike k.rule l.rule one.rule)
-          ∙ then_equal (axis_cmp k.axis l.axis) sides (axis_alike k.axis l.axis one.axis)
-          ∙ then_equal (nat_cmp k.side l.side) edges (nat_alike k.side l.side one.side) ∙ less)
+          (ordering_then (axis_cmp k.piece.axis l.piece.axis) sides)
+          (nat_alike k.rule l.rule one.rule)
+          ∙ then_equal (axis_cmp k.piece.axis l.piece.axis) sides
+          (axis_alike k.piece.axis l.piece.axis one.axis)
+          ∙ then_equal (nat_cmp k.piece.side l.piece.side) edges
+          (nat_alike k.piece.side l.piece.side one.side) ∙ less)
       | inr tied ↦ inr (
         same_line (line_of_key k) (line_of_key l) one.rule one.axis one.side
             (exact_signed _ _ tied.0) (exact_signed _ _ tied.1),
-        int_less k.y0 l.y0 tied.2,
+        int_less k.piece.y0 l.piece.y0 tied.2,
       )
     ]
 
-pub before_by_side : (k l : Key) → k.rule ≡ l.rule → k.axis ≡ l.axis → k.side < l.side → Before k l
+pub before_by_side : (k l : Key) → k.rule ≡ l.rule → k.piece.axis ≡ l.piece.axis
+    → k.piece.side < l.piece.side → Before k l
 before_by_side k l e f h =
-    let edges = ordering_then (int_cmp k.x1 l.x1) (int_cmp k.x2 l.x2) in
-    let sides = ordering_then (nat_cmp k.side l.side) edges in
-    inl (then_equal (nat_cmp k.rule l.rule) (ordering_then (axis_cmp k.axis l.axis) sides)
+    let edges = ordering_then (int_cmp k.piece.x1 l.piece.x1) (int_cmp k.piece.x2 l.piece.x2) in
+    let sides = ordering_then (nat_cmp k.piece.side l.piece.side) edges in
+    inl (then_equal (nat_cmp k.rule l.rule)
+    (ordering_then (axis_cmp k.piece.axis l.piece.axis) sides)
     (nat_alike k.rule l.rule e)
-    ∙ then_equal (axis_cmp k.axis l.axis) sides (axis_alike k.axis l.axis f)
-    ∙ then_less (nat_cmp k.side l.side) edges (nat_less k.side l.side h))
+    ∙ then_equal (axis_cmp k.piece.axis l.piece.axis) sides (axis_alike k.piece.axis l.piece.axis f)
+    ∙ then_less (nat_cmp k.piece.side l.piece.side) edges (nat_less k.piece.side l.piece.side h))
 
-pub before_by_axis : (k l : Key) → k.rule ≡ l.rule → k.axis ≡ V → l.axis ≡ H → Before k l
+pub before_by_axis : (k l : Key) → k.rule ≡ l.rule → k.piece.axis ≡ V → l.piece.axis ≡ H
+    → Before k l
 before_by_axis k l e f g =
-    let edges = ordering_then (int_cmp k.x1 l.x1) (int_cmp k.x2 l.x2) in
-    let sides = ordering_then (nat_cmp k.side l.side) edges in
-    let apart : axis_cmp k.axis l.axis ≡ Less =
-    ap (λ (a : Axis). axis_cmp a l.axis) f ∙ ap (axis_cmp V) g in
-    inl (then_equal (nat_cmp k.rule l.rule) (ordering_then (axis_cmp k.axis l.axis) sides)
-    (nat_alike k.rule l.rule e) ∙ then_less (axis_cmp k.axis l.axis) sides apart)
+    let edges = ordering_then (int_cmp k.piece.x1 l.piece.x1) (int_cmp k.piece.x2 l.piece.x2) in
+    let sides = ordering_then (nat_cmp k.piece.side l.piece.side) edges in
+    let apart : axis_cmp k.piece.axis l.piece.axis ≡ Less =
+    ap (λ (a : Axis). axis_cmp a l.piece.axis) f ∙ ap (axis_cmp V) g in
+    inl (then_equal (nat_cmp k.rule l.rule)
+    (ordering_then (axis_cmp k.piece.axis l.piece.axis) sides)
+    (nat_alike k.rule l.rule e) ∙ then_less (axis_cmp k.piece.axis l.piece.axis) sides apart)
 
 pub before_by_rule : (k l : Key) → k.rule < l.rule → Before k l
 before_by_rule k l h =
-    let edges = ordering_then (int_cmp k.x1 l.x1) (int_cmp k.x2 l.x2) in
-    let sides = ordering_then (nat_cmp k.side l.side) edges in
-    inl (then_less (nat_cmp k.rule l.rule) (ordering_then (axis_cmp k.axis l.axis) sides)
+    let edges = ordering_then (int_cmp k.piece.x1 l.piece.x1) (int_cmp k.piece.x2 l.piece.x2) in
+    let sides = ordering_then (nat_cmp k.piece.side l.piece.side) edges in
+    inl (then_less (nat_cmp k.rule l.rule)
+    (ordering_then (axis_cmp k.piece.axis l.piece.axis) sides)
     (nat_less k.rule l.rule h))
 
 -- what follows if neither key comes first
 pub record IsTied (k l : Key) : Type 0 where
   pub list : list_number k ≡ list_number l
-  pub x1 : k.x1 ≡ l.x1
-  pub x2 : k.x2 ≡ l.x2
-  pub y0 : k.y0 ≡ l.y0
+  pub x1 : k.piece.x1 ≡ l.piece.x1
+  pub x2 : k.piece.x2 ≡ l.piece.x2
+  pub y0 : k.piece.y0 ≡ l.piece.y0
 
 equal_from : (o : Ordering) → is_eq o ≡ true → o ≡ Equal
 equal_from Less e = absurd (false≢true e)
@@ -195,9 +206,9 @@ pub is_tied : (k l : Key) → eq_by_cmp key_cmp k l ≡ true → IsTied k l
 is_tied k l e =
     let whole = equal_from (key_cmp k l) e in
     let rest = then_second (nat_cmp (list_number k) (list_number l)) _ whole in
-    let last = then_second (int_cmp k.x1 l.x1) _ rest in record {
+    let last = then_second (int_cmp k.piece.x1 l.piece.x1) _ rest in record {
       list = exact_unsigned _ _ (then_first (nat_cmp (list_number k) (list_number l)) _ whole);
-      x1 = exact_signed _ _ (then_first (int_cmp k.x1 l.x1) _ rest);
-      x2 = exact_signed _ _ (then_first (int_cmp k.x2 l.x2) _ last);
-      y0 = exact_signed _ _ (then_second (int_cmp k.x2 l.x2) _ last);
+      x1 = exact_signed _ _ (then_first (int_cmp k.piece.x1 l.piece.x1) _ rest);
+      x2 = exact_signed _ _ (then_first (int_cmp k.piece.x2 l.piece.x2) _ last);
+      y0 = exact_signed _ _ (then_second (int_cmp k.piece.x2 l.piece.x2) _ last);
     }

@@ -25,14 +25,15 @@ use Rattle.mpw_columns.specs.Internal.Found.{IsLook, AgreeIn, left_of, right_of}
 use Rattle.mpw_columns.specs.Internal.Pieces.{IsStepIn, ArePieces, AddsPieces, below_of, above_of}
 use Rattle.mpw_columns.proofs.Agreeing.{vertical_same, first_agree, second_agree}
 use Rattle.mpw_columns.proofs.OneLine.{small_side}
+use Rattle.mpw_markers.proofs.Marked.{key_on}
 use Rattle.mpw_markers.proofs.RunThrough.{IsRunAt, run_at}
 
 -- ---- rows of lists
 
 pub row_left : (a b : List Key) (line : Line) (j : ℤ) → IsRowOf a line j → IsRowOf (a ++ b) line j
 row_left a b line j r = record {
-  piece = r.piece;
-  there = Contains-append_left a b r.piece r.there;
+  key = r.key;
+  there = Contains-append_left a b r.key r.there;
   on_line = r.on_line;
   from = r.from;
   to = r.to;
@@ -40,8 +41,8 @@ row_left a b line j r = record {
 
 pub row_right : (a b : List Key) (line : Line) (j : ℤ) → IsRowOf b line j → IsRowOf (a ++ b) line j
 row_right a b line j r = record {
-  piece = r.piece;
-  there = Contains-append_right a b r.piece r.there;
+  key = r.key;
+  there = Contains-append_right a b r.key r.there;
   on_line = r.on_line;
   from = r.from;
   to = r.to;
@@ -49,23 +50,24 @@ row_right a b line j r = record {
 
 pub row_cases : (a b : List Key) (line : Line) (j : ℤ) → IsRowOf (a ++ b) line j
     → IsRowOf a line j ⊎ IsRowOf b line j
-row_cases a b line j r = elim (Contains-append_cases a b r.piece r.there) [
-  | inl h ↦ inl (record { piece = r.piece; there = h; on_line = r.on_line; from = r.from; to = r.to })
-  | inr h ↦ inr (record { piece = r.piece; there = h; on_line = r.on_line; from = r.from; to = r.to })
+row_cases a b line j r = elim (Contains-append_cases a b r.key r.there) [
+  | inl h ↦ inl (record { key = r.key; there = h; on_line = r.on_line; from = r.from; to = r.to })
+  | inr h ↦ inr (record { key = r.key; there = h; on_line = r.on_line; from = r.from; to = r.to })
 ]
 
 -- ---- a core that is cut in two
 
 -- each step of the core lies in one of its parts, and their steps are its own
 abbrev pub ArePartsOf : List Rule → Axis → Coverage → (core first second : Box2) → Type 0
-ArePartsOf rules axis on core first second = (line : Line) (j : ℤ) → IsStepIn rules axis on core line j
+ArePartsOf rules axis on core first second =
+    (line : Line) (j : ℤ) → IsStepIn rules axis on core line j
     ↔ (IsStepIn rules axis on first line j ⊎ IsStepIn rules axis on second line j)
 
 pub pieces_join : (rules : List Rule) (axis : Axis) (on : Coverage) (core first second : Box2)
     (a b : List Key) → ArePartsOf rules axis on core first second → ArePieces rules axis on first a
     → ArePieces rules axis on second b → ArePieces rules axis on core (a ++ b)
 pieces_join rules axis on core first second a b parts p q = record {
-  filled = All-append (λ (k : Key). k.y0 <ℤ k.y1) a b p.filled q.filled;
+  filled = All-append (λ (k : Key). k.piece.y0 <ℤ k.piece.y1) a b p.filled q.filled;
   exact = λ line j. (
     λ r. elim (row_cases a b line j r) [
       | inl h ↦ (parts line j).1 (inl ((p.exact line j).0 h))
@@ -89,7 +91,8 @@ adds_join rules axis on core first second old mid new parts p q = record {
 }
 
 -- the step is in another core too
-step_in : (rules : List Rule) (axis : Axis) (on : Coverage) (core other : Box2) (line : Line) (j : ℤ)
+step_in : (rules : List Rule) (axis : Axis) (on : Coverage) (core other : Box2) (line : Line)
+    (j : ℤ)
     → (s : IsStepIn rules axis on core line j)
     → (other.x0 ≤ℤ line.x1) × (line.x1 <ℤ other.x1) × (other.y0 ≤ℤ j) × (j <ℤ other.y1)
     → IsStepIn rules axis on other line j
@@ -104,9 +107,11 @@ parts_across rules axis on core at low high line j = (
       (λ less. inl (step_in rules axis on core (left_of core at) line j s (c.0, less, c.2, c.3)))
       (λ more. inr (step_in rules axis on core (right_of core at) line j s (more, c.1, c.2, c.3))),
   λ h. elim h [
-    | inl s ↦ let c = s.step.1 in let l = c.1 in step_in rules axis on (left_of core at) core line j s
+    | inl s ↦ let c = s.step.1 in let l = c.1 in step_in rules axis on (left_of core at) core line j
+        s
         (c.0, omega (arith, ints, l, high), c.2, c.3)
-    | inr s ↦ let c = s.step.1 in let l = c.0 in step_in rules axis on (right_of core at) core line j s
+    | inr s ↦ let c = s.step.1 in let l = c.0 in step_in rules axis on (right_of core at) core line
+        j s
         (omega (arith, ints, l, low), c.1, c.2, c.3)
   ],
 )
@@ -119,9 +124,11 @@ parts_along rules axis on core at low high line j = (
       (λ less. inl (step_in rules axis on core (below_of core at) line j s (c.0, c.1, c.2, less)))
       (λ more. inr (step_in rules axis on core (above_of core at) line j s (c.0, c.1, more, c.3))),
   λ h. elim h [
-    | inl s ↦ let c = s.step.1 in let l = c.3 in step_in rules axis on (below_of core at) core line j s
+    | inl s ↦ let c = s.step.1 in let l = c.3 in step_in rules axis on (below_of core at) core line
+        j s
         (c.0, c.1, c.2, omega (arith, ints, l, high))
-    | inr s ↦ let c = s.step.1 in let l = c.2 in step_in rules axis on (above_of core at) core line j s
+    | inr s ↦ let c = s.step.1 in let l = c.2 in step_in rules axis on (above_of core at) core line
+        j s
         (c.0, c.1, omega (arith, ints, l, low), c.3)
   ],
 )
@@ -150,7 +157,8 @@ step_agree rules layers distance axis on other core line j look agree s =
           s.step;
     }
 
-back_in : (layers : List Layer) (window : Box2) (on other : Coverage) → AgreeIn layers window on other
+back_in : (layers : List Layer) (window : Box2) (on other : Coverage)
+    → AgreeIn layers window on other
     → AgreeIn layers window other on
 back_in layers window on other h layer c i j l r low high = sym (h layer c i j l r low high)
 
@@ -161,7 +169,8 @@ pub pieces_agree : (rules : List Rule) (layers : List Layer) (distance : ℕ) (a
 pieces_agree rules layers distance axis on other core keys look agree p = record {
   filled = p.filled;
   exact = λ line j. (
-    λ r. step_agree rules layers distance axis on other core line j look agree ((p.exact line j).0 r),
+    λ r. step_agree rules layers distance axis on other core line j look agree
+        ((p.exact line j).0 r),
     λ s. (p.exact line j).1 (step_agree rules layers distance axis other on core line j look
         (back_in layers (across core (distance + 1)) on other agree) s),
   );
@@ -171,7 +180,8 @@ pieces_agree rules layers distance axis on other core keys look agree p = record
 
 -- the row is a step of the rule in the core
 step_test : Rule → Squares → Squares → Box2 → Line → ℤ → Bool
-step_test rule a b core line j = has_pair_step rule.check rule.distance a b line.side line.x1 line.x2 j
+step_test rule a b core line j =
+    has_pair_step rule.check rule.distance a b line.side line.x1 line.x2 j
     && has_square core (record { column = line.x1; row = j })
 
 test_of : TestDecidesPairSteps → (rule : Rule) (a b : Squares) (core : Box2) (line : Line) (j : ℤ)
@@ -195,21 +205,10 @@ of_test law rule a b core line j e =
       (i.left, i.right, i.bottom, i.top),
     )
 
-abbrev key_with : Line → (y0 y1 : ℤ) → Key
-key_with line y0 y1 = record {
-  rule = line.rule;
-  axis = line.axis;
-  side = line.side;
-  x1 = line.x1;
-  x2 = line.x2;
-  y0 = y0;
-  y1 = y1;
-}
-
 -- a maximal run through a step
 run_through : TestDecidesPairSteps → (rules : List Rule) (axis : Axis) (on : Coverage) (core : Box2)
     (line : Line) (j : ℤ) → IsStepIn rules axis on core line j
-    → (y0 : ℤ) × (y1 : ℤ) × (y0 ≤ℤ j) × (j <ℤ y1) × IsFound rules axis on core (key_with line y0 y1)
+    → (y0 : ℤ) × (y1 : ℤ) × (y0 ≤ℤ j) × (j <ℤ y1) × IsFound rules axis on core (key_on line y0 y1)
 run_through law rules axis on core line j s =
     let a = first_squares s.rule.check on in
     let b = second_squares s.rule.check on in
@@ -246,7 +245,7 @@ pub found_pieces : TestDecidesPairSteps → (rules : List Rule) (axis : Axis) (o
 found_pieces law rules axis on core keys found = record {
   filled = λ k d lt. ((found (get_or keys k d)).0 (Contains-get_or keys k d lt)).run.filled;
   exact = λ line j. (
-    λ r. let f = (found r.piece).0 r.there in
+    λ r. let f = (found r.key).0 r.there in
         subst (λ (l : Line). IsStepIn rules axis on core l j) r.on_line (record {
           rule = f.rule;
           at = f.at;
@@ -254,8 +253,8 @@ found_pieces law rules axis on core keys found = record {
           step = f.run.rows j r.from r.to;
         }),
     λ s. let r = run_through law rules axis on core line j s in record {
-      piece = key_with line r.0 r.1;
-      there = (found (key_with line r.0 r.1)).1 r.4;
+      key = key_on line r.0 r.1;
+      there = (found (key_on line r.0 r.1)).1 r.4;
       on_line = refl;
       from = r.2;
       to = r.3;
@@ -271,7 +270,8 @@ step_of : (rules : List Rule) (axis : Axis) (on : Coverage) (core : Box2) (k : K
     (rule : Rule) → slice_get rules k.rule ≡ Some rule
     → IsStepIn rules axis on core (line_of_key k) j → HasStepAt rule on core k j
 step_of rules axis on core k j rule at s =
-    subst (λ (r : Rule). HasStepAt r on core k j) (same_rule (slice_get rules k.rule) s.rule rule s.at at)
+    subst (λ (r : Rule). HasStepAt r on core k j)
+    (same_rule (slice_get rules k.rule) s.rule rule s.at at)
     s.step
 
 pub pieces_found : (rules : List Rule) (axis : Axis) (on : Coverage) (core : Box2)
@@ -279,8 +279,8 @@ pub pieces_found : (rules : List Rule) (axis : Axis) (on : Coverage) (core : Box
     → ((k : Key) → Contains keys k ↔ IsRunOfPieces pieces k) → AreFound rules axis on core keys
 pieces_found rules axis on core pieces keys p runs k = (
   λ c. let run = (runs k).0 c in
-      let first = (p.exact (line_of_key k) k.y0).0
-      (run.rows k.y0 (omega (arith, ints)) run.filled) in record {
+      let first = (p.exact (line_of_key k) k.piece.y0).0
+      (run.rows k.piece.y0 (omega (arith, ints)) run.filled) in record {
         rule = first.rule;
         at = first.at;
         on_axis = first.on_axis;
@@ -288,9 +288,9 @@ pieces_found rules axis on core pieces keys p runs k = (
           filled = run.filled;
           rows = λ j l u. step_of rules axis on core k j first.rule first.at
               ((p.exact (line_of_key k) j).0 (run.rows j l u));
-          below = λ s. run.below ((p.exact (line_of_key k) (k.y0 -ℤ pos 1)).1
+          below = λ s. run.below ((p.exact (line_of_key k) (k.piece.y0 -ℤ pos 1)).1
               (record { rule = first.rule; at = first.at; on_axis = first.on_axis; step = s }));
-          above = λ s. run.above ((p.exact (line_of_key k) k.y1).1
+          above = λ s. run.above ((p.exact (line_of_key k) k.piece.y1).1
               (record { rule = first.rule; at = first.at; on_axis = first.on_axis; step = s }));
         };
       },
@@ -298,10 +298,10 @@ pieces_found rules axis on core pieces keys p runs k = (
     filled = f.run.filled;
     rows = λ j l u. (p.exact (line_of_key k) j).1
         (record { rule = f.rule; at = f.at; on_axis = f.on_axis; step = f.run.rows j l u });
-    below = λ r. f.run.below (step_of rules axis on core k (k.y0 -ℤ pos 1) f.rule f.at
-        ((p.exact (line_of_key k) (k.y0 -ℤ pos 1)).0 r));
-    above = λ r. f.run.above (step_of rules axis on core k k.y1 f.rule f.at
-        ((p.exact (line_of_key k) k.y1).0 r));
+    below = λ r. f.run.below (step_of rules axis on core k (k.piece.y0 -ℤ pos 1) f.rule f.at
+        ((p.exact (line_of_key k) (k.piece.y0 -ℤ pos 1)).0 r));
+    above = λ r. f.run.above (step_of rules axis on core k k.piece.y1 f.rule f.at
+        ((p.exact (line_of_key k) k.piece.y1).0 r));
   }),
 )
 
@@ -309,27 +309,29 @@ pieces_found rules axis on core pieces keys p runs k = (
 
 first_row : (rules : List Rule) (axis : Axis) (on : Coverage) (core : Box2) (pieces : List Key)
     → ArePieces rules axis on core pieces → (k : Key) → Contains pieces k
-    → IsStepIn rules axis on core (line_of_key k) k.y0
-first_row rules axis on core pieces p k c = (p.exact (line_of_key k) k.y0).0 (record {
-  piece = k;
+    → IsStepIn rules axis on core (line_of_key k) k.piece.y0
+first_row rules axis on core pieces p k c = (p.exact (line_of_key k) k.piece.y0).0 (record {
+  key = k;
   there = c;
   on_line = refl;
   from = omega (arith, ints);
-  to = All-contains (λ (x : Key). x.y0 <ℤ x.y1) pieces k p.filled c;
+  to = All-contains (λ (x : Key). x.piece.y0 <ℤ x.piece.y1) pieces k p.filled c;
 })
 
-pub pieces_axis : (rules : List Rule) (axis : Axis) (on : Coverage) (core : Box2) (pieces : List Key)
+pub pieces_axis : (rules : List Rule) (axis : Axis) (on : Coverage) (core : Box2)
+    (pieces : List Key)
     → ArePieces rules axis on core pieces → (k l : Key) → Contains pieces k → Contains pieces l
-    → k.axis ≡ l.axis
+    → k.piece.axis ≡ l.piece.axis
 pieces_axis rules axis on core pieces p k l c d =
     (first_row rules axis on core pieces p k c).on_axis
     ∙ sym (first_row rules axis on core pieces p l d).on_axis
 
-pub pieces_sides : (rules : List Rule) (axis : Axis) (on : Coverage) (core : Box2) (pieces : List Key)
-    → ArePieces rules axis on core pieces → All (λ (k : Key). k.side ≤ 1) pieces
+pub pieces_sides : (rules : List Rule) (axis : Axis) (on : Coverage) (core : Box2)
+    (pieces : List Key)
+    → ArePieces rules axis on core pieces → All (λ (k : Key). k.piece.side ≤ 1) pieces
 pieces_sides rules axis on core pieces p = λ n d lt.
     let k = get_or pieces n d in
     let s = first_row rules axis on core pieces p k (Contains-get_or pieces n d lt) in
     let small = small_side s.rule.check s.rule.distance (first_squares s.rule.check on)
-    (second_squares s.rule.check on) k.side k.x1 k.x2 k.y0 s.step.0 in
+    (second_squares s.rule.check on) k.piece.side k.piece.x1 k.piece.x2 k.piece.y0 s.step.0 in
     omega (arith, small)

@@ -94,32 +94,16 @@ second_lowered (Separation l m) d on = refl
 second_lowered (Enclosing l m) d on = refl
 
 abbrev moved_line : Point → Line → Line
-moved_line d l = record {
-  rule = l.rule;
-  axis = l.axis;
-  side = l.side;
-  x1 = l.x1 +ℤ d.x;
-  x2 = l.x2 +ℤ d.x;
-}
+moved_line d l = record l { x1 = l.x1 +ℤ d.x; x2 = l.x2 +ℤ d.x }
 
 abbrev line_back : Point → Line → Line
-line_back d l = record {
-  rule = l.rule;
-  axis = l.axis;
-  side = l.side;
-  x1 = l.x1 -ℤ d.x;
-  x2 = l.x2 -ℤ d.x;
-}
+line_back d l = record l { x1 = l.x1 -ℤ d.x; x2 = l.x2 -ℤ d.x }
 
 there : (by i : ℤ) → ((i -ℤ by) +ℤ by) ≡ i
 there by i = omega (arith, ints)
 
 line_there : (d : Point) (l : Line) → moved_line d (line_back d l) ≡ l
-line_there d l =
-    ap (λ (x : ℤ). let m : Line = record { rule = l.rule; axis = l.axis; side = l.side; x1 = x; x2 = (l.x2 -ℤ d.x) +ℤ d.x } in m)
-    (there d.x l.x1)
-    ∙ ap (λ (x : ℤ). let m : Line = record { rule = l.rule; axis = l.axis; side = l.side; x1 = l.x1; x2 = x } in m)
-    (there d.x l.x2)
+line_there d l = λ i. record l { x1 = there d.x l.x1 i; x2 = there d.x l.x2 i }
 
 row_both : (rule : Rule) (d : Point) (on : Coverage) (core : Box2) (l : Line) (j : ℤ)
     → HasVerticalStep rule (first_squares rule.check (lowered_on d on))
@@ -157,13 +141,14 @@ step_moved rules axis d on core l j = (
 
 -- ---- pieces
 
-map_filled : (d : Point) (keys : List Key) → All (λ (k : Key). k.y0 <ℤ k.y1) keys
-    → All (λ (k : Key). k.y0 <ℤ k.y1) (map (moved_key d) keys)
+map_filled : (d : Point) (keys : List Key) → All (λ (k : Key). k.piece.y0 <ℤ k.piece.y1) keys
+    → All (λ (k : Key). k.piece.y0 <ℤ k.piece.y1) (map (moved_key d) keys)
 map_filled d keys h = λ n o lt.
     let p = of_map (moved_key d) keys (get_or (map (moved_key d) keys) n o)
     (Contains-get_or (map (moved_key d) keys) n o lt) in
-    let f = All-contains (λ (k : Key). k.y0 <ℤ k.y1) keys p.0 h p.1 in
-    subst (λ (k : Key). k.y0 <ℤ k.y1) p.2 ((less_along d.y p.0.y0 p.0.y1).0 f)
+    let f = All-contains (λ (k : Key). k.piece.y0 <ℤ k.piece.y1) keys p.0 h p.1 in
+    subst (λ (k : Key). k.piece.y0 <ℤ k.piece.y1) p.2
+    ((less_along d.y p.0.piece.y0 p.0.piece.y1).0 f)
 
 moved_pieces : (rules : List Rule) (axis : Axis) (d : Point) (on : Coverage) (core : Box2)
     (keys : List Key) → ArePieces rules axis (lowered_on d on) core keys
@@ -176,12 +161,12 @@ moved_pieces rules axis d on core keys p = record {
     to : (line : Line) (j : ℤ) → IsRowOf (map (moved_key d) keys) line j
         → IsStepIn rules axis on (moved_box d core) line j
     to line j r =
-        let q = of_map (moved_key d) keys r.piece r.there in
+        let q = of_map (moved_key d) keys r.key r.there in
         let l = r.from in let u = r.to in
-        let low : (q.0.y0 +ℤ d.y) ≤ℤ j = subst (λ (k : Key). k.y0 ≤ℤ j) (sym q.2) l in
-        let high : j <ℤ (q.0.y1 +ℤ d.y) = subst (λ (k : Key). j <ℤ k.y1) (sym q.2) u in
+        let low : (q.0.piece.y0 +ℤ d.y) ≤ℤ j = subst (λ (k : Key). k.piece.y0 ≤ℤ j) (sym q.2) l in
+        let high : j <ℤ (q.0.piece.y1 +ℤ d.y) = subst (λ (k : Key). j <ℤ k.piece.y1) (sym q.2) u in
         let s = (p.exact (line_of_key q.0) (j -ℤ d.y)).0 (record {
-          piece = q.0;
+          key = q.0;
           there = q.1;
           on_line = refl;
           from = omega (arith, ints, low);
@@ -190,20 +175,23 @@ moved_pieces rules axis d on core keys p = record {
         let m = (step_moved rules axis d on core (line_of_key q.0) (j -ℤ d.y)).0 s in
         subst (λ (l : Line). IsStepIn rules axis on (moved_box d core) l j)
         (ap line_of_key q.2 ∙ r.on_line)
-        (subst (λ (i : ℤ). IsStepIn rules axis on (moved_box d core) (moved_line d (line_of_key q.0)) i)
+        (subst (λ (i : ℤ). IsStepIn rules axis on (moved_box d core)
+        (moved_line d (line_of_key q.0)) i)
         (there d.y j) m)
 
     from : (line : Line) (j : ℤ) → IsStepIn rules axis on (moved_box d core) line j
         → IsRowOf (map (moved_key d) keys) line j
     from line j s =
-        let m = subst (λ (l : Line). IsStepIn rules axis on (moved_box d core) l ((j -ℤ d.y) +ℤ d.y))
+        let m =
+        subst (λ (l : Line). IsStepIn rules axis on (moved_box d core) l ((j -ℤ d.y) +ℤ d.y))
         (sym (line_there d line))
-        (subst (λ (i : ℤ). IsStepIn rules axis on (moved_box d core) line i) (sym (there d.y j)) s) in
+        (subst (λ (i : ℤ). IsStepIn rules axis on (moved_box d core) line i) (sym (there d.y j)) s)
+        in
         let r = (p.exact (line_back d line) (j -ℤ d.y)).1
         ((step_moved rules axis d on core (line_back d line) (j -ℤ d.y)).1 m) in
         let l = r.from in let u = r.to in record {
-          piece = moved_key d r.piece;
-          there = to_map (moved_key d) keys r.piece r.there;
+          key = moved_key d r.key;
+          there = to_map (moved_key d) keys r.key r.there;
           on_line = ap (moved_line d) r.on_line ∙ line_there d line;
           from = omega (arith, ints, l);
           to = omega (arith, ints, u);
@@ -211,9 +199,11 @@ moved_pieces rules axis d on core keys p = record {
 
 -- each square is included, displaced, and nothing else
 abbrev pub AreSquaresMoved : Point → Coverage → Coverage → Type 0
-AreSquaresMoved d on other = (layer : Layer) (i j : ℤ) → other layer (i +ℤ d.x) (j +ℤ d.y) ≡ on layer i j
+AreSquaresMoved d on other =
+    (layer : Layer) (i j : ℤ) → other layer (i +ℤ d.x) (j +ℤ d.y) ≡ on layer i j
 
-pub pieces_moved : (rules : List Rule) (layers : List Layer) (distance : ℕ) (axis : Axis) (d : Point)
+pub pieces_moved : (rules : List Rule) (layers : List Layer) (distance : ℕ) (axis : Axis)
+    (d : Point)
     (on other : Coverage) (core : Box2) (keys : List Key) → IsLook rules layers distance
     → AreSquaresMoved d on other → ArePieces rules axis on core keys
     → ArePieces rules axis other (moved_box d core) (map (moved_key d) keys)

@@ -88,7 +88,7 @@ step_on_seen law rule on axis side x1 x2 j =
 
 pub record IsKeyIn (rules : List Rule) (c : Column) (k : Key) (rule : Rule) : Type 0 where
   pub at : slice_get rules k.rule ≡ Some rule
-  pub on_axis : k.axis ≡ c.axis
+  pub on_axis : k.piece.axis ≡ c.axis
 
 -- the row of the key's line is a step in the column
 abbrev pub IsRow : List Rule → Coverage → Box2 → Column → Key → ℤ → Type 0
@@ -103,13 +103,15 @@ pub row_test : TestDecidesPairSteps → (rules : List Rule) (on : Coverage) (ext
     → HasStepAt rule (seen_on c.axis on) (core_in extent c) k j → IsRow rules on extent c k j
 row_test law rules on extent c k rule j is h =
     let step = subst (λ (a : Axis). IsPairStep rule.check rule.distance
-    (first_squares rule.check (seen_on a on)) (second_squares rule.check (seen_on a on)) k.side k.x1
-    k.x2 j) (sym is.on_axis) h.0 in
-    let test = (step_on_seen law rule on k.axis k.side k.x1 k.x2 j).1 step in
+    (first_squares rule.check (seen_on a on)) (second_squares rule.check (seen_on a on))
+    k.piece.side k.piece.x1
+    k.piece.x2 j) (sym is.on_axis) h.0 in
+    let test =
+    (step_on_seen law rule on k.piece.axis k.piece.side k.piece.x1 k.piece.x2 j).1 step in
     and_from _ _
     (subst (λ (o : Option Rule). has_step_of o on (line_of_key k) j ≡ true) (sym is.at) test)
-    (and_from _ _ (axis_as k.axis c.axis is.on_axis)
-    (test_from_SquareIn (core_in extent c) (record { column = k.x1; row = j })
+    (and_from _ _ (axis_as k.piece.axis c.axis is.on_axis)
+    (test_from_SquareIn (core_in extent c) (record { column = k.piece.x1; row = j })
     (record { left = h.1.0; right = h.1.1; bottom = h.1.2; top = h.1.3 })))
 
 pub row_from : TestDecidesPairSteps → (rules : List Rule) (on : Coverage) (extent : Box2)
@@ -119,13 +121,14 @@ row_from law rules on extent c k rule j is e =
     let p = and_parts (steps_of rules on (line_of_key k) j)
     (is_in_column extent c (line_of_key k) j) e in
     let test = subst (λ (o : Option Rule). has_step_of o on (line_of_key k) j ≡ true) is.at p.0 in
-    let step = (step_on_seen law rule on k.axis k.side k.x1 k.x2 j).0 test in
-    let q = and_parts (axis_eq k.axis c.axis)
-    (has_square (core_in extent c) (record { column = k.x1; row = j })) p.1 in
-    let i = SquareIn-from_test (core_in extent c) (record { column = k.x1; row = j }) q.1 in (
+    let step =
+    (step_on_seen law rule on k.piece.axis k.piece.side k.piece.x1 k.piece.x2 j).0 test in
+    let q = and_parts (axis_eq k.piece.axis c.axis)
+    (has_square (core_in extent c) (record { column = k.piece.x1; row = j })) p.1 in
+    let i = SquareIn-from_test (core_in extent c) (record { column = k.piece.x1; row = j }) q.1 in (
       subst (λ (a : Axis). IsPairStep rule.check rule.distance
           (first_squares rule.check (seen_on a on)) (second_squares rule.check (seen_on a on))
-          k.side k.x1 k.x2 j) is.on_axis step,
+          k.piece.side k.piece.x1 k.piece.x2 j) is.on_axis step,
       (i.left, i.right, i.bottom, i.top),
     )
 
@@ -139,19 +142,21 @@ found_maximal law rules on extent c k f =
       filled = f.run.filled;
       rows = λ j l u. row_test law rules on extent c k f.rule j is (f.run.rows j l u);
       below = is_false _ (λ e. f.run.below
-          (row_from law rules on extent c k f.rule (k.y0 -ℤ pos 1) is e));
-      above = is_false _ (λ e. f.run.above (row_from law rules on extent c k f.rule k.y1 is e));
+          (row_from law rules on extent c k f.rule (k.piece.y0 -ℤ pos 1) is e));
+      above =
+          is_false _ (λ e. f.run.above (row_from law rules on extent c k f.rule k.piece.y1 is e));
     }
 
 pub maximal_found : TestDecidesPairSteps → (rules : List Rule) (on : Coverage) (extent : Box2)
     (c : Column) (k : Key) → IsMaximal (steps_in (steps_of rules on) (is_in_column extent c)) k
     → IsFound rules c.axis (seen_on c.axis on) (core_in extent c) k
 maximal_found law rules on extent c k m =
-    let first = and_parts (steps_of rules on (line_of_key k) k.y0)
-    (is_in_column extent c (line_of_key k) k.y0) (m.rows k.y0 (omega (arith, ints)) m.filled) in
-    let r = rule_of rules on (line_of_key k) k.y0 first.0 in
-    let same = axis_from k.axis c.axis (and_parts (axis_eq k.axis c.axis)
-    (has_square (core_in extent c) (record { column = k.x1; row = k.y0 })) first.1).0 in
+    let first = and_parts (steps_of rules on (line_of_key k) k.piece.y0)
+    (is_in_column extent c (line_of_key k) k.piece.y0)
+    (m.rows k.piece.y0 (omega (arith, ints)) m.filled) in
+    let r = rule_of rules on (line_of_key k) k.piece.y0 first.0 in
+    let same = axis_from k.piece.axis c.axis (and_parts (axis_eq k.piece.axis c.axis)
+    (has_square (core_in extent c) (record { column = k.piece.x1; row = k.piece.y0 })) first.1).0 in
     let is : IsKeyIn rules c k r.rule = record { at = r.at; on_axis = same } in record {
       rule = r.rule;
       at = r.at;
@@ -160,7 +165,8 @@ maximal_found law rules on extent c k m =
         filled = m.filled;
         rows = λ j l u. row_from law rules on extent c k r.rule j is (m.rows j l u);
         below = λ s. false≢true (sym m.below
-            ∙ row_test law rules on extent c k r.rule (k.y0 -ℤ pos 1) is s);
-        above = λ s. false≢true (sym m.above ∙ row_test law rules on extent c k r.rule k.y1 is s);
+            ∙ row_test law rules on extent c k r.rule (k.piece.y0 -ℤ pos 1) is s);
+        above =
+            λ s. false≢true (sym m.above ∙ row_test law rules on extent c k r.rule k.piece.y1 is s);
       };
     }

@@ -10,7 +10,8 @@ use Rattle.mpw_edges.specs.Computed.{TestDecidesPairSteps}
 use Rattle.mpw_hier.specs.Items.{Item}
 use Rattle.mpw_tiles.specs.Snapshots.{Snapshot, shown, shown_extent}
 use Rattle.mpw_markers.specs.declared.marker.Key.{Key}
-use Rattle.mpw_markers.specs.Markers.{line_of_key, box_of}
+use Rattle.mpw_edges.specs.Pieces.{box_of}
+use Rattle.mpw_markers.specs.Markers.{line_of_key}
 use Rattle.mpw_markers.specs.Met.{IsAscending}
 use Rattle.mpw_geom.specs.Meeting.{IsMet}
 use Rattle.mpw_job.specs.Computed.{steps_of, shown_on}
@@ -22,7 +23,8 @@ use Rattle.mpw_job.proofs.Tests.{rule_of, step_on}
 use Rattle.mpw_keys.specs.declared.column.Column.{Column}
 use Rattle.mpw_keys.specs.Columns.{seen_box, upright}
 use Rattle.mpw_keys.specs.Keys.{key_cmp, of_first}
-use Rattle.mpw_keys.proofs.SameKey.{same_line, same_key}
+use Rattle.mpw_markers.proofs.Marked.{same_key}
+use Rattle.mpw_keys.proofs.SameKey.{same_line}
 use Rattle.mpw_columns.specs.Seen.{seen_on}
 use Rattle.mpw_columns.specs.Laws.{ColumnsHaveWholeRuns}
 use Rattle.mpw_columns.specs.Runs.{IsRunOf, IsRunWithin}
@@ -44,7 +46,8 @@ of_map f (x ∷ xs) y c = elim (Contains-append_cases (f x ∷ []) (map f xs) y 
   | inr h ↦ let p = of_map f xs y h in (p.0, Contains-append_right (x ∷ []) xs p.0 p.1, p.2)
 ]
 
-pub to_map : {X Y : Type 0} (f : X → Y) (xs : List X) (x : X) → Contains xs x → Contains (map f xs) (f x)
+pub to_map : {X Y : Type 0} (f : X → Y) (xs : List X) (x : X) → Contains xs x
+    → Contains (map f xs) (f x)
 to_map f xs x c =
     let same : length (map f xs) ≡ length xs = length-map xs f in
     let lt = c.1 in
@@ -90,15 +93,17 @@ pub meets_first : TestDecidesPairSteps → (s : Snapshot) (k : Key) → AreOfFir
     → IsRunOf s k → MeetsShown s (of_first k)
 meets_first law s k first run =
     let on = shown_on (shown s) in
-    let r = rule_of s.deck.rules on (line_of_key k) k.y0
-    (run.rows k.y0 (omega (arith, ints)) run.filled) in
-    let some = some_met r.rule on (HasShown (shown s)) (shown_seen (shown s)) k.axis k.side
-    k.x1 k.x2 k.y0 k.y1 run.filled
-    (step_on law r.rule (first_squares r.rule.check on) (second_squares r.rule.check on) k.axis
-    k.side k.x1 k.x2 k.y0 r.step) in
+    let r = rule_of s.deck.rules on (line_of_key k) k.piece.y0
+    (run.rows k.piece.y0 (omega (arith, ints)) run.filled) in
+    let some =
+    some_met r.rule on (HasShown (shown s)) (shown_seen (shown s)) k.piece.axis k.piece.side
+    k.piece.x1 k.piece.x2 k.piece.y0 k.piece.y1 run.filled
+    (step_on law r.rule (first_squares r.rule.check on) (second_squares r.rule.check on)
+    k.piece.axis
+    k.piece.side k.piece.x1 k.piece.x2 k.piece.y0 r.step) in
     record {
       ascending = ascending_one;
-      met = λ origin. one_origin (shown s) (box_of (of_first k)) some.0 origin first some.1;
+      met = λ origin. one_origin (shown s) (box_of k.piece) some.0 origin first some.1;
     }
 
 -- ---- the keys of a column
@@ -132,8 +137,9 @@ one_place law s c k l m n e =
     let small = first.side in
     let little = second.side in
     let rule : k.rule ≡ l.rule = omega (arith, numbers, small, little) in
-    let side : k.side ≡ l.side = omega (arith, numbers, small, little) in
-    let line = same_line (line_of_key k) (line_of_key l) rule (m.on_axis ∙ sym n.on_axis) side tied.x1
+    let side : k.piece.side ≡ l.piece.side = omega (arith, numbers, small, little) in
+    let line =
+    same_line (line_of_key k) (line_of_key l) rule (m.on_axis ∙ sym n.on_axis) side tied.x1
     tied.x2 in
     same_key k l line tied.y0 (same_end (steps_of s.deck.rules (shown_on (shown s))) k l m.run n.run
     line tied.y0)

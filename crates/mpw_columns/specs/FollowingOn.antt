@@ -13,12 +13,13 @@ use Rattle.mpw_columns.specs.Runs.{IsRunWithin}
 -- Keys of one rule, axis and side in the order of a book: by x1, x2 and y0.
 abbrev pub ComesFirst : Key → Key → Type 0
 ComesFirst k l =
-    ordering_then (int_cmp k.x1 l.x1) (ordering_then (int_cmp k.x2 l.x2) (int_cmp k.y0 l.y0)) ≡ Less
+    ordering_then (int_cmp k.piece.x1 l.piece.x1)
+    (ordering_then (int_cmp k.piece.x2 l.piece.x2) (int_cmp k.piece.y0 l.piece.y0)) ≡ Less
 
 -- The keys are those of a rule's runs of that side whose x1 lies in the column, in order.
 pub record IsListFor (s : Snapshot) (rule side : ℕ) (c : Column) (keys : List Key) : Type 0 where
   pub exact : (k : Key) → Contains keys k
-      ↔ ((k.rule ≡ rule) × (k.side ≡ side) × IsRunWithin s c k)
+      ↔ ((k.rule ≡ rule) × (k.piece.side ≡ side) × IsRunWithin s c k)
   pub ordered : AllPairs ComesFirst keys
 
 -- The list of a rule, an axis and a side is that of its columns, one after another, if the columns are adjacent and in order.

@@ -20,15 +20,15 @@ pub record IsRun (P : ℤ → Type 0) (y0 y1 : ℤ) : Type 0 where
 -- The row has a pair step of the rule in the core, on the key's line.
 abbrev pub HasStepAt : Rule → Coverage → Box2 → Key → ℤ → Type 0
 HasStepAt rule on core k j = HasVerticalStep rule (first_squares rule.check on)
-    (second_squares rule.check on) core k.side k.x1 k.x2 j
+    (second_squares rule.check on) core k.piece.side k.piece.x1 k.piece.x2 j
 
 -- The key is that of a maximal run of a rule of the list in the core.
 pub record IsFound (rules : List Rule) (axis : Axis) (on : Coverage) (core : Box2) (k : Key) :
     Type 0 where
   pub rule : Rule
   pub at : slice_get rules k.rule ≡ Some rule
-  pub on_axis : k.axis ≡ axis
-  pub run : IsRun (HasStepAt rule on core k) k.y0 k.y1
+  pub on_axis : k.piece.axis ≡ axis
+  pub run : IsRun (HasStepAt rule on core k) k.piece.y0 k.piece.y1
 
 -- The layers of the check are among these.
 abbrev pub HasLayers : List Layer → Check → Type 0

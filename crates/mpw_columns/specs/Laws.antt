@@ -16,7 +16,6 @@ use Rattle.mpw_tiles.specs.Snapshots.{Snapshot, shown, shown_extent}
 use Rattle.mpw_markers.specs.declared.marker.Key.{Key}
 use Rattle.mpw_markers.specs.declared.marker.Marker.{Marker}
 use Rattle.mpw_markers.specs.Laws.{steps_in}
-use Rattle.mpw_markers.specs.Markers.{key_of}
 use Rattle.mpw_markers.specs.Whole.{IsMaximal}
 use Rattle.mpw_job.specs.Computed.{steps_of, shown_on}
 use Rattle.mpw_job.specs.Layers.{Coverage}
@@ -58,7 +57,8 @@ ColumnsMakeTheLayout =
     (s : Snapshot) (extent : Box2) (upright across : List Column) (vs hs : List (List Key))
     (book : List Marker) → shown_extent s ≡ Some extent → AreColumnsOf V extent upright
     → AreColumnsOf H extent across → AllZip (IsColumnList s) upright vs
-    → AllZip (IsColumnList s) across hs → map key_of book ≡ together (length s.deck.rules) vs hs
+    → AllZip (IsColumnList s) across hs
+    → map (λ m. m.key) book ≡ together (length s.deck.rules) vs hs
     → All (MeetsShown s) book → AreLayoutMarkers s book
 
 -- Each column of a layout lies within it.
@@ -107,4 +107,5 @@ MovedItemsShowDisplaced =
     → AreWhole (seen_box axis window) all first → AreSound all first
     → AreWhole (seen_box axis (displaced by window)) all second → AreSound all second
     → second ≡ map (moved (across_edges axis by)) first → (layer : Layer)
-    → AreDisplacedIn window by (seen_on axis (shown_on all) layer) (seen_on axis (shown_on all) layer)
+    → AreDisplacedIn window by (seen_on axis (shown_on all) layer)
+    (seen_on axis (shown_on all) layer)

@@ -5,7 +5,7 @@ use Rattle.mpw_tiles.specs.Snapshots.{Snapshot, shown}
 use Rattle.mpw_tiles.specs.Shown.{HasShown}
 use Rattle.mpw_markers.specs.declared.marker.Key.{Key}
 use Rattle.mpw_markers.specs.declared.marker.Marker.{Marker}
-use Rattle.mpw_markers.specs.Markers.{box_of}
+use Rattle.mpw_edges.specs.Pieces.{box_of}
 use Rattle.mpw_markers.specs.Met.{IsAscending}
 use Rattle.mpw_keys.specs.declared.column.Column.{Column}
 use Rattle.mpw_keys.specs.Keys.{AreInOrder}
@@ -19,4 +19,5 @@ pub record IsColumnList (s : Snapshot) (c : Column) (keys : List Key) : Type 0 w
 -- The marker touches exactly the origins of the shapes that its box touches.
 pub record MeetsShown (s : Snapshot) (m : Marker) : Type 0 where
   pub ascending : IsAscending m.met
-  pub met : (origin : ℕ) → Contains m.met origin ↔ IsMet (HasShown (shown s)) (box_of m) origin
+  pub met : (origin : ℕ) → Contains m.met origin ↔ IsMet (HasShown (shown s)) (box_of m.key.piece)
+      origin

@@ -13,6 +13,6 @@ IsRunOf s k = IsMaximal (steps_of s.deck.rules (shown_on (shown s))) k
 -- The run of the key is one of the whole layout, on the column's axis, and its x1 lies in the column.
 pub record IsRunWithin (s : Snapshot) (c : Column) (k : Key) : Type 0 where
   pub run : IsRunOf s k
-  pub on_axis : k.axis ≡ c.axis
-  pub left : c.from ≤ℤ k.x1
-  pub right : k.x1 <ℤ c.to
+  pub on_axis : k.piece.axis ≡ c.axis
+  pub left : c.from ≤ℤ k.piece.x1
+  pub right : k.piece.x1 <ℤ c.to

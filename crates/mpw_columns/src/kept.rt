@@ -6,7 +6,7 @@ ghost use Rattle.mpw_columns.specs.Internal.Pieces.{AreLayoutPieces, AreThingsIn
 
 use crate::things::Task;
 use mpw_contents::{Contents, Thing, code, displacement};
-use mpw_edges::Axis;
+use mpw_edges::{Axis, Piece};
 use mpw_geom::{Box2, Point};
 use mpw_markers::Key;
 use std::alloc::{AllocError, Global};
@@ -111,15 +111,14 @@ fn is_moved_box(b: &Box2, way: Point, other: &Box2) -> bool
 fn moved_key(key: &Key, way: Point) -> Option<Key>
     ensures { IfSome result (λ k. k ≡ moved_key way key.now) }
 {
-    Some(Key {
-        rule: key.rule,
-        axis: key.axis,
-        side: key.side,
-        x1: key.x1.checked_add(way.x)?,
-        x2: key.x2.checked_add(way.x)?,
-        y0: key.y0.checked_add(way.y)?,
-        y1: key.y1.checked_add(way.y)?,
-    })
+    let piece = Piece {
+        x1: key.piece.x1.checked_add(way.x)?,
+        x2: key.piece.x2.checked_add(way.x)?,
+        y0: key.piece.y0.checked_add(way.y)?,
+        y1: key.piece.y1.checked_add(way.y)?,
+        ..key.piece
+    };
+    Some(Key { piece, ..*key })
 }
 
 /// Keys, each displaced. `None` if 64 bits are too few. The only error is out of memory.

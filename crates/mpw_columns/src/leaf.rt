@@ -15,7 +15,7 @@ ghost use Rattle.mpw_columns.specs.Internal.Found.{key_of_run, AddsRule, AddsFir
 
 use crate::look::Look;
 use mpw_deck::{Check, Rule};
-use mpw_edges::{Axis, vertical_steps};
+use mpw_edges::{Axis, Piece, vertical_steps};
 use mpw_geom::{Box2, Layer};
 use mpw_markers::Key;
 use mpw_region::{Run, row_bands};
@@ -116,15 +116,15 @@ fn second_bands(banded: &[Banded], check: Check) -> &[Box2]
 fn key(place: u32, axis: Axis, run: &Run) -> Key
     ensures { result ≡ key_of_run place axis run.now }
 {
-    Key {
-        rule: place,
+    let piece = Piece {
         axis,
         side: run.line.side,
         x1: run.line.first,
         x2: run.line.second,
         y0: run.from,
         y1: run.to,
-    }
+    };
+    Key { rule: place, piece }
 }
 
 /// Adds the keys of the runs of the rule at index `place`.

@@ -85,9 +85,7 @@ wafer-fair s connection (wafer_ask.Unplace cell label) =
     changing-fair ending.Refused (over_wafer s) s _ (λ ps. [])
     (unplace_row s.wafer.placings cell label)
     (table-fair (table.placings_without s.wafer.placings cell label))
-wafer-fair s connection (wafer_ask.Deck text) =
-    changing-fair ending.Refused (over_wafer s) s _ (λ deck. []) (deck_row (deck_of text))
-    (deck-fair (deck_of text))
+wafer-fair s connection request = search (changing-fair, listing-fair, deck-fair)
 
 -- ---- the run
 

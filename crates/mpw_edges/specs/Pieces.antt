@@ -71,5 +71,5 @@ abbrev pub box_on : Axis → (x1 x2 y0 y1 : ℤ) → Box2
 box_on V x1 x2 y0 y1 = record { x0 = x1; y0 = y0; x1 = x2; y1 = y1 }
 box_on H x1 x2 y0 y1 = record { x0 = y0; y0 = x1; x1 = y1; y1 = x2 }
 
-abbrev pub piece_box : Piece → Box2
-piece_box p = box_on p.axis p.x1 p.x2 p.y0 p.y1
+abbrev pub box_of : Piece → Box2
+box_of p = box_on p.axis p.x1 p.x2 p.y0 p.y1

@@ -1,5 +1,10 @@
 //! The results of a check: maximal runs of rows.
 
+ghost use Rattle.std.specs.Prelude.{◌≡◌};
+ghost use Rattle.mpw_edges.specs.Pieces.{box_of};
+
+use mpw_geom::Box2;
+
 /// The direction of the edges: `V` is vertical, `H` horizontal.
 #[derive(Clone, Copy, PartialEq, Eq, PartialOrd, Ord)]
 pub enum Axis {
@@ -25,4 +30,26 @@ pub struct Piece {
     pub y0: i64,
     /// The row after the last one, above `y0`, in nm.
     pub y1: i64,
+}
+
+impl Piece {
+    /// The closed box: on axis `V` from `x1` to `x2` over its rows, on `H` with the coordinates exchanged.
+    pub fn closed_box(&self) -> Box2
+        ensures { result ≡ box_of self.now }
+    {
+        match self.axis {
+            Axis::V => Box2 {
+                x0: self.x1,
+                y0: self.y0,
+                x1: self.x2,
+                y1: self.y1,
+            },
+            Axis::H => Box2 {
+                x0: self.y0,
+                y0: self.x1,
+                x1: self.y1,
+                y1: self.x2,
+            },
+        }
+    }
 }

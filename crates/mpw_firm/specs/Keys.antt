@@ -5,7 +5,6 @@ use Rattle.mpw_deck.specs.declared.rule.Rule.{Rule}
 use Rattle.mpw_geom.specs.Names.{name_eq}
 use Rattle.mpw_listing.specs.Keys.{key_text}
 use Rattle.mpw_markers.specs.declared.marker.Marker.{Marker}
-use Rattle.mpw_markers.specs.Markers.{key_of}
 use Rattle.mpw_picture.specs.Windows.{marker_window, whole_window}
 use Rattle.mpw_picture.specs.declared.picture.View.{View}
 use Rattle.mpw_tiles.specs.Snapshots.{Snapshot, shown_extent}
@@ -16,10 +15,10 @@ use Rattle.mpw_told.specs.Told.{Misuses}
 -- Whether a marker of that rule has the key, as the listing prints it.
 abbrev pub is_keyed : (parts : ℕ) → List ℕ → Marker → Option Rule → Bool
 is_keyed parts word m None = false
-is_keyed parts word m (Some rule) = name_eq (key_text parts rule.name (key_of m)) word
+is_keyed parts word m (Some rule) = name_eq (key_text parts rule.name m.key.piece) word
 
 abbrev pub has_key : (parts : ℕ) → List Rule → List ℕ → Marker → Bool
-has_key parts rules word m = is_keyed parts word m (slice_get rules m.rule)
+has_key parts rules word m = is_keyed parts word m (slice_get rules m.key.rule)
 
 -- The first marker of that key, if there is one.
 abbrev pub marker_named : (parts : ℕ) → List Rule → List ℕ → List Marker → Option Marker
@@ -31,7 +30,7 @@ marker_named parts rules word markers = find (has_key parts rules word) markers
 abbrev pub IsRound : (parts : ℕ) → List Rule → List ℕ → List Marker → (limit : ℕ) → View → Type 0
 IsRound parts rules word markers limit view =
     (m : Marker) × (marker_named parts rules word markers ≡ Some m)
-    × (view ≡ record { window = marker_window rules m; wanted = Some (key_of m); limit = limit })
+    × (view ≡ record { window = marker_window rules m; wanted = Some m.key; limit = limit })
 
 unfoldable pub unknown_text : List ℕ → List ℕ
 unknown_text key =

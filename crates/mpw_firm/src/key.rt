@@ -1,6 +1,5 @@
 //! Markers by their keys, as the listing prints them.
 ghost use Rattle.std.specs.Prelude.{◌≡◌, IfOk, Some, option_copied};
-ghost use Rattle.mpw_markers.specs.Markers.{key_of};
 ghost use Rattle.mpw_firm.specs.Keys.{is_keyed, has_key, marker_named};
 ghost use Rattle.mpw_listing.specs.Keys.{key_text};
 
@@ -13,10 +12,10 @@ use std::io;
 
 /// The key of a marker of that rule.
 fn key_text(alloc: Global, rule: &Rule, parts: &Parts, marker: &Marker) -> io::Result<Vec<u8>>
-    ensures { IfOk result (λ text. text.items ≡ key_text parts.now rule.now.name (key_of marker.now)) }
+    ensures { IfOk result (λ text. text.items ≡ key_text parts.now rule.now.name marker.now.key.piece) }
 {
     let mut text = Vec::new(alloc);
-    put_key(&mut text, rule, parts, marker)?;
+    put_key(&mut text, rule, parts, &marker.key.piece)?;
     Ok(text)
 }
 
@@ -44,7 +43,7 @@ fn has_key(
 ) -> io::Result<bool>
     ensures { IfOk result (λ same. same ≡ has_key parts.now rules.now word.now marker.now) }
 {
-    match rules.get(marker.rule as usize) {
+    match rules.get(marker.key.rule as usize) {
         Some(rule) => is_keyed(alloc, word, parts, marker, rule),
         None => Ok(false),
     }

@@ -41,7 +41,7 @@ fn view_round(alloc: Global, checked: &Checked<'_>, key: &str) -> Result<View, F
     match find_marker(alloc, rules, checked.parts, checked.found.markers(), key) {
         Ok(Some(marker)) => Ok(View {
             window: marker_window(rules, marker),
-            wanted: Some(marker.key()),
+            wanted: Some(marker.key),
             limit: checked.most(),
         }),
         Ok(None) => Err(unknown_marker(alloc, key)),

@@ -8,10 +8,11 @@ use Rattle.std.proofs.lemmas.Option.{slice_get-map, slice_get_within}
 use Rattle.mpw_deck.specs.declared.rule.Rule.{Rule}
 use Rattle.mpw_tiles.specs.Shown.{HasShown}
 use Rattle.mpw_tiles.specs.Snapshots.{Snapshot, shown}
+use Rattle.mpw_edges.specs.Pieces.{box_of}
 use Rattle.mpw_markers.specs.declared.marker.Key.{Key}
 use Rattle.mpw_markers.specs.declared.marker.Line.{Line}
 use Rattle.mpw_markers.specs.declared.marker.Marker.{Marker}
-use Rattle.mpw_markers.specs.Markers.{box_of, key_of, line_of_key}
+use Rattle.mpw_markers.specs.Markers.{line_of_key}
 use Rattle.mpw_markers.specs.Whole.{IsMarkerOf, IsMaximal}
 use Rattle.mpw_job.specs.Computed.{has_step_of, shown_on, steps_of, AreTestedMarkers}
 use Rattle.mpw_job.specs.Laws.{EachMarkerMeetsSome, TestsTellMarkers}
@@ -92,20 +93,22 @@ module _ (come : ComeFromTheShelf) (s : Snapshot) (alone : length s.shelf ≡ 1)
   abbrev deck_steps : Line → ℤ → Bool
   deck_steps = steps_of s.deck.rules (shown_on (shown s))
 
-  pub is_marker : (n : Marker) → Contains book n → n.rule ≡ place
+  pub is_marker : (n : Marker) → Contains book n → n.key.rule ≡ place
       → IsMarkerOf deck_steps (HasShown (shown s)) (with_rule rule n)
   is_marker n c e =
       let is = owned.tested.1.sound n c in record {
         run = to_deck s owned.part owned.places owned.is_part rule place owned.r owned.of_deck
-            owned.of_part (key_of n)
-            (subst (λ (k : ℕ). IsMaximal part_steps (key_at k (key_of n))) e is.run);
+            owned.of_part n.key
+            (subst (λ (k : ℕ). IsMaximal part_steps (key_at k n.key)) e is.run);
         ascending = is.ascending;
-        met = met_same come s owned.part owned.places owned.is_part alone (box_of n) n.met is.met
+        met =
+            met_same come s owned.part owned.places owned.is_part alone (box_of n.key.piece) n.met
+            is.met
             (owned.meets n c);
       }
 
   pub is_taken : (k : Key) → IsMaximal deck_steps (key_at rule k)
-      → (m : Marker) × Contains (taken place rule book) m × (key_of m ≡ key_at rule k)
+      → (m : Marker) × Contains (taken place rule book) m × (m.key ≡ key_at rule k)
   is_taken k run =
       let found = owned.tested.1.complete (key_at place k)
       (to_part s owned.part owned.places owned.is_part rule place owned.r owned.of_deck
@@ -168,10 +171,10 @@ module _ (laws : Laws) (s : Snapshot) (groups : List Group) (owners : List Owner
       (group_book of.0 of.1 of.2) found.0 found.1 found.2)
 
   complete : (k : Key) → IsMaximal all_steps k → (m : Marker)
-      × Contains (joined_from lists 0 owners) m × (key_of m ≡ k)
+      × Contains (joined_from lists 0 owners) m × (m.key ≡ k)
   complete k run =
-      let step = run.rows k.y0 (omega (arith, ints)) run.filled in
-      let rule = deck_rule s.deck.rules (shown_on (shown s)) (line_of_key k) k.y0 step in
+      let step = run.rows k.piece.y0 (omega (arith, ints)) run.filled in
+      let rule = deck_rule s.deck.rules (shown_on (shown s)) (line_of_key k) k.piece.y0 step in
       let within = slice_get_within s.deck.rules k.rule rule.0 rule.1 in
       let long = owned.long in
       let owner = some_at owners k.rule (omega (arith, within, long)) in

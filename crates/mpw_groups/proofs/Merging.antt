@@ -91,32 +91,33 @@ rest_cmp a b =
     (ordering_then (nat_cmp a.side b.side)
     (ordering_then (int_cmp a.x1 b.x1) (int_cmp a.x2 b.x2)))
 
-stands_still : (rule : ℕ) (m n : Marker) → m.rule ≡ n.rule → StandsBefore m n
+stands_still : (rule : ℕ) (m n : Marker) → m.key.rule ≡ n.key.rule → StandsBefore m n
     → StandsBefore (with_rule rule m) (with_rule rule n)
 stands_still rule m n same (inl less) = inl
     (ap (λ o. ordering_then o (rest_cmp (line_of m) (line_of n))) (nat_same rule rule refl)
     ∙ sym (ap (λ o. ordering_then o (rest_cmp (line_of m) (line_of n)))
-    (nat_same m.rule n.rule same))
+    (nat_same m.key.rule n.key.rule same))
     ∙ less)
 stands_still rule m n same (inr tied) = inr (ap (line_at rule) tied.0, tied.1)
 
-stands_first : (m n : Marker) → m.rule < n.rule → StandsBefore m n
+stands_first : (m n : Marker) → m.key.rule < n.key.rule → StandsBefore m n
 stands_first m n less = inl
-    (ap (λ o. ordering_then o (rest_cmp (line_of m) (line_of n))) (nat_less m.rule n.rule less))
+    (ap (λ o. ordering_then o (rest_cmp (line_of m) (line_of n)))
+    (nat_less m.key.rule n.key.rule less))
 
 -- ---- one rule
 
 module _ (place rule : ℕ) (book : List Marker) where
   abbrev keeps : Marker → Bool
-  keeps m = m.rule == place
+  keeps m = m.key.rule == place
 
-  own_rule : (m : Marker) → Contains (filter keeps book) m → m.rule ≡ place
-  own_rule m c = eqb-true m.rule place
+  own_rule : (m : Marker) → Contains (filter keeps book) m → m.key.rule ≡ place
+  own_rule m c = eqb-true m.key.rule place
       (All-contains (λ (x : Marker). keeps x ≡ true) (filter keeps book) m
       (filter_passes keeps book) c)
 
-  pub taken_rule : All (λ (m : Marker). m.rule ≡ rule) (taken place rule book)
-  taken_rule = All-map (λ (m : Marker). m.rule ≡ rule) (with_rule rule) (filter keeps book)
+  pub taken_rule : All (λ (m : Marker). m.key.rule ≡ rule) (taken place rule book)
+  taken_rule = All-map (λ (m : Marker). m.key.rule ≡ rule) (with_rule rule) (filter keeps book)
       (λ i d lt. refl)
 
   pub taken_book : IsBook book → IsBook (taken place rule book)
@@ -132,15 +133,15 @@ module _ (place rule : ℕ) (book : List Marker) where
 
   -- a marker of the group's rule, and the markers that are taken
   pub taken_of : (m : Marker) → Contains (taken place rule book) m → (n : Marker)
-      × Contains book n × (n.rule ≡ place) × (with_rule rule n ≡ m)
+      × Contains book n × (n.key.rule ≡ place) × (with_rule rule n ≡ m)
   taken_of m c =
       let found = of_map (with_rule rule) (filter keeps book) m c in
       (found.0, of_filter keeps book found.0 found.1, own_rule found.0 found.1, found.2)
 
-  pub to_taken : (n : Marker) → Contains book n → n.rule ≡ place
+  pub to_taken : (n : Marker) → Contains book n → n.key.rule ≡ place
       → Contains (taken place rule book) (with_rule rule n)
   to_taken n c e = to_map (with_rule rule) (filter keeps book) n
-      (filter_has keeps book n c (eq-eqb n.rule place e))
+      (filter_has keeps book n c (eq-eqb n.key.rule place e))
 
 -- ---- all rules
 
@@ -150,14 +151,15 @@ AreBooks lists os =
 
 module _ (lists : List (List Marker)) where
   rules_after : (k : ℕ) (os : List Owner)
-      → All (λ (m : Marker). k ≤ m.rule) (joined_from lists k os)
+      → All (λ (m : Marker). k ≤ m.key.rule) (joined_from lists k os)
   rules_after k [] = λ i d lt. absurd (omega (arith, lt))
   rules_after k (o ∷ os) =
-      All-append (λ (m : Marker). k ≤ m.rule) (taken_at lists o k) (joined_from lists (k + 1) os)
-      (All-weaker (λ (m : Marker). m.rule ≡ k) (λ (m : Marker). k ≤ m.rule)
+      All-append (λ (m : Marker). k ≤ m.key.rule) (taken_at lists o k)
+      (joined_from lists (k + 1) os)
+      (All-weaker (λ (m : Marker). m.key.rule ≡ k) (λ (m : Marker). k ≤ m.key.rule)
       (λ m e. omega (arith, e)) (taken_at lists o k)
       (taken_rule o.place k (slice_index_or lists o.group [])))
-      (All-weaker (λ (m : Marker). k + 1 ≤ m.rule) (λ (m : Marker). k ≤ m.rule)
+      (All-weaker (λ (m : Marker). k + 1 ≤ m.key.rule) (λ (m : Marker). k ≤ m.key.rule)
       (λ m e. omega (arith, e)) (joined_from lists (k + 1) os) (rules_after (k + 1) os))
 
   pub joined_book : (k : ℕ) (os : List Owner) → AreBooks lists os
@@ -176,9 +178,9 @@ module _ (lists : List (List Marker)) where
         ordered = pairs_append StandsBefore (taken_at lists o k) (joined_from lists (k + 1) os)
             first.ordered rest.ordered
             (λ m n a b.
-            let here = All-contains (λ (x : Marker). x.rule ≡ k) (taken_at lists o k) m
+            let here = All-contains (λ (x : Marker). x.key.rule ≡ k) (taken_at lists o k) m
             (taken_rule o.place k (slice_index_or lists o.group [])) a in
-            let there = All-contains (λ (x : Marker). k + 1 ≤ x.rule)
+            let there = All-contains (λ (x : Marker). k + 1 ≤ x.key.rule)
             (joined_from lists (k + 1) os) n (rules_after (k + 1) os) b in
             stands_first m n (omega (arith, here, there)));
         ascending = All-append (λ (m : Marker). IsAscending m.met) (taken_at lists o k)
@@ -229,14 +231,14 @@ module _ (lists : List (List Marker)) where
 
 -- one more marker is looked at
 pub taken_more : (place rule : ℕ) (found : List Marker) (i : ℕ) (m : Marker) → i < length found
-    → m ≡ get_or found i m → m.rule ≡ place
+    → m ≡ get_or found i m → m.key.rule ≡ place
     → taken place rule (take (i + 1) found)
     ≡ taken place rule (take i found) ++ with_rule rule m ∷ []
 taken_more place rule found i m inside at same =
-    ap (map (with_rule rule)) (filter_more (λ (x : Marker). x.rule == place) found i m inside)
-    ∙ ap (λ (x : Marker). map (with_rule rule) (filter (λ (y : Marker). y.rule == place)
-    (take i found) ++ cond (x.rule == place) (x ∷ []) [])) (sym at)
-    ∙ ap (λ b. map (with_rule rule) (filter (λ (y : Marker). y.rule == place) (take i found)
-    ++ cond b (m ∷ []) [])) (eq-eqb m.rule place same)
-    ∙ map-append (with_rule rule) (filter (λ (y : Marker). y.rule == place) (take i found))
+    ap (map (with_rule rule)) (filter_more (λ (x : Marker). x.key.rule == place) found i m inside)
+    ∙ ap (λ (x : Marker). map (with_rule rule) (filter (λ (y : Marker). y.key.rule == place)
+    (take i found) ++ cond (x.key.rule == place) (x ∷ []) [])) (sym at)
+    ∙ ap (λ b. map (with_rule rule) (filter (λ (y : Marker). y.key.rule == place) (take i found)
+    ++ cond b (m ∷ []) [])) (eq-eqb m.key.rule place same)
+    ∙ map-append (with_rule rule) (filter (λ (y : Marker). y.key.rule == place) (take i found))
     (m ∷ [])

@@ -76,19 +76,10 @@ same_second (Enclosing l m) on other h =
 
 -- The line, and the run, of another rule.
 abbrev pub line_at : ℕ → Line → Line
-line_at rule l =
-    record { rule = rule; axis = l.axis; side = l.side; x1 = l.x1; x2 = l.x2 }
+line_at rule l = record l { rule = rule }
 
 abbrev pub key_at : ℕ → Key → Key
-key_at rule k = record {
-  rule = rule;
-  axis = k.axis;
-  side = k.side;
-  x1 = k.x1;
-  x2 = k.x2;
-  y0 = k.y0;
-  y1 = k.y1;
-}
+key_at rule k = record k { rule = rule }
 
 module _ (s part : Snapshot) (places : List ℕ) (is_part : IsPartOf s places part)
     (rule place : ℕ) (r : Rule) (of_deck : slice_get s.deck.rules rule ≡ Some r)

@@ -10,20 +10,12 @@ use Rattle.mpw_groups.specs.Parts.{IsPartOf}
 
 -- The marker as one of another rule.
 abbrev pub with_rule : ℕ → Marker → Marker
-with_rule rule m = record {
-  rule = rule;
-  axis = m.axis;
-  side = m.side;
-  x1 = m.x1;
-  x2 = m.x2;
-  y0 = m.y0;
-  y1 = m.y1;
-  met = m.met;
-}
+with_rule rule m = record m { key = record m.key { rule = rule } }
 
 -- The markers of a group's rule at an index, as those of the deck's rule at another index.
 abbrev pub taken : (place rule : ℕ) → List Marker → List Marker
-taken place rule markers = map (with_rule rule) (filter (λ (m : Marker). m.rule == place) markers)
+taken place rule markers =
+    map (with_rule rule) (filter (λ (m : Marker). m.key.rule == place) markers)
 
 -- The same from the lists of groups, for a rule.
 abbrev pub taken_at : List (List Marker) → Owner → ℕ → List Marker

@@ -4,7 +4,7 @@ ghost use Rattle.std.specs.Prelude.{◌≡◌, ◌++◌, ◌<◌, ◌^◌, lengt
 ghost use Rattle.mpw_groups.specs.Joined.{AreOwners, IsOwner, joined_from, taken, taken_at, with_rule};
 
 use crate::group::Group;
-use mpw_markers::{Book, Marker};
+use mpw_markers::{Book, Key, Marker};
 use std::alloc::{AllocError, Global};
 
 /// Where a rule is among groups.
@@ -65,16 +65,9 @@ pub fn owners_of(
 fn with_rule(marker: &Marker, rule: u32) -> Result<Marker, AllocError>
     ensures { IfOk result (λ m. m ≡ with_rule rule marker.now) }
 {
-    Ok(Marker {
-        rule,
-        axis: marker.axis,
-        side: marker.side,
-        x1: marker.x1,
-        x2: marker.x2,
-        y0: marker.y0,
-        y1: marker.y1,
-        met: marker.met.copy()?,
-    })
+    let met = marker.met.copy()?;
+    let key = Key { rule, ..marker.key };
+    Ok(Marker { key, met })
 }
 
 /// Adds the markers of a group's rule at index `place`, as those of the deck's rule at index `rule`. Cost: one pass over the group's markers.
@@ -90,7 +83,7 @@ pub fn add_rule(
     ensures { OnOk result (markers.new.items ≡ markers.old.items ++ taken place rule found.now) }
 {
     for marker in found {
-        if marker.rule as usize == place {
+        if marker.key.rule as usize == place {
             markers.push(with_rule(marker, rule)?)?;
         }
     }

@@ -10,6 +10,7 @@ use Rattle.mpw_geom.proofs.Tests.{test_from_SquareIn}
 use Rattle.mpw_deck.specs.declared.rule.Rule.{Rule}
 use Rattle.mpw_edges.specs.declared.run.Piece.{Piece}
 use Rattle.mpw_edges.specs.Laws.{AreSameIn}
+use Rattle.mpw_edges.specs.Pieces.{box_of}
 use Rattle.mpw_tiles.specs.Grid.{core_at}
 use Rattle.mpw_tiles.specs.declared.listing.Rectangle.{Rectangle}
 use Rattle.mpw_tiles.specs.Laws as tiling
@@ -28,8 +29,7 @@ use Rattle.mpw_job.specs.Computed.{steps_of, shown_on}
 use Rattle.mpw_job.specs.Layers.{first_squares, second_squares}
 use Rattle.mpw_job.specs.Internal.Cores.{is_in_core}
 use Rattle.mpw_tiles.specs.Listing.{HasListed}
-use Rattle.mpw_job.specs.Answers.{listed_on, IsFoundIn, run_of, Answers}
-use Rattle.mpw_job.specs.Internal.Keys.{run_at}
+use Rattle.mpw_job.specs.Answers.{listed_on, IsFoundIn, Answers}
 use Rattle.mpw_job.specs.Laws.{tile_job_of, CoresLieInPlane}
 use Rattle.mpw_job.proofs.Tests.{same_first, same_second, get_contains, maximal_from, run_from, rule_of}
 use Rattle.mpw_job.proofs.Shapes.{tests_tell, tests_tell_listed, shown_by, by_from, by_as}
@@ -148,13 +148,13 @@ found_alike laws s extent windows tile rule p e stand u c =
 met_alike : Laws → (s : Snapshot) (extent : Box2) (windows : List (List Rectangle)) (tile : ℕ)
     (rule : Rule) (m : Marker) (origin : ℕ) → plan_for s ≡ Some (plan_of extent s.deck)
     → StandFor s windows → tile < tiles (plan_of extent s.deck) → Contains s.deck.rules rule
-    → IsFoundIn (tile_core (plan_of extent s.deck) tile) (shown_on (shown s)) rule (run_of m)
-    → IsMet (λ o q. shown_by (shown s) o q ≡ true) (marks.box_of m) origin
-    ↔ IsMet (HasListed (get_or windows tile [])) (marks.box_of m) origin
+    → IsFoundIn (tile_core (plan_of extent s.deck) tile) (shown_on (shown s)) rule m.key.piece
+    → IsMet (λ o q. shown_by (shown s) o q ≡ true) (box_of m.key.piece) origin
+    ↔ IsMet (HasListed (get_or windows tile [])) (box_of m.key.piece) origin
 met_alike laws s extent windows tile rule m origin e stand u c run =
     let tell = laws.met s (plan_of extent s.deck) windows rule tile
     (first_squares rule.check (shown_on (shown s)))
-    (second_squares rule.check (shown_on (shown s))) (run_of m) origin e stand u c run in (
+    (second_squares rule.check (shown_on (shown s))) m.key.piece origin e stand u c run in (
       λ h. tell.0 (h.0, by_from (shown s) origin h.0 h.1, h.2),
       λ h. let i = tell.1 h in (i.0, by_as (shown s) origin i.0 i.1, i.2),
     )
@@ -176,12 +176,12 @@ answer_is laws s extent windows run tile list e stand u answers =
         (λ o q. shown_by (shown s) o q ≡ true) m
     sound m c =
         let a = answers.sound m c in
-        let in_deck = get_contains s.deck.rules m.rule a.rule a.at in
+        let in_deck = get_contains s.deck.rules m.key.rule a.rule a.at in
         let found =
-        (found_alike laws s extent windows tile a.rule (run_of m) e stand u in_deck).1 a.run in
+        (found_alike laws s extent windows tile a.rule m.key.piece e stand u in_deck).1 a.run in
         record {
           run = maximal_from laws.decides s.deck.rules (shown_on (shown s))
-              (tile_core (plan_of extent s.deck) tile) (marks.key_of m) a.rule a.at found;
+              (tile_core (plan_of extent s.deck) tile) m.key a.rule a.at found;
           ascending = a.met.ascending;
           met = λ origin.
               let same =
@@ -191,13 +191,14 @@ answer_is laws s extent windows run tile list e stand u answers =
 
     complete : (k : Key) → IsMaximal (steps_in (steps_of s.deck.rules (shown_on (shown s)))
         (is_in_core (tile_core (plan_of extent s.deck) tile))) k → (m : Marker) × Contains list m
-        × (marks.key_of m ≡ k)
+        × (m.key ≡ k)
     complete k m =
         let first = and_parts (steps_of s.deck.rules (shown_on (shown s)) (marks.line_of_key k)
-        k.y0) _ (m.rows k.y0 (omega (arith, ints)) m.filled) in
-        let r = rule_of s.deck.rules (shown_on (shown s)) (marks.line_of_key k) k.y0 first.0 in
+        k.piece.y0) _ (m.rows k.piece.y0 (omega (arith, ints)) m.filled) in
+        let r =
+        rule_of s.deck.rules (shown_on (shown s)) (marks.line_of_key k) k.piece.y0 first.0 in
         let in_deck = get_contains s.deck.rules k.rule r.rule r.at in
         let found = run_from laws.decides s.deck.rules (shown_on (shown s))
         (tile_core (plan_of extent s.deck) tile) k r.rule r.at m in
-        answers.complete k.rule r.rule (run_at k) r.at
-        ((found_alike laws s extent windows tile r.rule (run_at k) e stand u in_deck).0 found)
+        answers.complete k.rule r.rule k.piece r.at
+        ((found_alike laws s extent windows tile r.rule k.piece e stand u in_deck).0 found)

@@ -20,8 +20,8 @@ use Rattle.mpw_hier.specs.Items.{Item}
 use Rattle.mpw_tiles.specs.Laws.{SquaresLieInExtents}
 use Rattle.mpw_tiles.specs.Snapshots.{shown, shown_extent}
 use Rattle.mpw_markers.specs.declared.marker.Key.{Key}
-use Rattle.mpw_edges.specs.Pieces.{box_on, IsStepOn}
-use Rattle.mpw_markers.specs.Markers.{key_of, line_of_key}
+use Rattle.mpw_edges.specs.Pieces.{box_on, box_of, IsStepOn}
+use Rattle.mpw_markers.specs.Markers.{line_of_key}
 use Rattle.mpw_markers.specs.Book.{IsBook}
 use Rattle.mpw_geom.specs.Meeting.{IsMet}
 use Rattle.mpw_markers.specs.Whole.{IsMaximal}
@@ -182,19 +182,21 @@ some_met rule on has tells H side x1 x2 y0 y1 lt h =
 
 key_met : TestDecidesPairSteps → (rules : List Rule) (items : List Item) (k : Key)
     → IsMaximal (steps_of rules (shown_on items)) k
-    → (origin : ℕ) × IsMet (HasShown items) (box_on k.axis k.x1 k.x2 k.y0 k.y1) origin
+    → (origin : ℕ) × IsMet (HasShown items) (box_of k.piece) origin
 key_met law rules items k m =
-    let r = rule_of rules (shown_on items) (line_of_key k) k.y0
-    (m.rows k.y0 (omega (arith, ints)) m.filled) in
-    some_met r.rule (shown_on items) (HasShown items) (shown_seen items) k.axis k.side k.x1 k.x2
-    k.y0 k.y1 m.filled
+    let r = rule_of rules (shown_on items) (line_of_key k) k.piece.y0
+    (m.rows k.piece.y0 (omega (arith, ints)) m.filled) in
+    some_met r.rule (shown_on items) (HasShown items) (shown_seen items) k.piece.axis k.piece.side
+    k.piece.x1 k.piece.x2
+    k.piece.y0 k.piece.y1 m.filled
     (step_on law r.rule (first_squares r.rule.check (shown_on items))
-    (second_squares r.rule.check (shown_on items)) k.axis k.side k.x1 k.x2 k.y0 r.step)
+    (second_squares r.rule.check (shown_on items)) k.piece.axis k.piece.side k.piece.x1 k.piece.x2
+    k.piece.y0 r.step)
 
 pub each_meets : TestDecidesPairSteps → EachMarkerMeetsSome
 each_meets law s markers m h c =
     let k = (tested_from law s.deck.rules (shown s) markers h).1.sound m c in
-    let p = key_met law s.deck.rules (shown s) (key_of m) k.run in
+    let p = key_met law s.deck.rules (shown s) m.key k.run in
     (p.0, (k.met p.0).1 p.1)
 
 empty_book : IsBook []

@@ -36,8 +36,8 @@ run_of_test : (steps : Line → ℤ → Bool) (Passes : Line → ℤ → Type 0)
 run_of_test steps Passes same k m = record {
   filled = m.filled;
   rows = λ j l h. (same (line_of_key k) j).0 (m.rows j l h);
-  below = λ p. false≢true (sym m.below ∙ (same (line_of_key k) (k.y0 -ℤ pos 1)).1 p);
-  above = λ p. false≢true (sym m.above ∙ (same (line_of_key k) k.y1).1 p);
+  below = λ p. false≢true (sym m.below ∙ (same (line_of_key k) (k.piece.y0 -ℤ pos 1)).1 p);
+  above = λ p. false≢true (sym m.above ∙ (same (line_of_key k) k.piece.y1).1 p);
 }
 
 test_of_run : (steps : Line → ℤ → Bool) (Passes : Line → ℤ → Type 0) → Decides steps Passes
@@ -45,8 +45,8 @@ test_of_run : (steps : Line → ℤ → Bool) (Passes : Line → ℤ → Type 0)
 test_of_run steps Passes same k m = record {
   filled = m.filled;
   rows = λ j l h. (same (line_of_key k) j).1 (m.rows j l h);
-  below = is_false _ (λ e. m.below ((same (line_of_key k) (k.y0 -ℤ pos 1)).0 e));
-  above = is_false _ (λ e. m.above ((same (line_of_key k) k.y1).0 e));
+  below = is_false _ (λ e. m.below ((same (line_of_key k) (k.piece.y0 -ℤ pos 1)).0 e));
+  above = is_false _ (λ e. m.above ((same (line_of_key k) k.piece.y1).0 e));
 }
 
 of_runs : (steps : Line → ℤ → Bool) (Passes : Line → ℤ → Type 0) → Decides steps Passes

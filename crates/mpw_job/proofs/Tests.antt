@@ -29,7 +29,6 @@ use Rattle.mpw_job.specs.Computed.{has_step_on, has_step_of, steps_of}
 use Rattle.mpw_job.specs.Layers.{Coverage, first_squares, second_squares, HasPairStep}
 use Rattle.mpw_job.specs.Internal.Cores.{square_on, is_in_core}
 use Rattle.mpw_job.specs.Answers.{IsFoundIn}
-use Rattle.mpw_job.specs.Internal.Keys.{run_at}
 
 pub or_parts : (a b : Bool) → (a || b) ≡ true → (a ≡ true) ⊎ (b ≡ true)
 or_parts true b e = inl refl
@@ -139,7 +138,7 @@ step_from law rule a b core H side x1 x2 j e =
 
 abbrev HasRow : Rule → Coverage → Box2 → Key → ℤ → Type 0
 HasRow rule on core k j = HasStep rule (first_squares rule.check on) (second_squares rule.check on)
-    core k.axis k.side k.x1 k.x2 j
+    core k.piece.axis k.piece.side k.piece.x1 k.piece.x2 j
 
 pub row_test : TestDecidesPairSteps
     → (rules : List Rule) (on : Coverage) (core : Box2) (k : Key) (rule : Rule) (j : ℤ)
@@ -148,8 +147,9 @@ pub row_test : TestDecidesPairSteps
 row_test law rules on core k rule j at h =
     subst (λ (o : Option Rule). (has_step_of o on (line_of_key k) j
     && is_in_core core (line_of_key k) j) ≡ true) (sym at)
-    (step_test law rule (first_squares rule.check on) (second_squares rule.check on) core k.axis
-    k.side k.x1 k.x2 j h)
+    (step_test law rule (first_squares rule.check on) (second_squares rule.check on) core
+    k.piece.axis
+    k.piece.side k.piece.x1 k.piece.x2 j h)
 
 pub row_from : TestDecidesPairSteps
     → (rules : List Rule) (on : Coverage) (core : Box2) (k : Key) (rule : Rule) (j : ℤ)
@@ -157,32 +157,34 @@ pub row_from : TestDecidesPairSteps
     → steps_in (steps_of rules on) (is_in_core core) (line_of_key k) j ≡ true
     → HasRow rule on core k j
 row_from law rules on core k rule j at e =
-    step_from law rule (first_squares rule.check on) (second_squares rule.check on) core k.axis
-    k.side k.x1 k.x2 j
+    step_from law rule (first_squares rule.check on) (second_squares rule.check on) core
+    k.piece.axis
+    k.piece.side k.piece.x1 k.piece.x2 j
     (subst (λ (o : Option Rule). (has_step_of o on (line_of_key k) j
     && is_in_core core (line_of_key k) j) ≡ true) at e)
 
 pub maximal_from : TestDecidesPairSteps
     → (rules : List Rule) (on : Coverage) (core : Box2) (k : Key) (rule : Rule)
-    → slice_get rules k.rule ≡ Some rule → IsFoundIn core on rule (run_at k)
+    → slice_get rules k.rule ≡ Some rule → IsFoundIn core on rule k.piece
     → IsMaximal (steps_in (steps_of rules on) (is_in_core core)) k
 maximal_from law rules on core k rule at p = record {
   filled = p.filled;
   rows = λ j l h. row_test law rules on core k rule j at (p.steps j l h);
-  below = is_false _ (λ e. p.below (row_from law rules on core k rule (k.y0 -ℤ pos 1) at e));
-  above = is_false _ (λ e. p.above (row_from law rules on core k rule k.y1 at e));
+  below = is_false _ (λ e. p.below (row_from law rules on core k rule (k.piece.y0 -ℤ pos 1) at e));
+  above = is_false _ (λ e. p.above (row_from law rules on core k rule k.piece.y1 at e));
 }
 
 pub run_from : TestDecidesPairSteps
     → (rules : List Rule) (on : Coverage) (core : Box2) (k : Key) (rule : Rule)
     → slice_get rules k.rule ≡ Some rule
     → IsMaximal (steps_in (steps_of rules on) (is_in_core core)) k
-    → IsFoundIn core on rule (run_at k)
+    → IsFoundIn core on rule k.piece
 run_from law rules on core k rule at m = record {
   filled = m.filled;
   steps = λ j l h. row_from law rules on core k rule j at (m.rows j l h);
-  below = λ s. false≢true (sym m.below ∙ row_test law rules on core k rule (k.y0 -ℤ pos 1) at s);
-  above = λ s. false≢true (sym m.above ∙ row_test law rules on core k rule k.y1 at s);
+  below =
+      λ s. false≢true (sym m.below ∙ row_test law rules on core k rule (k.piece.y0 -ℤ pos 1) at s);
+  above = λ s. false≢true (sym m.above ∙ row_test law rules on core k rule k.piece.y1 at s);
 }
 
 -- a step has a rule

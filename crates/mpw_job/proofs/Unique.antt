@@ -5,19 +5,20 @@ use Rattle.std.proofs.lemmas.Int.{ints}
 use Rattle.std.proofs.lemmas.List.Elements.{All-get_or}
 use Rattle.mpw_geom.specs.declared.plane.Box2.{Box2}
 use Rattle.mpw_geom.specs.Plane.{Square}
+use Rattle.mpw_edges.specs.Pieces.{box_of}
 use Rattle.mpw_markers.specs.declared.marker.Key.{Key}
 use Rattle.mpw_markers.specs.declared.marker.Line.{Line}
 use Rattle.mpw_markers.specs.declared.marker.Marker.{Marker}
 use Rattle.mpw_markers.specs.Book.{IsBook}
-use Rattle.mpw_markers.specs.Markers.{line_of, line_of_key, key_of, box_of, IsFilled}
+use Rattle.mpw_markers.specs.Markers.{line_of, line_of_key, IsFilled}
 use Rattle.mpw_markers.specs.Order.{StandsBefore}
 use Rattle.mpw_geom.specs.Meeting.{IsMet}
 use Rattle.mpw_markers.specs.Whole.{AreMarkersOf}
 use Rattle.mpw_markers.proofs.Order.{line_total, line_before}
-use Rattle.mpw_markers.proofs.Unique.{same_in_order, same_numbers, same_marker}
+use Rattle.mpw_markers.proofs.Marked.{same_marker}
+use Rattle.mpw_markers.proofs.Unique.{same_in_order, same_numbers}
 use Rattle.mpw_edges.specs.Computed.{TestDecidesPairSteps}
 use Rattle.mpw_tiles.specs.Snapshots.{shown}
-use Rattle.mpw_job.specs.Internal.Keys.{key_box}
 use Rattle.mpw_job.specs.Laws.{LayoutDeterminesMarkers}
 use Rattle.mpw_job.proofs.Flat.{tested_from}
 
@@ -47,19 +48,19 @@ in_both : (steps : Line → ℤ → Bool) (has : ℕ → Square → Type 0) (a b
     → AreMarkersOf steps has b → Contains a m → Contains b m
 in_both steps has a b m f g c =
     let own = f.sound m c in
-    let other = g.complete (key_of m) own.run in
+    let other = g.complete m.key own.run in
     let n : Marker = other.0 in
-    let keys : key_of n ≡ key_of m = other.2 in
+    let keys : n.key ≡ m.key = other.2 in
     let told = g.sound n other.1 in
-    let boxes : box_of n ≡ box_of m = ap key_box keys in
+    let boxes : box_of n.key.piece ≡ box_of m.key.piece = ap (λ (k : Key). box_of k.piece) keys in
     let met : n.met ≡ m.met = same_numbers n.met m.met told.ascending own.ascending (λ origin. (
       λ k. (own.met origin).1 (subst (λ (x : Box2). IsMet has x origin) boxes
           ((told.met origin).0 k)),
       λ k. (told.met origin).1 (subst (λ (x : Box2). IsMet has x origin) (sym boxes)
           ((own.met origin).0 k)),
     )) in
-    subst (Contains b) (same_marker n m (ap line_of_key keys) (ap (λ (k : Key). k.y0) keys)
-    (ap (λ (k : Key). k.y1) keys) met) other.1
+    subst (Contains b) (same_marker n m (ap line_of_key keys) (ap (λ (k : Key). k.piece.y0) keys)
+    (ap (λ (k : Key). k.piece.y1) keys) met) other.1
 
 pub one_list : TestDecidesPairSteps → LayoutDeterminesMarkers
 one_list law s first second h k =

@@ -8,12 +8,11 @@ use Rattle.mpw_geom.specs.declared.plane.Box2.{Box2}
 use Rattle.mpw_geom.specs.Plane.{has_square, IsBoxInPlane}
 use Rattle.mpw_deck.specs.declared.rule.Rule.{Rule}
 use Rattle.mpw_edges.specs.declared.run.Piece.{Piece}
-use Rattle.mpw_edges.specs.Pieces.{IsPiece, piece_cmp}
+use Rattle.mpw_edges.specs.Pieces.{IsPiece, piece_cmp, box_of}
 use Rattle.mpw_tiles.specs.declared.listing.Rectangle.{Rectangle}
 use Rattle.mpw_tiles.specs.Listing.{HasListed}
 use Rattle.mpw_markers.specs.declared.marker.Key.{Key}
 use Rattle.mpw_markers.specs.declared.marker.Marker.{Marker}
-use Rattle.mpw_markers.specs.Markers.{key_of, box_of}
 use Rattle.mpw_markers.specs.Met.{IsAscending}
 use Rattle.mpw_geom.specs.Meeting.{IsMet}
 use Rattle.mpw_geom.specs.Layers.{same_layer}
@@ -42,36 +41,26 @@ abbrev pub IsFoundIn : Box2 → Coverage → Rule → Piece → Type 0
 IsFoundIn core on rule p =
     IsPiece rule (first_squares rule.check on) (second_squares rule.check on) core p
 
--- The marker as a run, and the key of a run of the rule at that index.
-abbrev pub run_of : Marker → Piece
-run_of m = record { axis = m.axis; side = m.side; x1 = m.x1; x2 = m.x2; y0 = m.y0; y1 = m.y1 }
-
+-- The key of a run of the rule at that index.
 abbrev pub key_at : ℕ → Piece → Key
-key_at place p = record {
-  rule = place;
-  axis = p.axis;
-  side = p.side;
-  x1 = p.x1;
-  x2 = p.x2;
-  y0 = p.y0;
-  y1 = p.y1;
-}
+key_at place p = record { rule = place; piece = p }
 
 -- The marker's numbers are those of the listed origins with a closed unit square that touches its closed box, on any layer.
 pub record TellsMet (listed : List Rectangle) (m : Marker) : Type 0 where
   pub ascending : IsAscending m.met
-  pub exact : (origin : ℕ) → Contains m.met origin ↔ IsMet (HasListed listed) (box_of m) origin
+  pub exact : (origin : ℕ) → Contains m.met origin ↔ IsMet (HasListed listed) (box_of m.key.piece)
+      origin
 
 -- A maximal run of the marker's rule, with what it touches.
 pub record IsAnswer (job : TileJob) (m : Marker) : Type 0 where
   pub rule : Rule
-  pub at : slice_get job.rules m.rule ≡ Some rule
-  pub run : IsFoundIn job.core (listed_on job.window) rule (run_of m)
+  pub at : slice_get job.rules m.key.rule ≡ Some rule
+  pub run : IsFoundIn job.core (listed_on job.window) rule m.key.piece
   pub met : TellsMet job.window m
 
 -- Markers by the rule's index, then by axis, V before H, side, x1, x2 and y0.
 abbrev pub marker_cmp : Marker → Marker → Ordering
-marker_cmp m n = ordering_then (nat_cmp m.rule n.rule) (piece_cmp (run_of m) (run_of n))
+marker_cmp m n = ordering_then (nat_cmp m.key.rule n.key.rule) (piece_cmp m.key.piece n.key.piece)
 
 abbrev pub ComesBefore : Marker → Marker → Type 0
 ComesBefore m n = marker_cmp m n ≡ Less
@@ -82,5 +71,5 @@ pub record Answers (job : TileJob) (markers : List Marker) : Type 0 where
   pub sound : (m : Marker) → Contains markers m → IsAnswer job m
   pub complete : (place : ℕ) (rule : Rule) (p : Piece) → slice_get job.rules place ≡ Some rule
       → IsFoundIn job.core (listed_on job.window) rule p
-      → (m : Marker) × Contains markers m × (key_of m ≡ key_at place p)
+      → (m : Marker) × Contains markers m × (m.key ≡ key_at place p)
   pub ordered : AllPairs ComesBefore markers

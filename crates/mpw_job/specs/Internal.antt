@@ -1,3 +1,2 @@
 -- Definitions for private functions and proofs. No public contract refers to them.
 pub mod Cores
-pub mod Keys

@@ -13,13 +13,17 @@ added old mid new xs ys e f =
     ∙ append_assoc old (map of_first xs) (map of_first ys)
     ∙ ap (λ (ms : List Marker). old ++ ms) (sym (map-append of_first xs ys))
 
+abbrev touching : Key → List ℕ → Marker
+touching k met = record { key = k; met = met }
+
 -- the marker of the next key
-pub next_added : (old mid new : List Marker) (keys : List Key) (i : ℕ) (d : Key) (m : Marker)
-    → i < length keys → mid ≡ old ++ map of_first (take i keys) → new ≡ mid ++ m ∷ []
-    → m ≡ of_first (get_or keys i d) → new ≡ old ++ map of_first (take (i + 1) keys)
-next_added old mid new keys i d m lt e f g =
+pub next_added : (old mid new : List Marker) (keys : List Key) (i : ℕ) (d : Key)
+    (met : List ℕ) → i < length keys → mid ≡ old ++ map of_first (take i keys)
+    → new ≡ mid ++ touching (get_or keys i d) met ∷ [] → met ≡ 0 ∷ []
+    → new ≡ old ++ map of_first (take (i + 1) keys)
+next_added old mid new keys i d met lt e f g =
     added old mid new (take i keys) (get_or keys i d ∷ []) e
-    (f ∙ ap (λ (x : Marker). mid ++ x ∷ []) g)
+    (f ∙ ap (λ (ns : List ℕ). mid ++ touching (get_or keys i d) ns ∷ []) g)
     ∙ ap (λ (ks : List Key). old ++ map of_first ks) (sym (take_more keys i d lt))
 
 -- those of the next list
@@ -35,7 +39,8 @@ next_list {X = X} f old mid new lists i x ys lt is e g h =
     ∙ ap (flat_map f) (ap (λ (y : X). take i lists ++ y ∷ []) is
     ∙ sym (take_more lists i x lt)))
 
-pub all_added : {X : Type 0} (f : List X → List Key) (old new : List Marker) (lists : List X) (i : ℕ)
+pub all_added : {X : Type 0} (f : List X → List Key) (old new : List Marker) (lists : List X)
+    (i : ℕ)
     → length lists ≤ i → new ≡ old ++ map of_first (f (take i lists))
     → new ≡ old ++ map of_first (f lists)
 all_added {X = X} f old new lists i le e =

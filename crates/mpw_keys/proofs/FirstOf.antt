@@ -153,7 +153,7 @@ module _ (most rules : ℕ) (firsts : List Firsts) (upright across : List Placed
 
   of_book : (place : ℕ) → place < rules → of_rule book place ≡ map of_first (whole place)
   of_book place lt =
-      filter_mapped (λ m. m.rule == place) of_first (together rules vs hs)
+      filter_mapped (λ m. m.key.rule == place) of_first (together rules vs hs)
       ∙ ap (map of_first) (those_of rules whole (λ n. together n vs hs) book_joined rules place
       (le_refl rules) lt)
 
@@ -170,7 +170,7 @@ module _ (most rules : ℕ) (firsts : List Firsts) (upright across : List Placed
           keys = whole place;
           all = of_book place lt;
           some =
-              filter_mapped (λ m. m.rule == place) of_first
+              filter_mapped (λ m. m.key.rule == place) of_first
               (first_placed most firsts upright across rules)
               ∙ ap (map of_first) (those_of rules (λ rule. take most (whole rule))
               (λ n. first_placed most firsts upright across n) first_joined rules place
@@ -178,12 +178,12 @@ module _ (most rules : ℕ) (firsts : List Firsts) (upright across : List Placed
         }
         | inr le ↦ record {
           keys = [];
-          all = filter_mapped (λ m. m.rule == place) of_first (together rules vs hs)
+          all = filter_mapped (λ m. m.key.rule == place) of_first (together rules vs hs)
               ∙ ap (map of_first) (none_later rules whole (λ n. together n vs hs) book_joined rules
               place
               (le_refl rules) le);
           some =
-              filter_mapped (λ m. m.rule == place) of_first
+              filter_mapped (λ m. m.key.rule == place) of_first
               (first_placed most firsts upright across rules)
               ∙ ap (map of_first) (none_later rules (λ rule. take most (whole rule))
               (λ n. first_placed most firsts upright across n) first_joined rules place

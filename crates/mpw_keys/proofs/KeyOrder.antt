@@ -23,8 +23,9 @@ use Rattle.mpw_keys.specs.Keys.{list_number, key_cmp, AreInOrder, displaced_key}
 pub key_total : IsTotalOrder key_cmp
 key_total =
     then_total (on_total list_number nat_cmp_total)
-    (then_total (on_total (λ k. k.x1) int_cmp_total)
-    (then_total (on_total (λ k. k.x2) int_cmp_total) (on_total (λ k. k.y0) int_cmp_total)))
+    (then_total (on_total (λ k. k.piece.x1) int_cmp_total)
+    (then_total (on_total (λ k. k.piece.x2) int_cmp_total)
+    (on_total (λ k. k.piece.y0) int_cmp_total)))
 
 -- by the clause of the sort
 pub sorted_from_sort : {F : Type 0} {g : Mut F (Bor Key × (Bor Key × Unit {0})) Ordering} {f : F}
@@ -48,7 +49,8 @@ pub in_order : (xs ys : List Key) → IsSorted key_cmp xs → ys ≡ dedup (eq_b
     → AreInOrder ys
 in_order xs ys h e =
     subst AreInOrder (sym e)
-    (strictly (dedup (eq_by_cmp key_cmp) xs) (IsStrictlySortedBy-dedup key_total (λ x y. refl) xs h))
+    (strictly (dedup (eq_by_cmp key_cmp) xs)
+    (IsStrictlySortedBy-dedup key_total (λ x y. refl) xs h))
 
 pub none_added : (xs ys : List Key) (k : Key) → ys ≡ dedup (eq_by_cmp key_cmp) xs → Contains ys k
     → Contains xs k
@@ -81,7 +83,8 @@ module _ {X : Type 0} where
 
   none_of : (p : X → Bool) (xs : List X) → All (λ x. p x ≡ false) xs → filter p xs ≡ []
   none_of p [] h = refl
-  none_of p (x ∷ xs) h = rw (h 0 x (omega arith)) (none_of p xs (λ k d l. h (suc k) d (omega (arith, l))))
+  none_of p (x ∷ xs) h = rw (h 0 x (omega arith))
+      (none_of p xs (λ k d l. h (suc k) d (omega (arith, l))))
 
   all_of : (p : X → Bool) (xs : List X) → All (λ x. p x ≡ true) xs → filter p xs ≡ xs
   all_of p [] h = refl
@@ -123,7 +126,8 @@ module _ {X : Type 0} where
             let inside : k < count = omega (arith, l, small) in
             subst (λ (x : X). is x ≡ true) (sym (get_or-take count rest k d inside))
             (there (get_or rest k d)
-            (within_drop (λ x. ltb (n x) t ≡ false) xs before first.1 k d (omega (arith, inside, within)))
+            (within_drop (λ x. ltb (n x) t ≡ false) xs before first.1 k d
+            (omega (arith, inside, within)))
             (second.0 k d (omega arith) inside)))
 
         back : filter is (drop count rest) ≡ []
@@ -155,7 +159,8 @@ numbers_rise keys h i j d le lt = at (cases_lt i j)
     at (inl less) = lists_rise (get_or keys i d) (get_or keys j d) (h i j d less lt)
     at (inr more) =
         let same : i ≡ j = omega (arith, le, more) in
-        subst (λ (m : ℕ). list_number (get_or keys i d) ≤ list_number (get_or keys m d)) same (omega arith)
+        subst (λ (m : ℕ). list_number (get_or keys i d) ≤ list_number (get_or keys m d)) same
+        (omega arith)
 
 -- ---- keys that are displaced
 
@@ -164,11 +169,12 @@ cmp_on by x y = grind (arith, ints)
 
 key_cmp_on : (by : ℤ) (k l : Key) → key_cmp (displaced_key by k) (displaced_key by l) ≡ key_cmp k l
 key_cmp_on by k l =
-    let first = cmp_on by k.x1 l.x1 in
-    let second = cmp_on by k.x2 l.x2 in
+    let first = cmp_on by k.piece.x1 l.piece.x1 in
+    let second = cmp_on by k.piece.x2 l.piece.x2 in
     rw first (rw second refl)
 
-pub order_kept : (by : ℤ) (keys : List Key) → AreInOrder keys → AreInOrder (map (displaced_key by) keys)
+pub order_kept : (by : ℤ) (keys : List Key) → AreInOrder keys
+    → AreInOrder (map (displaced_key by) keys)
 order_kept by [] h = λ i j d lt within. absurd (omega arith)
 order_kept by (k ∷ ks) h =
     AllPairs-cons (λ x y. key_cmp x y ≡ Less) (displaced_key by k) (map (displaced_key by) ks)

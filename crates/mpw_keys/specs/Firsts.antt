@@ -95,13 +95,13 @@ pub record IsListed (most lists : ℕ) (firsts : List Firsts) (p : Placed) (keys
 
 -- Each key is of one of the two sides.
 abbrev pub HasSide : Key → Type 0
-HasSide k = k.side < 2
+HasSide k = k.piece.side < 2
 
 -- ---- markers by rule
 
 -- The markers of the rule at that index in the deck.
 abbrev pub of_rule : List Marker → ℕ → List Marker
-of_rule markers place = filter (λ m. m.rule == place) markers
+of_rule markers place = filter (λ m. m.key.rule == place) markers
 
 -- The first markers of each rule, at most `most`, are the same.
 abbrev pub AgreeFirst : (most : ℕ) → List Marker → List Marker → Type 0

@@ -9,12 +9,13 @@ use Rattle.mpw_markers.specs.declared.marker.Marker.{Marker}
 
 -- The number of the key's list among those of its axis: two for each rule, one for each side.
 abbrev pub list_number : Key → ℕ
-list_number k = 2 * k.rule + k.side
+list_number k = 2 * k.rule + k.piece.side
 
 -- Keys of one axis by the number of their list, x1, x2 and y0.
 abbrev pub key_cmp : Key → Key → Ordering
 key_cmp k l = ordering_then (nat_cmp (list_number k) (list_number l))
-    (ordering_then (int_cmp k.x1 l.x1) (ordering_then (int_cmp k.x2 l.x2) (int_cmp k.y0 l.y0)))
+    (ordering_then (int_cmp k.piece.x1 l.piece.x1)
+    (ordering_then (int_cmp k.piece.x2 l.piece.x2) (int_cmp k.piece.y0 l.piece.y0)))
 
 abbrev pub AreInOrder : List Key → Type 0
 AreInOrder keys = AllPairs (λ k l. key_cmp k l ≡ Less) keys
@@ -32,15 +33,8 @@ are_in_order (k ∷ ks) = comes_before_next k ks && are_in_order ks
 
 -- The key, displaced across its edges.
 abbrev pub displaced_key : ℤ → Key → Key
-displaced_key by k = record {
-  rule = k.rule;
-  axis = k.axis;
-  side = k.side;
-  x1 = k.x1 +ℤ by;
-  x2 = k.x2 +ℤ by;
-  y0 = k.y0;
-  y1 = k.y1;
-}
+displaced_key by k =
+    record k { piece = record k.piece { x1 = k.piece.x1 +ℤ by; x2 = k.piece.x2 +ℤ by } }
 
 -- The number is within bounds: an edge that a column finds, or the distance of two columns.
 pub record IsNear (x : ℤ) : Type 0 where
@@ -49,8 +43,8 @@ pub record IsNear (x : ℤ) : Type 0 where
 
 -- Both of the key's edges are within bounds.
 pub record HasNearEdges (k : Key) : Type 0 where
-  pub first : IsNear k.x1
-  pub second : IsNear k.x2
+  pub first : IsNear k.piece.x1
+  pub second : IsNear k.piece.x2
 
 -- ---- together
 
@@ -75,13 +69,4 @@ together (suc n) upright across = together n upright across ++ lists_of_rule upr
 
 -- The marker of the key, which touches only the first submission.
 abbrev pub of_first : Key → Marker
-of_first k = record {
-  rule = k.rule;
-  axis = k.axis;
-  side = k.side;
-  x1 = k.x1;
-  x2 = k.x2;
-  y0 = k.y0;
-  y1 = k.y1;
-  met = 0 ∷ [];
-}
+of_first k = record { key = k; met = 0 ∷ [] }

@@ -9,6 +9,7 @@ ghost use Rattle.mpw_markers.specs.declared.marker.Key.{Key as KeyValue};
 ghost use Rattle.mpw_keys.specs.Keys.{list_number, key_cmp, is_of_list, AreInOrder, are_in_order, displaced_key, IsNear, HasNearEdges};
 
 use crate::laws::test_decides_order;
+use mpw_edges::Piece;
 use mpw_markers::Key;
 use std::alloc::{AllocError, Global};
 use std::cmp::Ordering;
@@ -18,7 +19,8 @@ use std::marker::Model;
 fn list_number(key: &Key) -> u64
     ensures { result ≡ list_number key.now }
 {
-    2 * u64::from(key.rule) + u64::from(key.side)
+    let Piece { side, .. } = key.piece;
+    2 * u64::from(key.rule) + u64::from(side)
 }
 
 /// Which of two keys of one axis comes first.
@@ -26,8 +28,9 @@ fn key_order(first: &Key, second: &Key) -> Ordering
     ensures { result ≡ key_cmp first.now second.now }
 {
     let lists = list_number(first).cmp(&list_number(second));
-    let edges = first.x1.cmp(&second.x1);
-    let rows = first.x2.cmp(&second.x2).then(first.y0.cmp(&second.y0));
+    let edges = first.piece.x1.cmp(&second.piece.x1);
+    let ends = first.piece.x2.cmp(&second.piece.x2);
+    let rows = ends.then(first.piece.y0.cmp(&second.piece.y0));
     lists.then(edges.then(rows))
 }
 
@@ -79,15 +82,10 @@ pub(crate) fn displaced_key(key: &Key, by: i64) -> Key
     requires by { IsNear by }
     ensures { result ≡ displaced_key by key.now }
 {
-    Key {
-        rule: key.rule,
-        axis: key.axis,
-        side: key.side,
-        x1: key.x1 + by,
-        x2: key.x2 + by,
-        y0: key.y0,
-        y1: key.y1,
-    }
+    let mut displaced = *key;
+    displaced.piece.x1 += by;
+    displaced.piece.x2 += by;
+    displaced
 }
 
 /// The keys, each displaced. The only error is out of memory.

@@ -3,28 +3,12 @@
 //! A book is sorted by rule, axis `V` before `H`, side, `x1`, `x2` and `y0`. Columns are adjacent and in order, so the list of a rule, an axis and a
 //! side is the concatenation of its columns' lists. No list is sorted beyond its column, and each marker is written once, where it stays.
 
-ghost use Rattle.std.specs.Prelude.{◌≡◌, ◌++◌, [], ◌∷◌, IfOk, OnOk, map};
+ghost use Rattle.std.specs.Prelude.{◌≡◌, ◌++◌, IfOk, OnOk, map};
 ghost use Rattle.mpw_keys.specs.Keys.{list_of, lists_of_sides, lists_of_rule, together, of_first};
 
 use crate::keys::ColumnKeys;
 use mpw_markers::{Key, Marker, Met};
 use std::alloc::{AllocError, Global};
-
-/// The marker with this key, which touches these submissions.
-pub(crate) fn marker(key: &Key, met: Met) -> Marker
-    ensures { met ≡ 0 ∷ [] → result ≡ of_first key.now }
-{
-    Marker {
-        rule: key.rule,
-        axis: key.axis,
-        side: key.side,
-        x1: key.x1,
-        x2: key.x2,
-        y0: key.y0,
-        y1: key.y1,
-        met,
-    }
-}
 
 /// Adds the markers of these keys, each of which touches only the first submission.
 fn add_markers(alloc: Global, markers: &mut Vec<Marker>, keys: &[Key]) -> Result<(), AllocError>
@@ -32,7 +16,7 @@ fn add_markers(alloc: Global, markers: &mut Vec<Marker>, keys: &[Key]) -> Result
 {
     for key in keys {
         let met = Met::of(alloc, &[0])?;
-        markers.push(marker(key, met))?;
+        markers.push(Marker { key: *key, met })?;
     }
     Ok(())
 }

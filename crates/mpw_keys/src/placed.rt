@@ -8,7 +8,6 @@ ghost use Rattle.mpw_keys.specs.Firsts.{capped, placed_count, rule_counted, side
 
 use crate::first::{First, Firsts};
 use crate::keys::displaced_key;
-use crate::lists::marker;
 use mpw_markers::{Key, Marker, Met};
 use std::alloc::{AllocError, Global};
 
@@ -49,7 +48,8 @@ impl Together {
         let (first, _) = keys.split_at(self.room.min(keys.len()));
         for key in first {
             let met = Met::of(alloc, &[0])?;
-            self.markers.push(marker(&displaced_key(key, by), met))?;
+            let key = displaced_key(key, by);
+            self.markers.push(Marker { key, met })?;
         }
         self.room = self.room.saturating_sub(keys.len());
         Ok(())

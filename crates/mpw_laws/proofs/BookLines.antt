@@ -9,7 +9,6 @@ use Rattle.std.proofs.lemmas.Option.{slice_get-map}
 use Rattle.mpw_deck.specs.declared.rule.Rule.{Rule}
 use Rattle.mpw_hier.specs.declared.submission.Submission.{Submission}
 use Rattle.mpw_markers.specs.declared.marker.Marker.{Marker}
-use Rattle.mpw_markers.specs.Markers.{key_of}
 use Rattle.mpw_roles.specs.Hierarchy.{Name}
 use Rattle.mpw_permissions.specs.declared.permission.Object.TheVariants as objects
 use Rattle.mpw_permissions.specs.declared.permission.Operation.TheVariants.{Read}
@@ -85,15 +84,15 @@ module _ (policy : Policy) (connection : ℕ) where
       → Readable (line_for shelf m o)
   of_line shelf m None full = none
   of_line shelf m (Some rule) full = All-cons (IsOfReadable policy connection)
-      (marker rule.name (key_of m) (met_cells shelf m.met)) [] (of_cells shelf m.met full) none
+      (marker rule.name m.key (met_cells shelf m.met)) [] (of_cells shelf m.met full) none
 
   of_marker : (rules : List Rule) (shelf : List Submission) (m : Marker)
       → Readable (full_line rules shelf (seen_by policy connection shelf) m)
   of_marker rules shelf m = go (is_full (seen_by policy connection shelf) m) refl
     where
       go : (b : Bool) → is_full (seen_by policy connection shelf) m ≡ b
-          → Readable (cond b (line_for shelf m (slice_get rules m.rule)) [])
-      go true full = of_line shelf m (slice_get rules m.rule) full
+          → Readable (cond b (line_for shelf m (slice_get rules m.key.rule)) [])
+      go true full = of_line shelf m (slice_get rules m.key.rule) full
       go false other = none
 
   of_full : (rules : List Rule) (shelf : List Submission) (book : List Marker)

@@ -31,7 +31,7 @@ full_not_hidden seen m some full =
 module _ (seen : List Bool) (m : Marker) (hidden : is_hidden seen m ≡ true)
     (part : is_full seen m ≡ false) where
   no_full : (rules : List Rule) (shelf : List Submission) → full_line rules shelf seen m ≡ []
-  no_full rules shelf = ap (λ b. cond b (line_for shelf m (slice_get rules m.rule)) []) part
+  no_full rules shelf = ap (λ b. cond b (line_for shelf m (slice_get rules m.key.rule)) []) part
 
   not_masked : is_masked seen m ≡ false
   not_masked = go (is_full seen m) (is_hidden seen m) hidden
@@ -56,9 +56,9 @@ module _ (seen : List Bool) (m : Marker) (hidden : is_hidden seen m ≡ true)
         (before ++ behind) place
     unfolding masked_number
     same_number place =
-        let test : Marker → Bool = λ x. (x.rule == place) && is_masked seen x in
-        let fails : test m ≡ false = ap (λ b. (m.rule == place) && b) not_masked
-        ∙ none (m.rule == place) in
+        let test : Marker → Bool = λ x. (x.key.rule == place) && is_masked seen x in
+        let fails : test m ≡ false = ap (λ b. (m.key.rule == place) && b) not_masked
+        ∙ none (m.key.rule == place) in
         ap length (filter-append test before (m ∷ behind)
         ∙ ap (λ b. filter test before ++ cond b (m ∷ filter test behind) (filter test behind))
         fails

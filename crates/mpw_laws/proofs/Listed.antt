@@ -29,12 +29,12 @@ module _ (P : Line → Type 0) (rules : List Rule) (seen : List Bool) (waivers :
   Each =
       (place : ℕ) (m : Marker) (waiver : Waiver) (rule : Rule) → slice_get whole place ≡ Some m
       → is_full seen m ≡ true
-      → waiver_at waivers place ≡ Some waiver → slice_get rules m.rule ≡ Some rule
+      → waiver_at waivers place ≡ Some waiver → slice_get rules m.key.rule ≡ Some rule
       → P (waiver_line (name_for rule.name m) waiver.asker waiver.signer)
 
   of_rule : Each → (place : ℕ) (m : Marker) (waiver : Waiver) → slice_get whole place ≡ Some m
       → is_full seen m ≡ true → waiver_at waivers place ≡ Some waiver
-      → (o : Option Rule) → slice_get rules m.rule ≡ o → All P (rule_line m waiver o)
+      → (o : Option Rule) → slice_get rules m.key.rule ≡ o → All P (rule_line m waiver o)
   of_rule each place m waiver at full is None e = All-nil P
   of_rule each place m waiver at full is (Some rule) e =
       All-cons P (waiver_line (name_for rule.name m) waiver.asker waiver.signer) []
@@ -45,7 +45,7 @@ module _ (P : Line → Type 0) (rules : List Rule) (seen : List Bool) (waivers :
       → (o : Option Waiver) → waiver_at waivers place ≡ o → All P (marker_line rules m o)
   of_marker each place m at full None e = All-nil P
   of_marker each place m at full (Some waiver) e = of_rule each place m waiver at full e
-      (slice_get rules m.rule) refl
+      (slice_get rules m.key.rule) refl
 
   of_shown : Each → (place : ℕ) (m : Marker) → slice_get whole place ≡ Some m
       → (b : Bool) → is_full seen m ≡ b

@@ -11,7 +11,6 @@ use Rattle.mpw_markers.specs.Book.{place_in}
 use Rattle.mpw_markers.specs.declared.marker.Key.{Key}
 use Rattle.mpw_markers.specs.declared.marker.Marker.{Marker}
 use Rattle.mpw_markers.specs.Laws.{PlacesAreOfKeys}
-use Rattle.mpw_markers.specs.Markers.{key_of}
 use Rattle.mpw_requests.specs.declared.sign_off.MarkerName.{MarkerName}
 use Rattle.mpw_signoff.specs.Named.{Named, rule_place, key_by, name_for, with_place, found_at, found_by, named_in}
 
@@ -28,7 +27,7 @@ pub record IsNamed (rules : List Rule) (book : List Marker) (name : MarkerName) 
     Type 0 where
   pub rule : Rule
   pub at : slice_get book n.place ≡ Some n.marker
-  pub of_rule : slice_get rules n.marker.rule ≡ Some rule
+  pub of_rule : slice_get rules n.marker.key.rule ≡ Some rule
   pub named : name ≡ name_for rule.name n.marker
 
 with_is : (place : ℕ) (o : Option Marker) (n : Named) → with_place place o ≡ Some n
@@ -55,17 +54,10 @@ by_is book name (Some rule) n e =
     let both = at_is book (place_in book (key_by name rule)) n e in (rule, refl, both.0, both.1)
 
 -- a marker with the key of a name has the name
-name_is : (name : MarkerName) (place : ℕ) (rule : Rule) (m : Marker) → key_of m ≡ key_by name place
+name_is : (name : MarkerName) (place : ℕ) (rule : Rule) (m : Marker) → m.key ≡ key_by name place
     → name.rule ≡ rule.name → name ≡ name_for rule.name m
-name_is name place rule m same first = λ i. record {
-  rule = first i;
-  axis = sym (ap (λ (k : Key). k.axis) same) i;
-  side = sym (ap (λ (k : Key). k.side) same) i;
-  x1 = sym (ap (λ (k : Key). k.x1) same) i;
-  x2 = sym (ap (λ (k : Key). k.x2) same) i;
-  y0 = sym (ap (λ (k : Key). k.y0) same) i;
-  y1 = sym (ap (λ (k : Key). k.y1) same) i;
-}
+name_is name place rule m same first =
+    λ i. record { rule = first i; piece = sym (ap (λ (k : Key). k.piece) same) i }
 
 pub named_is : PlacesAreOfKeys → (rules : List Rule) (book : List Marker) (name : MarkerName)
     (n : Named)
@@ -77,7 +69,7 @@ named_is keys rules book name n e =
     let rule = get_or rules found.0 no_rule in
     let m = keys book (key_by name found.0) n.place found.2 in
     let same : m.0 ≡ n.marker = same_Some m.0 n.marker (sym m.1 ∙ found.3) in
-    let key : key_of n.marker ≡ key_by name found.0 = ap key_of (sym same) ∙ m.2 in
+    let key : n.marker.key ≡ key_by name found.0 = (λ i. (sym same i).key) ∙ m.2 in
     record {
       rule = rule;
       at = found.3;

@@ -37,7 +37,7 @@ pub record IsShownInFull (policy : Policy) (connection : ℕ) (f : Checked) (nam
     (marker : Marker) : Type 0 where
   pub rule : Rule
   pub at : slice_get f.book place ≡ Some marker
-  pub of_rule : slice_get f.planned.snapshot.deck.rules marker.rule ≡ Some rule
+  pub of_rule : slice_get f.planned.snapshot.deck.rules marker.key.rule ≡ Some rule
   pub named : name ≡ name_for rule.name marker
   pub full : is_full (seen_by policy connection f.planned.snapshot.shelf) marker ≡ true
 

@@ -3,7 +3,6 @@ use Rattle.std.specs.Prelude.{ℕ, List, [], ◌∷◌, ◌++◌, codes}
 use Rattle.std.specs.List.{concat}
 use Rattle.std.specs.Fmt.{decimal}
 use Rattle.mpw_deck.specs.declared.rule.Rule.{Rule}
-use Rattle.mpw_markers.specs.Markers.{key_of}
 use Rattle.mpw_markers.specs.declared.marker.Marker.{Marker}
 use Rattle.mpw_listing.specs.Keys.{key_text}
 
@@ -14,4 +13,4 @@ head_text count = concat (codes "OK " ∷ decimal count ∷ codes "\n" ∷ [])
 -- The line of a marker of that rule: its key and the structure's name.
 unfoldable pub line_text : (parts : ℕ) → (top : List ℕ) → Rule → Marker → List ℕ
 line_text parts top rule m =
-    key_text parts rule.name (key_of m) ++ concat (codes " " ∷ top ∷ codes "\n" ∷ [])
+    key_text parts rule.name m.key.piece ++ concat (codes " " ∷ top ∷ codes "\n" ∷ [])

@@ -8,14 +8,14 @@ use Rattle.mpw_listing.specs.declared.listing.Listing.{Listing}
 
 -- A marker's rule is among the rules. Otherwise the marker has no line.
 abbrev pub has_rule : List Rule → Marker → Bool
-has_rule rules m = is_some (slice_get rules m.rule)
+has_rule rules m = is_some (slice_get rules m.key.rule)
 
 abbrev pub line_with : (parts : ℕ) → (top : List ℕ) → Marker → Option Rule → List ℕ
 line_with parts top m None = []
 line_with parts top m (Some rule) = line_text parts top rule m
 
 abbrev pub marker_line : (parts : ℕ) → (top : List ℕ) → List Rule → Marker → List ℕ
-marker_line parts top rules m = line_with parts top m (slice_get rules m.rule)
+marker_line parts top rules m = line_with parts top m (slice_get rules m.key.rule)
 
 -- How many markers have a line.
 abbrev pub count_of_lines : List Rule → List Marker → ℕ

@@ -11,7 +11,7 @@ pub fn count_of_rule(markers: &[Marker], place: usize) -> usize
 {
     let mut count = 0usize;
     for marker in markers {
-        if marker.rule as usize == place {
+        if marker.key.rule as usize == place {
             count += 1;
         }
     }

@@ -62,7 +62,7 @@ fn put_rule_lines<W: Write>(
 {
     let mut left = listing.limit;
     for marker in listing.markers {
-        if marker.rule as usize == place {
+        if marker.key.rule as usize == place {
             if left > 0 {
                 put_line(writer, listing.top, rule, listing.parts, marker)?;
                 left -= 1;

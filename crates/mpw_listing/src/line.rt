@@ -30,6 +30,6 @@ pub(crate) fn put_line<W: Write>(
 ) -> io::Result<()>
     ensures { Adds W.contents writer.old writer.new result (line_text parts.now top.now rule.now marker.now) }
 {
-    put_key(writer, rule, parts, marker)?;
+    put_key(writer, rule, parts, &marker.key.piece)?;
     put(writer, &[" ", top.as_str(), "\n"])
 }

@@ -28,7 +28,7 @@ pub struct Listing<'a> {
 fn has_rule(rules: &[Rule], marker: &Marker) -> bool
     ensures { result ≡ has_rule rules.now marker.now }
 {
-    rules.get(marker.rule as usize).is_some()
+    rules.get(marker.key.rule as usize).is_some()
 }
 
 /// How many markers have a line.
@@ -49,7 +49,7 @@ fn count_of_lines(rules: &[Rule], markers: &[Marker]) -> usize
 fn put_marker<W: Write>(writer: &mut W, listing: &Listing<'_>, marker: &Marker) -> io::Result<()>
     ensures { Adds W.contents writer.old writer.new result (marker_line listing.now.parts.now listing.now.top.now listing.now.rules.now marker.now) }
 {
-    match listing.rules.get(marker.rule as usize) {
+    match listing.rules.get(marker.key.rule as usize) {
         Some(rule) => put_line(writer, listing.top, rule, listing.parts, marker),
         None => Ok(()),
     }

@@ -93,8 +93,8 @@ layout_rules : (v : Sight) (f : Checked) → AreLayoutMarkers f.planned.snapshot
 layout_rules v f layout rules book place m at =
     let in_book = get_contains f.book place m (ap (λ b. slice_get b place) (sym book) ∙ at) in
     let run = layout.runs.sound m in_book in
-    let own = run.rows m.y0 (omega (arith, ints)) run.filled in
-    (own.0, ap (λ rs. slice_get rs m.rule) rules ∙ own.1)
+    let own = run.rows m.key.piece.y0 (omega (arith, ints)) run.filled in
+    (own.0, ap (λ rs. slice_get rs m.key.rule) rules ∙ own.1)
 
 pub markers_told : (desk : Desk)
     → ((f : Checked) → (state_of desk).run.phase ≡ Finished f

@@ -7,7 +7,6 @@ use Rattle.std.proofs.lemmas.Bool.{true≢false, and_parts, and_from, eqb-true, 
 use Rattle.std.proofs.lemmas.Option.{same_Some, none-some}
 use Rattle.mpw_deck.specs.declared.rule.Rule.{Rule}
 use Rattle.mpw_markers.specs.declared.marker.Marker.{Marker}
-use Rattle.mpw_markers.specs.Markers.{key_of}
 use Rattle.mpw_markers.proofs.Unique.{Contains-head}
 use Rattle.mpw_job.proofs.Tests.{is_false}
 use Rattle.mpw_replies.specs.Listing.{Listed, marker, masked}
@@ -23,12 +22,12 @@ seen_of v = seen_by v.policy v.connection v.shelf
 -- each marker of the book is of a rule
 abbrev pub HaveRules : Sight → Type 0
 HaveRules v = (place : ℕ) (m : Marker) → slice_get v.book place ≡ Some m
-    → (rule : Rule) × (slice_get v.rules m.rule ≡ Some rule)
+    → (rule : Rule) × (slice_get v.rules m.key.rule ≡ Some rule)
 
 -- ---- full markers
 
 abbrev named : Sight → Marker → Option Rule → Option Listed
-named v m o = option_map (λ (rule : Rule). marker rule.name (key_of m) (met_cells v.shelf m.met)) o
+named v m o = option_map (λ (rule : Rule). marker rule.name m.key (met_cells v.shelf m.met)) o
 
 abbrev line_when : Bool → Option Listed → Option Listed
 line_when true o = o
@@ -36,7 +35,7 @@ line_when false o = None
 
 abbrev shown_line : Sight → ℕ → Marker → Option Listed
 shown_line v place m =
-    line_when (is_full (seen_of v) m) (named v m (slice_get v.rules m.rule))
+    line_when (is_full (seen_of v) m) (named v m (slice_get v.rules m.key.rule))
 
 as_one : (v : Sight) (m : Marker) (o : Option Rule)
     → line_for v.shelf m o ≡ option_to_list (named v m o)
@@ -47,9 +46,9 @@ as_full : (v : Sight) (place : ℕ) (m : Marker)
     → full_line v.rules v.shelf (seen_of v) m ≡ option_to_list (shown_line v place m)
 as_full v place m = by (is_full (seen_of v) m)
   where
-    by : (b : Bool) → cond b (line_for v.shelf m (slice_get v.rules m.rule)) []
-        ≡ option_to_list (line_when b (named v m (slice_get v.rules m.rule)))
-    by true = as_one v m (slice_get v.rules m.rule)
+    by : (b : Bool) → cond b (line_for v.shelf m (slice_get v.rules m.key.rule)) []
+        ≡ option_to_list (line_when b (named v m (slice_get v.rules m.key.rule)))
+    by true = as_one v m (slice_get v.rules m.key.rule)
     by false = refl
 
 lines_shown : (v : Sight) (n : ℕ) (book : List Marker)
@@ -64,16 +63,16 @@ lines_shown v n (m ∷ book) =
 record IsShownLine (v : Sight) (m : Marker) (line : Listed) : Type 0 where
   readable : IsReadable v m
   rule : Rule
-  at : slice_get v.rules m.rule ≡ Some rule
-  is : line ≡ marker rule.name (key_of m) (met_cells v.shelf m.met)
+  at : slice_get v.rules m.key.rule ≡ Some rule
+  is : line ≡ marker rule.name m.key (met_cells v.shelf m.met)
 
 shown_tells : (v : Sight) (place : ℕ) (m : Marker) (line : Listed)
     → shown_line v place m ≡ Some line → IsShownLine v m line
 shown_tells v place m line e =
-    by (is_full (seen_of v) m) refl (slice_get v.rules m.rule) refl e
+    by (is_full (seen_of v) m) refl (slice_get v.rules m.key.rule) refl e
   where
     by : (b : Bool) → is_full (seen_of v) m ≡ b → (o : Option Rule)
-        → slice_get v.rules m.rule ≡ o → line_when b (named v m o) ≡ Some line
+        → slice_get v.rules m.key.rule ≡ o → line_when b (named v m o) ≡ Some line
         → IsShownLine v m line
     by true full None at e = absurd (none-some line e)
     by true full (Some rule) at e = record {
@@ -85,10 +84,10 @@ shown_tells v place m line e =
     by false full o at e = absurd (none-some line e)
 
 tells_shown : (v : Sight) (place : ℕ) (m : Marker) (rule : Rule) → IsReadable v m
-    → slice_get v.rules m.rule ≡ Some rule
-    → shown_line v place m ≡ Some (marker rule.name (key_of m) (met_cells v.shelf m.met))
+    → slice_get v.rules m.key.rule ≡ Some rule
+    → shown_line v place m ≡ Some (marker rule.name m.key (met_cells v.shelf m.met))
 tells_shown v place m rule h at =
-    ap (λ b. line_when b (named v m (slice_get v.rules m.rule))) (reads_full v m h)
+    ap (λ b. line_when b (named v m (slice_get v.rules m.key.rule))) (reads_full v m h)
     ∙ ap (named v m) at
 
 shown_at : (v : Sight) (place : ℕ) (line : Listed) → Gives (shown_line v) 0 v.book place line
@@ -124,7 +123,7 @@ shown_told v rules =
               let m = shown_at v place s.0 s.1 in
               record { marker = m.0; at = m.1; readable = m.2.readable },
           λ h. let rule = rules place h.marker h.at in
-              a.complete place (marker rule.0.name (key_of h.marker)
+              a.complete place (marker rule.0.name h.marker.key
               (met_cells v.shelf h.marker.met)) (record {
                 i = place;
                 x = h.marker;
@@ -145,7 +144,7 @@ shown_told v rules =
 -- ---- masked markers of a rule
 
 abbrev is_counted : Sight → ℕ → Marker → Bool
-is_counted v rule m = (m.rule == rule) && is_masked (seen_of v) m
+is_counted v rule m = (m.key.rule == rule) && is_masked (seen_of v) m
 
 -- a line to count by
 abbrev any_line : Listed
@@ -171,18 +170,18 @@ as_long v rule n (m ∷ book) = by (is_counted v rule m) (as_long v rule (n + 1)
 counted_is : (v : Sight) (rule place : ℕ) (m : Marker) → is_counted v rule m ≡ true
     → slice_get v.book place ≡ Some m → IsMaskedAt v rule place
 counted_is v rule place m e at =
-    let both = and_parts (m.rule == rule) (is_masked (seen_of v) m) e in
+    let both = and_parts (m.key.rule == rule) (is_masked (seen_of v) m) e in
     record {
       marker = m;
       at = at;
-      of_rule = eqb-true m.rule rule both.0;
+      of_rule = eqb-true m.key.rule rule both.0;
       half = masked_half v m both.1;
     }
 
 is_counted_at : (v : Sight) (rule place : ℕ) (h : IsMaskedAt v rule place)
     → is_counted v rule h.marker ≡ true
 is_counted_at v rule place h =
-    and_from _ _ (eq-eqb h.marker.rule rule h.of_rule) (half_masked v h.marker h.half)
+    and_from _ _ (eq-eqb h.marker.key.rule rule h.of_rule) (half_masked v h.marker h.half)
 
 when_some : (b : Bool) (o : Option Listed) (line : Listed) → line_when b o ≡ Some line → b ≡ true
 when_some true o line e = refl

@@ -9,7 +9,6 @@ use Rattle.std.proofs.lemmas.Option.{same_Some, slice_get_within, slice_get-get_
 use Rattle.mpw_geom.specs.Names.{name_cmp}
 use Rattle.mpw_deck.specs.declared.rule.Rule.{Rule}
 use Rattle.mpw_markers.specs.declared.marker.Marker.{Marker}
-use Rattle.mpw_markers.specs.Markers.{key_of}
 use Rattle.mpw_markers.proofs.Unique.{same_in_order, same_numbers}
 use Rattle.mpw_roles.specs.Hierarchy.{Name}
 use Rattle.mpw_replies.specs.Listing.{Listed, marker, masked}
@@ -68,7 +67,7 @@ names_one : (v : Sight) (place : ℕ) (a b : Listed) → NamesMarkerAt v place a
 names_one v place a b f g =
     let own : f.own ≡ g.own = same_Some f.own g.own (sym f.at ∙ g.at) in
     let rule : f.rule ≡ g.rule = same_Some f.rule g.rule (sym f.of_rule
-    ∙ ap (λ (m : Marker). slice_get v.rules m.rule) own ∙ g.of_rule) in
+    ∙ ap (λ (m : Marker). slice_get v.rules m.key.rule) own ∙ g.of_rule) in
     let cells : f.cells ≡ g.cells =
     same_in_order (λ x y. name_cmp x y ≡ Less) never_both f.cells g.cells f.by_name g.by_name
     (λ cell. (
@@ -77,9 +76,9 @@ names_one v place a b f g =
       λ c. (f.exact cell).1 (subst (λ (m : Marker). Meets v.shelf m cell) (sym own)
           ((g.exact cell).0 c)),
     )) in
-    f.is ∙ ap (λ (r : Rule). marker r.name (key_of f.own) f.cells) rule
-    ∙ ap (λ (m : Marker). marker g.rule.name (key_of m) f.cells) own
-    ∙ ap (λ (cs : List Name). marker g.rule.name (key_of g.own) cs) cells ∙ sym g.is
+    f.is ∙ ap (λ (r : Rule). marker r.name f.own.key f.cells) rule
+    ∙ ap (λ (m : Marker). marker g.rule.name m.key f.cells) own
+    ∙ ap (λ (cs : List Name). marker g.rule.name g.own.key cs) cells ∙ sym g.is
 
 counts_one : (v : Sight) (place : ℕ) (a b : Listed) → CountsMasked v place a
     → CountsMasked v place b → a ≡ b

@@ -5,7 +5,6 @@ use Rattle.mpw_geom.specs.Names.{name_cmp}
 use Rattle.mpw_deck.specs.declared.rule.Rule.{Rule}
 use Rattle.mpw_hier.specs.declared.submission.Submission.{Submission}
 use Rattle.mpw_markers.specs.declared.marker.Marker.{Marker}
-use Rattle.mpw_markers.specs.Markers.{key_of}
 use Rattle.mpw_roles.specs.Hierarchy.{Name}
 use Rattle.mpw_permissions.specs.declared.permission.Object.TheVariants as object
 use Rattle.mpw_permissions.specs.declared.permission.Operation.TheVariants.{Read}
@@ -92,9 +91,9 @@ pub record NamesMarkerAt (v : Sight) (place : ℕ) (line : Listed) : Type 0 wher
   pub own : Marker
   pub at : slice_get v.book place ≡ Some own
   pub rule : Rule
-  pub of_rule : slice_get v.rules own.rule ≡ Some rule
+  pub of_rule : slice_get v.rules own.key.rule ≡ Some rule
   pub cells : List Name
-  pub is : line ≡ marker rule.name (key_of own) cells
+  pub is : line ≡ marker rule.name own.key cells
   pub by_name : AllPairs (λ a b. name_cmp a b ≡ Less) cells
   pub exact : (cell : Name) → Contains cells cell ↔ Meets v.shelf own cell
 
@@ -104,7 +103,7 @@ pub record NamesMarkerAt (v : Sight) (place : ℕ) (line : Listed) : Type 0 wher
 pub record IsMaskedAt (v : Sight) (rule place : ℕ) : Type 0 where
   pub marker : Marker
   pub at : slice_get v.book place ≡ Some marker
-  pub of_rule : marker.rule ≡ rule
+  pub of_rule : marker.key.rule ≡ rule
   pub half : IsHalfReadable v marker
 
 -- The rule there has such a marker.

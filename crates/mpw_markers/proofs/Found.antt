@@ -26,30 +26,16 @@ use Rattle.mpw_markers.specs.declared.marker.Line.{Line}
 use Rattle.mpw_markers.specs.declared.marker.Key.{Key}
 use Rattle.mpw_markers.specs.declared.marker.Marker.{Marker}
 use Rattle.mpw_markers.specs.declared.place.Place.{Place}
-use Rattle.mpw_markers.specs.Markers.{line_of, line_of_key, key_of, axis_eq, line_eq, key_eq, IsFilled}
+use Rattle.mpw_markers.specs.Markers.{line_of, line_of_key, axis_eq, line_eq, key_eq, IsFilled}
 use Rattle.mpw_markers.specs.Internal.Places.{line_place, place_of}
 use Rattle.mpw_markers.specs.Order.{line_cmp, StandsBefore}
 use Rattle.mpw_markers.specs.Book.{IsBook, place_in}
 use Rattle.mpw_markers.proofs.Order.{line_place_cmp, place_cmp, place_total, line_total, line_tied, lines_alike}
 use Rattle.mpw_region.proofs.Orderings.{then_first, then_second}
-use Rattle.mpw_markers.proofs.Marked.{alike, no_marker}
-
-pub same_key : (k l : Key) → line_of_key k ≡ line_of_key l → k.y0 ≡ l.y0 → k.y1 ≡ l.y1 → k ≡ l
-same_key k l e f g =
-    ap (λ (p : Line × ℤ × ℤ). let x : Key = record {
-      rule = p.0.rule;
-      axis = p.0.axis;
-      side = p.0.side;
-      x1 = p.0.x1;
-      x2 = p.0.x2;
-      y0 = p.1;
-      y1 = p.2;
-    } in x)
-    (let q : (let r : Line × ℤ × ℤ = (line_of_key k, k.y0, k.y1) in r)
-    ≡ (line_of_key l, l.y0, l.y1) = cc in q)
+use Rattle.mpw_markers.proofs.Marked.{alike, no_marker, same_key}
 
 abbrev where_is : Marker → Place
-where_is m = place_of (key_of m)
+where_is m = place_of m.key
 
 -- keys whose positions compare as equal are equal
 key_tied : (k l : Key) → place_cmp (place_of k) (place_of l) ≡ Equal → k ≡ l
@@ -60,8 +46,8 @@ key_tied k l e =
     (line_tied _ _ (sym (lines_alike (line_of_key k) (line_of_key l))
     ∙ then_first (line_place_cmp (line_place (line_of_key k)) (line_place (line_of_key l))) _
     e))
-    (exact_signed _ _ (then_first (int_cmp k.y0 l.y0) _ rest))
-    (exact_signed _ _ (then_second (int_cmp k.y0 l.y0) _ rest))
+    (exact_signed _ _ (then_first (int_cmp k.piece.y0 l.piece.y0) _ rest))
+    (exact_signed _ _ (then_second (int_cmp k.piece.y0 l.piece.y0) _ rest))
 
 less_from : (x y : ℤ) → x <ℤ y → int_cmp x y ≡ Less
 less_from x y h = grind (arith, ints)
@@ -69,15 +55,18 @@ less_from x y h = grind (arith, ints)
 place_less : (m n : Marker) → IsFilled m → StandsBefore m n
     → place_cmp (where_is m) (where_is n) ≡ Less
 place_less m n f (inl less) = ap (λ (o : Ordering).
-    ordering_then o (ordering_then (int_cmp m.y0 n.y0) (int_cmp m.y1 n.y1)))
+    ordering_then o (ordering_then (int_cmp m.key.piece.y0 n.key.piece.y0)
+    (int_cmp m.key.piece.y1 n.key.piece.y1)))
     (lines_alike (line_of m) (line_of n) ∙ less)
 place_less m n f (inr p) =
     let tied : line_cmp (line_of m) (line_of n) ≡ Equal = ap (line_cmp (line_of m)) (sym p.0)
     ∙ tied_itself line_total (line_of m) in
-    ap (λ (o : Ordering). ordering_then o (ordering_then (int_cmp m.y0 n.y0) (int_cmp m.y1 n.y1)))
+    ap (λ (o : Ordering). ordering_then o
+    (ordering_then (int_cmp m.key.piece.y0 n.key.piece.y0)
+    (int_cmp m.key.piece.y1 n.key.piece.y1)))
     (lines_alike (line_of m) (line_of n) ∙ tied)
-    ∙ ap (λ (o : Ordering). ordering_then o (int_cmp m.y1 n.y1))
-    (less_from m.y0 n.y0 (omega (arith, ints, f, p.1)))
+    ∙ ap (λ (o : Ordering). ordering_then o (int_cmp m.key.piece.y1 n.key.piece.y1))
+    (less_from m.key.piece.y0 n.key.piece.y0 (omega (arith, ints, f, p.1)))
 
 sorted : (book : List Marker) → IsBook book
     → IsSortedBy (λ x y. is_lt (place_cmp (where_is x) (where_is y))) book
@@ -95,9 +84,9 @@ pub search_is : {F : Type 0} {g : Mut F (Bor Marker × Unit {0}) Place} {f : F} 
     (p : Place) (r : Result ℕ ℕ) → ((key : Marker → Place) → ComputesKey g key f
     → IsBinarySearchResult (λ (y : Marker). place_cmp (key y) p) xs r)
     → ((a : Bor Marker × Unit {0}) (s : Place) (f' : F) → Called g f a s f'
-    → (s ≡ place_of (key_of a.0.now)) × (f' ≡ f)) → AnswersBy xs p r
+    → (s ≡ place_of a.0.now.key) × (f' ≡ f)) → AnswersBy xs p r
 search_is {g = g} {f = f} xs p r h calls =
-    h where_is (always_returns_same g (λ a s. s ≡ place_of (key_of a.0.now)) f calls)
+    h where_is (always_returns_same g (λ a s. s ≡ place_of a.0.now.key) f calls)
 
 -- ---- keys, and the first index of one
 
@@ -136,14 +125,17 @@ lines a b =
 
 pub keys : (k l : Key) → Decides (key_eq k l) (k ≡ l)
 keys k l =
-    Decides-like {P = (line_of_key k ≡ line_of_key l) × ((k.y0 ≡ l.y0) × (k.y1 ≡ l.y1))} {Q = k ≡ l}
+    Decides-like {P = (line_of_key k ≡ line_of_key l)
+    × ((k.piece.y0 ≡ l.piece.y0) × (k.piece.y1 ≡ l.piece.y1))} {Q = k ≡ l}
     (key_eq k l)
     (λ t. same_key k l t.0 t.1.0 t.1.1)
-    (λ e. (ap line_of_key e, (ap (λ (x : Key). x.y0) e, ap (λ (x : Key). x.y1) e)))
-    (Decides-and (line_eq (line_of_key k) (line_of_key l)) (int_eq k.y0 l.y0 && int_eq k.y1 l.y1)
+    (λ e. (ap line_of_key e, (ap (λ (x : Key). x.piece.y0) e, ap (λ (x : Key). x.piece.y1) e)))
+    (Decides-and (line_eq (line_of_key k) (line_of_key l)) (int_eq k.piece.y0 l.piece.y0
+    && int_eq k.piece.y1 l.piece.y1)
     (lines (line_of_key k) (line_of_key l))
-    (Decides-and (int_eq k.y0 l.y0) (int_eq k.y1 l.y1) (Decides-int_eq k.y0 l.y0)
-    (Decides-int_eq k.y1 l.y1)))
+    (Decides-and (int_eq k.piece.y0 l.piece.y0) (int_eq k.piece.y1 l.piece.y1)
+    (Decides-int_eq k.piece.y0 l.piece.y0)
+    (Decides-int_eq k.piece.y1 l.piece.y1)))
 
 other_key : (k l : Key) → (k ≡ l → ⊥) → key_eq k l ≡ false
 other_key k l apart = go (key_eq k l) refl
@@ -153,7 +145,7 @@ other_key k l apart = go (key_eq k l) refl
     go false e = refl
 
 abbrev has_key : Key → Marker → Bool
-has_key key m = key_eq (key_of m) key
+has_key key m = key_eq m.key key
 
 -- the first index is the given one
 placed : (book : List Marker) (key : Key) (i : ℕ) → i < length book
@@ -175,21 +167,21 @@ unplaced book key e = ap (λ n. cond (nat_lt n (length book)) (Some n) None) e
 
 -- the marker at a key's index has the key
 pub place_is : (book : List Marker) (key : Key) (i : ℕ) → place_in book key ≡ Some i
-    → (m : Marker) × (slice_get book i ≡ Some m) × (key_of m ≡ key)
+    → (m : Marker) × (slice_get book i ≡ Some m) × (m.key ≡ key)
 place_is book key i e =
     let found = position-Some (has_key key) book i no_marker e in (
       get_or book i no_marker,
       slice_get-get_or book i no_marker found.0,
-      (keys (key_of (get_or book i no_marker)) key).0 found.1,
+      (keys (get_or book i no_marker).key key).0 found.1,
     )
 
 -- ---- the search
 
 -- of two markers of a book only one has the key
 one_of_key : (book : List Marker) (m n : Marker) → IsBook book → Contains book m → Contains book n
-    → key_of m ≡ key_of n → m ≡ n
+    → m.key ≡ n.key → m ≡ n
 one_of_key book m n h c d same =
-    let first : m.y0 ≡ n.y0 = ap (λ (k : Key). k.y0) same in
+    let first : m.key.piece.y0 ≡ n.key.piece.y0 = ap (λ (k : Key). k.piece.y0) same in
     let filled = All-contains IsFilled book m h.filled c in
     let other = All-contains IsFilled book n h.filled d in
     elim (alike book m n h c d (ap line_of_key same)) [
@@ -200,7 +192,7 @@ one_of_key book m n h c d same =
 
 -- no marker before one of a book has its key
 earlier : (book : List Marker) (i k : ℕ) → IsBook book → i < length book → k < i
-    → key_of (get_or book k no_marker) ≡ key_of (get_or book i no_marker) → ⊥
+    → (get_or book k no_marker).key ≡ (get_or book i no_marker).key → ⊥
 earlier book i k h l before same =
     let m = get_or book k no_marker in
     let n = get_or book i no_marker in
@@ -211,7 +203,7 @@ earlier book i k h l before same =
           ∙ tied_itself line_total (line_of m)) in
           cc
       | inr p ↦
-          let first : m.y0 ≡ n.y0 = ap (λ (x : Key). x.y0) same in
+          let first : m.key.piece.y0 ≡ n.key.piece.y0 = ap (λ (x : Key). x.piece.y0) same in
           let filled : IsFilled m = h.filled k no_marker (omega (arith, before, l)) in
           absurd (omega (arith, ints, p.1, first, filled))
     ]
@@ -225,23 +217,23 @@ place_ok book xs key p i e h f l answer =
     inside : i < length book
     inside = subst (λ (ys : List Marker). i < length ys) e l
 
-    is : key_of (get_or book i no_marker) ≡ key
+    is : (get_or book i no_marker).key ≡ key
     is =
         let at : get_or xs i no_marker ≡ get_or book i no_marker =
         ap (λ (ys : List Marker). get_or ys i no_marker) e in
-        key_tied (key_of (get_or book i no_marker)) key
+        key_tied (get_or book i no_marker).key key
         (subst (λ (y : Marker). place_cmp (where_is y) (place_of key) ≡ Equal) at
         (ap (place_cmp (where_is (get_or xs i no_marker))) (sym f) ∙ answer no_marker))
 
     before : (k : ℕ) → k < i → has_key key (get_or book k no_marker) ≡ false
-    before k less = other_key (key_of (get_or book k no_marker)) key
+    before k less = other_key (get_or book k no_marker).key key
         (λ same. earlier book i k h inside less (same ∙ sym is))
 
     here : i < length book → has_key key (get_or book i no_marker) ≡ true
-    here within = (keys (key_of (get_or book i no_marker)) key).1 is
+    here within = (keys (get_or book i no_marker).key key).1 is
 
 none_there : (book xs : List Marker) (key : Key) (p : Place) (i : ℕ) → xs ≡ book → IsBook book
-    → p ≡ place_of key → AnswersBy xs p (Err i) → (m : Marker) → Contains book m → key_of m ≡ key
+    → p ≡ place_of key → AnswersBy xs p (Err i) → (m : Marker) → Contains book m → m.key ≡ key
     → ⊥
 none_there book xs key p i e h f answer m c is =
     let split = answer (searchable_from_sorted place_total where_is xs p
@@ -274,32 +266,32 @@ place_none book xs key p i e h f answer =
     all : (k : ℕ) → k < length book → has_key key (get_or book k no_marker) ≡ false
     all k l =
         let m = get_or book k no_marker in
-        other_key (key_of m) key (λ is. none_there book xs key p i e h f answer m
+        other_key m.key key (λ is. none_there book xs key p i e h f answer m
         (k, l, get_or_from_slice_get book k m m (slice_get-get_or book k no_marker l)) is)
 
 -- ---- the marker at the index
 
 pub found_some : (book : List Marker) (key : Key) (place : ℕ) (o : Option Marker) → IsBook book
     → place_in book key ≡ Some place → o ≡ slice_get book place → (m : Marker)
-    → (o ≡ Some m) ↔ (Contains book m × (key_of m ≡ key))
+    → (o ≡ Some m) ↔ (Contains book m × (m.key ≡ key))
 found_some book key place o h e got m = (to, from)
   where
-    is : (n : Marker) × (slice_get book place ≡ Some n) × (key_of n ≡ key)
+    is : (n : Marker) × (slice_get book place ≡ Some n) × (n.key ≡ key)
     is = place_is book key place e
 
     inside : Contains book is.0
     inside = let found = position-Some (has_key key) book place no_marker e in
         (place, found.0, get_or_from_slice_get book place is.0 is.0 is.1)
 
-    to : o ≡ Some m → Contains book m × (key_of m ≡ key)
+    to : o ≡ Some m → Contains book m × (m.key ≡ key)
     to s = let q : is.0 ≡ m = same_Some is.0 m (sym is.1 ∙ (sym got ∙ s)) in
-        (subst (Contains book) q inside, sym (ap key_of q) ∙ is.2)
+        (subst (Contains book) q inside, sym ((λ i. (q i).key)) ∙ is.2)
 
-    from : Contains book m × (key_of m ≡ key) → o ≡ Some m
+    from : Contains book m × (m.key ≡ key) → o ≡ Some m
     from c = got ∙ (is.1 ∙ ap Some (one_of_key book is.0 m h inside c.0 (is.2 ∙ sym c.1)))
 
 pub found_none : (book : List Marker) (key : Key) → place_in book key ≡ None → (m : Marker)
-    → ◌≡◌ {A = Option Marker} None (Some m) ↔ (Contains book m × (key_of m ≡ key))
+    → ◌≡◌ {A = Option Marker} None (Some m) ↔ (Contains book m × (m.key ≡ key))
 found_none book key e m = (λ s. absurd (none-some m s), λ c. absurd (never c.0 c.1))
   where
     past : (b : Bool) → nat_lt (position_or_len (has_key key) book) (length book) ≡ b
@@ -313,9 +305,9 @@ found_none book key e m = (λ s. absurd (none-some m s), λ c. absurd (never c.0
       | inr q ↦ absurd (true≢false (sym ((Decides-ltb n l).1 (omega (arith, q, less))) ∙ e))
     ]
 
-    never : Contains book m → key_of m ≡ key → ⊥
+    never : Contains book m → m.key ≡ key → ⊥
     never c is =
         let none = past (nat_lt (position_or_len (has_key key) book) (length book)) refl e in
         let fails = fails_before_first (has_key key) book c.0 m
         (cases_past (position_or_len (has_key key) book) (length book) c.0 none c.1) in
-        true≢false (sym ((keys (key_of m) key).1 is) ∙ (ap (has_key key) (sym c.2) ∙ fails))
+        true≢false (sym ((keys m.key key).1 is) ∙ (ap (has_key key) (sym c.2) ∙ fails))

@@ -6,7 +6,7 @@ use Rattle.std.proofs.lemmas.List.{take_more, take_all, drop_more, length-drop}
 use Rattle.std.proofs.lemmas.List.Elements.{Contains-push, Contains-append_left, Contains-push_cases}
 use Rattle.mpw_markers.specs.declared.marker.Marker.{Marker}
 use Rattle.mpw_markers.specs.declared.marker.Key.{Key}
-use Rattle.mpw_markers.specs.Markers.{line_of, line_of_key, key_of, IsFilled, LiesIn}
+use Rattle.mpw_markers.specs.Markers.{line_of, line_of_key, IsFilled, LiesIn}
 use Rattle.mpw_markers.specs.Order.{StandsBefore}
 use Rattle.mpw_markers.specs.Internal.Order.{BeginsFirst, AreInOrder}
 use Rattle.mpw_markers.specs.Internal.Runs.{bare, lengthened, IsRunOf, IsFirstRun}
@@ -18,7 +18,8 @@ pub record Reaches (markers : List Marker) (count : ℕ) (key : Key) : Type 0 wh
   pub run : IsRunOf (take count markers) key
   pub begins : (m : Marker) → Contains (drop count markers) m → BeginsFirst (bare key) m
 
-from_begins : (m n : Marker) → BeginsFirst m n → line_of m ≡ line_of n → m.y0 ≤ℤ n.y0
+from_begins : (m n : Marker) → BeginsFirst m n → line_of m ≡ line_of n
+    → m.key.piece.y0 ≤ℤ n.key.piece.y0
 from_begins m n (inl p) e = absurd (line_before (line_of m) (line_of n) p e)
 from_begins m n (inr p) e = p.1
 
@@ -37,7 +38,7 @@ here markers count d l = subst (λ (ys : List Marker). Contains ys (get_or marke
 
 pub Reaches-start : (markers : List Marker) (d : Marker) → 1 ≤ length markers
     → IsFilled (get_or markers 0 d) → AreInOrder markers
-    → Reaches markers 1 (key_of (get_or markers 0 d))
+    → Reaches markers 1 (get_or markers 0 d).key
 Reaches-start markers d l f o = record {
   run = record {
     filled = f;
@@ -65,12 +66,13 @@ Reaches-start markers d l f o = record {
 -- a marker that continues the run is added to it
 pub Reaches-more : (markers : List Marker) (count : ℕ) (key : Key) (d : Marker)
     → Reaches markers count key → count < length markers → IsFilled (get_or markers count d)
-    → line_of_key key ≡ line_of (get_or markers count d) → (get_or markers count d).y0 ≤ℤ key.y1
+    → line_of_key key ≡ line_of (get_or markers count d)
+    → (get_or markers count d).key.piece.y0 ≤ℤ key.piece.y1
     → Reaches markers (count + 1) (lengthened key (get_or markers count d))
 Reaches-more markers count key d h l f e g = record {
   run = record {
     filled = let k = h.run.filled in omega (arith, ints, clamps, k);
-    rows = λ j low high. by_lt_z j key.y1
+    rows = λ j low high. by_lt_z j key.piece.y1
         (λ in'. let c = h.run.rows j low in' in (c.0, old c.0 c.1, c.2))
         (λ out. (
           next,
@@ -105,14 +107,15 @@ Reaches-more markers count key d h l f e g = record {
     new = subst (λ (ys : List Marker). Contains ys (get_or markers count d)) (sym more)
         (Contains-push (take count markers) (get_or markers count d))
 
-    starts : key.y0 ≤ℤ (get_or markers count d).y0
+    starts : key.piece.y0 ≤ℤ (get_or markers count d).key.piece.y0
     starts = from_begins (bare key) (get_or markers count d)
         (h.begins (get_or markers count d) (here markers count d l)) e
 
 -- the first marker that doesn't continue it, and those after it, come after the run
 pub IsFirstRun-stop : (markers : List Marker) (count : ℕ) (key : Key) (d : Marker)
     → Reaches markers count key → 1 ≤ count → count < length markers → AreInOrder markers
-    → ((line_of_key key ≡ line_of (get_or markers count d)) → key.y1 <ℤ (get_or markers count d).y0)
+    → ((line_of_key key ≡ line_of (get_or markers count d))
+    → key.piece.y1 <ℤ (get_or markers count d).key.piece.y0)
     → IsFirstRun markers count key
 IsFirstRun-stop markers count key d h s l o u = record {
   some = s;
@@ -129,29 +132,28 @@ IsFirstRun-stop markers count key d h s l o u = record {
     stands (inr p) = inr (p.0, u p.0)
 
 -- the same if the code's element is equal to the list's
-pub started : (markers : List Marker) (first : Marker) (key : Key) → first ≡ get_or markers 0 first
-    → key ≡ key_of first → 1 ≤ length markers → All IsFilled markers → AreInOrder markers
-    → Reaches markers 1 key
-started markers first key is e l f o =
-    subst (Reaches markers 1) (sym (e ∙ ap key_of is))
+pub started : (markers : List Marker) (first : Marker) → first ≡ get_or markers 0 first
+    → 1 ≤ length markers → All IsFilled markers → AreInOrder markers → Reaches markers 1 first.key
+started markers first is l f o = subst (λ (m : Marker). Reaches markers 1 m.key) (sym is)
     (Reaches-start markers first l (f 0 first (omega arith)) o)
 
 pub taken_in : (markers : List Marker) (count : ℕ) (key new : Key) (m : Marker)
     → Reaches markers count key → count < length markers → m ≡ get_or markers count m
-    → All IsFilled markers → line_of_key key ≡ line_of m → m.y0 ≤ℤ key.y1 → new ≡ lengthened key m
+    → All IsFilled markers → line_of_key key ≡ line_of m → m.key.piece.y0 ≤ℤ key.piece.y1
+    → new ≡ lengthened key m
     → Reaches markers (count + 1) new
 taken_in markers count key new m h l is f e g n =
     subst (Reaches markers (count + 1)) (sym (n ∙ ap (lengthened key) is))
     (Reaches-more markers count key m h l (f count m l) (e ∙ ap line_of is)
-    (subst (λ (x : Marker). x.y0 ≤ℤ key.y1) is g))
+    (subst (λ (x : Marker). x.key.piece.y0 ≤ℤ key.piece.y1) is g))
 
 pub stopped : (markers : List Marker) (count : ℕ) (key : Key) (m : Marker)
     → Reaches markers count key → 1 ≤ count → count < length markers → m ≡ get_or markers count m
-    → AreInOrder markers → ((line_of_key key ≡ line_of m) → key.y1 <ℤ m.y0)
+    → AreInOrder markers → ((line_of_key key ≡ line_of m) → key.piece.y1 <ℤ m.key.piece.y0)
     → IsFirstRun markers count key
 stopped markers count key m h s l is o u =
     IsFirstRun-stop markers count key m h s l o
-    (λ e. subst (λ (x : Marker). key.y1 <ℤ x.y0) is (u (e ∙ sym (ap line_of is))))
+    (λ e. subst (λ (x : Marker). key.piece.y1 <ℤ x.key.piece.y0) is (u (e ∙ sym (ap line_of is))))
 
 -- if no marker comes after the run, it is formed by all
 pub all_reached : (markers : List Marker) (count : ℕ) (key : Key) → Reaches markers count key

@@ -34,7 +34,8 @@ IsJoined-same P Q book same h = record {
 -- the marker has exactly the rows of the parts, which lie in it, and touches what they touch
 record IsRunFor (part : Marker → Type 0) (r : Marker) : Type 0 where
   pub filled : IsFilled r
-  pub rows : (j : ℤ) → r.y0 ≤ℤ j → j <ℤ r.y1 → (m : Marker) × part m × HasRow m (line_of r) j
+  pub rows : (j : ℤ) → r.key.piece.y0 ≤ℤ j → j <ℤ r.key.piece.y1 → (m : Marker) × part m
+      × HasRow m (line_of r) j
   pub within : (m : Marker) → part m → LiesIn m r
   pub ascending : IsAscending r.met
   pub met : (origin : ℕ) → Contains r.met origin ↔ ((m : Marker) × part m × Contains m.met origin)
@@ -60,7 +61,7 @@ added old new book r fo fn h near run = record {
   where
     before : (n : Marker) → Contains book n → StandsBefore n r
     before n c =
-        let p = run.rows r.y0 (omega (arith, ints)) run.filled in
+        let p = run.rows r.key.piece.y0 (omega (arith, ints)) run.filled in
         StandsBefore-begins n p.0 r (near n p.0 c p.1) (inr (p.2.0, p.2.1))
 
     to : (line : Line) (j : ℤ) → CoversRow (book ++ r ∷ []) line j → (m : Marker) × (old m ⊎ new m)
@@ -100,7 +101,9 @@ added old new book r fo fn h near run = record {
       λ p. elim p.1 [
         | inl i ↦
             let f = fo p.0 i in
-            let s = (h.rows (line_of p.0) p.0.y0).1 (p.0, i, (refl, omega (arith, ints), f)) in
+            let s =
+            (h.rows (line_of p.0) p.0.key.piece.y0).1 (p.0, i, (refl, omega (arith, ints), f))
+            in
             let gap = apart s.0 r (before s.0 s.1) (s.2.0 ∙ p.2.0) in
             absurd (omega (arith, ints, gap, p.2.1, s.2.2))
         | inr i ↦ (run.met o).1 (p.0, i, p.3)

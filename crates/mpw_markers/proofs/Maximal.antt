@@ -14,14 +14,13 @@ use Rattle.mpw_markers.specs.declared.marker.Line.{Line}
 use Rattle.mpw_markers.specs.declared.marker.Key.{Key}
 use Rattle.mpw_markers.specs.declared.marker.Marker.{Marker}
 use Rattle.mpw_markers.specs.Met.{IsAscending}
-use Rattle.mpw_edges.specs.Pieces.{box_on}
-use Rattle.mpw_markers.specs.Markers.{line_of, line_of_key, key_of, box_of, IsFilled, HasRow, CoversRow, LiesIn}
+use Rattle.mpw_edges.specs.Pieces.{box_on, box_of}
+use Rattle.mpw_markers.specs.Markers.{line_of, line_of_key, IsFilled, HasRow, CoversRow, LiesIn}
 use Rattle.mpw_markers.specs.Stitched.{IsJoined, IsListed, IsStitched}
 use Rattle.mpw_geom.specs.Meeting.{IsMet}
 use Rattle.mpw_markers.specs.Whole.{IsMaximal, IsMarkerOf, AreMarkersOf}
 use Rattle.mpw_markers.specs.Laws.{steps_in, AreListedByCores}
-use Rattle.mpw_markers.proofs.Marked.{none_below, none_above, lies_in}
-use Rattle.mpw_markers.proofs.Found.{same_key}
+use Rattle.mpw_markers.proofs.Marked.{key_on, same_key, none_below, none_above, lies_in}
 use Rattle.mpw_markers.proofs.RunThrough.{run_at}
 
 -- ---- a box and its parts
@@ -75,19 +74,21 @@ in_a_row H x1 x2 y0 y1 p f i = by_lt_z p.x y1
 
 -- what touches the box of a marker touches that of one in which it lies
 pub met_wider : (has : ℕ → Square → Type 0) (m n : Marker) (origin : ℕ) → LiesIn m n
-    → IsMet has (box_of m) origin → IsMet has (box_of n) origin
+    → IsMet has (box_of m.key.piece) origin → IsMet has (box_of n.key.piece) origin
 met_wider has m n origin l t = (
   t.0,
   t.1,
   (
     t.2.0,
     t.2.1,
-    let i : InBox m.axis m.x1 m.x2 m.y0 m.y1 t.2.0 = in_box m.axis m.x1 m.x2 m.y0 m.y1 t.2.0
+    let a = m.key.piece in
+        let b = n.key.piece in
+        let i : InBox a.axis a.x1 a.x2 a.y0 a.y1 t.2.0 = in_box a.axis a.x1 a.x2 a.y0 a.y1 t.2.0
         t.2.2 in
-        let w : InBox m.axis m.x1 m.x2 n.y0 n.y1 t.2.0 = wider m.axis m.x1 m.x2 m.y0 m.y1 n.y0 n.y1
+        let w : InBox a.axis a.x1 a.x2 b.y0 b.y1 t.2.0 = wider a.axis a.x1 a.x2 a.y0 a.y1 b.y0 b.y1
         t.2.0 l.1 l.2 i in
-        from_box n.axis n.x1 n.x2 n.y0 n.y1 t.2.0
-        (subst (λ (x : Line). InBox x.axis x.x1 x.x2 n.y0 n.y1 t.2.0) l.0 w),
+        from_box b.axis b.x1 b.x2 b.y0 b.y1 t.2.0
+        (subst (λ (x : Line). InBox x.axis x.x1 x.x2 b.y0 b.y1 t.2.0) l.0 w),
   ),
 )
 
@@ -97,7 +98,8 @@ met_wider has m n origin l t = (
 whole : (part : Marker → Type 0) (steps : Line → ℤ → Bool) (has : ℕ → Square → Type 0)
     (book : List Marker)
     → ((line : Line) (j : ℤ) → ((m : Marker) × part m × HasRow m line j) ↔ (steps line j ≡ true))
-    → ((m : Marker) (origin : ℕ) → part m → Contains m.met origin ↔ IsMet has (box_of m) origin)
+    → ((m : Marker) (origin : ℕ) → part m → Contains m.met origin
+    ↔ IsMet has (box_of m.key.piece) origin)
     → IsJoined part book → AreMarkersOf steps has book
 whole part steps has book rows met h = record { sound = sound; complete = complete }
   where
@@ -107,25 +109,27 @@ whole part steps has book rows met h = record { sound = sound; complete = comple
     back : (line : Line) (j : ℤ) → steps line j ≡ true → CoversRow book line j
     back line j e = (h.rows line j).1 ((rows line j).1 e)
 
-    met_by : (n : Marker) (origin : ℕ) → Contains book n → IsMet has (box_of n) origin
+    met_by : (n : Marker) (origin : ℕ) → Contains book n → IsMet has (box_of n.key.piece) origin
         → Contains n.met origin
     met_by n origin c t =
-        let i : InBox n.axis n.x1 n.x2 n.y0 n.y1 t.2.0 = in_box n.axis n.x1 n.x2 n.y0 n.y1 t.2.0
+        let a = n.key.piece in
+        let i : InBox a.axis a.x1 a.x2 a.y0 a.y1 t.2.0 = in_box a.axis a.x1 a.x2 a.y0 a.y1 t.2.0
         t.2.2 in
-        let r = in_a_row n.axis n.x1 n.x2 n.y0 n.y1 t.2.0
+        let r = in_a_row a.axis a.x1 a.x2 a.y0 a.y1 t.2.0
         (All-contains IsFilled book n h.markers.filled c) i in
         let p = (h.rows (line_of n) r.0).0 (n, c, (refl, r.1, r.2)) in
+        let b = p.0.key.piece in
         let l = lies_in part book p.0 n (line_of n) r.0 h c p.1 p.2 (refl, r.1, r.2) in
-        let w : InBox n.axis n.x1 n.x2 p.0.y0 p.0.y1 t.2.0 = wider n.axis n.x1 n.x2 r.0
-        (r.0 +ℤ pos 1) p.0.y0 p.0.y1 t.2.0 p.2.1 (omega (arith, ints, p.2.2)) r.3 in
-        let x : IsMet has (box_of p.0) origin = (
+        let w : InBox a.axis a.x1 a.x2 b.y0 b.y1 t.2.0 = wider a.axis a.x1 a.x2 r.0
+        (r.0 +ℤ pos 1) b.y0 b.y1 t.2.0 p.2.1 (omega (arith, ints, p.2.2)) r.3 in
+        let x : IsMet has (box_of p.0.key.piece) origin = (
           t.0,
           t.1,
           (
             t.2.0,
             t.2.1,
-            from_box p.0.axis p.0.x1 p.0.x2 p.0.y0 p.0.y1 t.2.0
-                (subst (λ (x : Line). InBox x.axis x.x1 x.x2 p.0.y0 p.0.y1 t.2.0) (sym l.0) w),
+            from_box b.axis b.x1 b.x2 b.y0 b.y1 t.2.0
+                (subst (λ (x : Line). InBox x.axis x.x1 x.x2 b.y0 b.y1 t.2.0) (sym l.0) w),
           ),
         ) in
         (h.met n origin c).1 (p.0, p.1, l, (met p.0 origin p.1).1 x)
@@ -136,8 +140,10 @@ whole part steps has book rows met h = record { sound = sound; complete = comple
         filled = All-contains IsFilled book n h.markers.filled c;
         rows = λ j g k. over (line_of n) j (n, c, (refl, g, k));
         below = false_from_ne_true _ (λ e. none_below book n h.markers c
-            (back (line_of n) (n.y0 -ℤ pos 1) e));
-        above = false_from_ne_true _ (λ e. none_above book n h.markers c (back (line_of n) n.y1 e));
+            (back (line_of n) (n.key.piece.y0 -ℤ pos 1) e));
+        above =
+            false_from_ne_true _ (λ e. none_above book n h.markers c
+            (back (line_of n) n.key.piece.y1 e));
       };
       ascending = All-contains (λ (x : Marker). IsAscending x.met) book n h.markers.ascending c;
       met = λ origin. (
@@ -147,29 +153,30 @@ whole part steps has book rows met h = record { sound = sound; complete = comple
       );
     }
 
-    complete : (m : Key) → IsMaximal steps m → (n : Marker) × Contains book n × (key_of n ≡ m)
+    complete : (m : Key) → IsMaximal steps m → (n : Marker) × Contains book n × (n.key ≡ m)
     complete m k =
-        let s = back (line_of_key m) m.y0 (k.rows m.y0 (omega (arith, ints)) k.filled) in
+        let s =
+        back (line_of_key m) m.piece.y0 (k.rows m.piece.y0 (omega (arith, ints)) k.filled) in
         let n : Marker = s.0 in
         let w = (sound n s.1).run in
-        let first : n.y0 ≡ m.y0 = by_lt_z n.y0 m.y0
+        let first : n.key.piece.y0 ≡ m.piece.y0 = by_lt_z n.key.piece.y0 m.piece.y0
         (λ less. absurd (both_ways _ k.below
-        (over (line_of_key m) (m.y0 -ℤ pos 1)
+        (over (line_of_key m) (m.piece.y0 -ℤ pos 1)
         (n, s.1, (s.2.0, omega (arith, ints, less), omega (arith, ints, s.2.2))))))
         (λ more. omega (arith, ints, more, s.2.1)) in
-        let last : n.y1 ≡ m.y1 = by_lt_z n.y1 m.y1
+        let last : n.key.piece.y1 ≡ m.piece.y1 = by_lt_z n.key.piece.y1 m.piece.y1
         (λ less. absurd (both_ways _ w.above
-        (subst (λ (l : Line). steps l n.y1 ≡ true) (sym s.2.0)
-        (k.rows n.y1 (omega (arith, ints, s.2.2)) less))))
-        (λ more. by_lt_z m.y1 n.y1
+        (subst (λ (l : Line). steps l n.key.piece.y1 ≡ true) (sym s.2.0)
+        (k.rows n.key.piece.y1 (omega (arith, ints, s.2.2)) less))))
+        (λ more. by_lt_z m.piece.y1 n.key.piece.y1
         (λ less. absurd (both_ways _ k.above
-        (over (line_of_key m) m.y1 (
+        (over (line_of_key m) m.piece.y1 (
           n,
           s.1,
           (s.2.0, omega (arith, ints, s.2.1, k.filled), less),
         ))))
         (λ no_more. omega (arith, ints, more, no_more))) in
-        (n, s.1, same_key (key_of n) m s.2.0 first last)
+        (n, s.1, same_key n.key m s.2.0 first last)
 
 -- ---- the lists of the cores
 
@@ -207,15 +214,7 @@ stitched steps cores has lists book a h =
         let r = run_at (steps_in steps (cores k.0) line) b.0 b.1 j
         (λ i f. b.2 line i (and_parts (steps line i) (cores k.0 line i) f).1)
         (and_from (steps line j) (cores k.0 line j) e k.2) in
-        let key : Key = record {
-          rule = line.rule;
-          axis = line.axis;
-          side = line.side;
-          x1 = line.x1;
-          x2 = line.x2;
-          y0 = r.0;
-          y1 = r.1;
-        } in
+        let key = key_on line r.0 r.1 in
         let run = r.2 in
         let m = (a.listed k.0 k.1).complete key
         (record {
@@ -224,8 +223,8 @@ stitched steps cores has lists book a h =
           below = run.below;
           above = run.above;
         }) in
-        let low : m.0.y0 ≡ r.0 = ap (λ (x : Key). x.y0) m.2 in
-        let high : m.0.y1 ≡ r.1 = ap (λ (x : Key). x.y1) m.2 in (
+        let low : m.0.key.piece.y0 ≡ r.0 = ap (λ (x : Key). x.piece.y0) m.2 in
+        let high : m.0.key.piece.y1 ≡ r.1 = ap (λ (x : Key). x.piece.y1) m.2 in (
           m.0,
           (listed_at lists k.0, Contains-get_or lists k.0 [] k.1, m.1),
           (
@@ -236,5 +235,5 @@ stitched steps cores has lists book a h =
         )
 
     met : (m : Marker) (origin : ℕ) → IsListed lists m → Contains m.met origin
-        ↔ IsMet has (box_of m) origin
+        ↔ IsMet has (box_of m.key.piece) origin
     met m origin p = (at m p).1.met origin

@@ -27,7 +27,7 @@ use Rattle.mpw_markers.specs.declared.marker.Line.{Line}
 use Rattle.mpw_markers.specs.declared.marker.Marker.{Marker}
 use Rattle.mpw_markers.specs.declared.place.LinePlace.{LinePlace}
 use Rattle.mpw_markers.specs.declared.place.Place.{Place}
-use Rattle.mpw_markers.specs.Markers.{line_of, key_of, IsFilled}
+use Rattle.mpw_markers.specs.Markers.{line_of, IsFilled}
 use Rattle.mpw_markers.specs.Internal.Places.{axis_place, line_place, place_of}
 use Rattle.mpw_markers.specs.Order.{line_cmp, StandsBefore}
 use Rattle.mpw_markers.specs.Internal.Order.{BeginsFirst, AreInOrder}
@@ -99,7 +99,8 @@ pub line_before : (a b : Line) → line_cmp a b ≡ Less → a ≡ b → ⊥
 line_before = before_itself line_cmp line_total
 
 -- on one line, the first ends before the other begins
-pub apart : (m n : Marker) → StandsBefore m n → line_of m ≡ line_of n → m.y1 <ℤ n.y0
+pub apart : (m n : Marker) → StandsBefore m n → line_of m ≡ line_of n
+    → m.key.piece.y1 <ℤ n.key.piece.y0
 apart m n (inl less) e = absurd (line_before (line_of m) (line_of n) less e)
 apart m n (inr stands) e = stands.1
 
@@ -140,7 +141,7 @@ lines_alike a b =
     (ordering_then (int_cmp a.x1 b.x1) (int_cmp a.x2 b.x2))))) (axes_alike a.axis b.axis)
 
 -- what a sort guarantees for two positions
-begins_from_sort : (m n : Marker) → is_lt (place_cmp (place_of (key_of n)) (place_of (key_of m)))
+begins_from_sort : (m n : Marker) → is_lt (place_cmp (place_of n.key) (place_of m.key))
     ≡ false → BeginsFirst m n
 begins_from_sort m n e =
     elim (then_not_less (line_place_cmp (line_place (line_of n)) (line_place (line_of m))) _ e) [
@@ -154,7 +155,7 @@ begins_from_sort m n e =
 
 -- for markers that are referred to
 pub AreInOrder-from_sort : (xs : List (Bor Marker))
-    → IsSortedByKey (λ m. place_of (key_of m.now)) place_cmp xs → AreInOrder (seen xs)
+    → IsSortedByKey (λ m. place_of m.now.key) place_cmp xs → AreInOrder (seen xs)
 AreInOrder-from_sort [] h i j d l b = absurd (omega (arith, b))
 AreInOrder-from_sort (x ∷ xs) h i j d l b =
     let ms : List (Bor Marker) = x ∷ xs in
@@ -162,18 +163,18 @@ AreInOrder-from_sort (x ∷ xs) h i j d l b =
     let now : Bor Marker → Marker = λ m. m.now in
     rw (get_or-map now ms i x d (omega (arith, l, last)), get_or-map now ms j x d last)
     (begins_from_sort (get_or ms i x).now (get_or ms j x).now
-    (sorted_far (λ m n. is_lt (place_cmp (place_of (key_of m.now)) (place_of (key_of n.now))))
-    (ranks_by place_total (λ (m : Bor Marker). place_of (key_of m.now))) ms h i j x (omega arith)
+    (sorted_far (λ m n. is_lt (place_cmp (place_of m.now.key) (place_of n.now.key)))
+    (ranks_by place_total (λ (m : Bor Marker). place_of m.now.key)) ms h i j x (omega arith)
     last))
 
 -- by the clause of the sort
 pub AreInOrder-from_sort_by_key : {F : Type 0} {g : Mut F (Bor (Bor Marker) × Unit {0}) Place}
     {f : F} (xs : List (Bor Marker)) → ((key : Bor Marker → Place) → ComputesKey g key f
     → IsSortedByKey key place_cmp xs) → ((a : Bor (Bor Marker) × Unit {0}) (r : Place) (f' : F)
-    → Called g f a r f' → (r ≡ place_of (key_of a.0.now.now)) × (f' ≡ f)) → AreInOrder (seen xs)
+    → Called g f a r f' → (r ≡ place_of a.0.now.now.key) × (f' ≡ f)) → AreInOrder (seen xs)
 AreInOrder-from_sort_by_key {g = g} {f = f} xs up h =
-    AreInOrder-from_sort xs (up (λ m. place_of (key_of m.now))
-    (always_returns_same g (λ a r. r ≡ place_of (key_of a.0.now.now)) f h))
+    AreInOrder-from_sort xs (up (λ m. place_of m.now.key)
+    (always_returns_same g (λ a r. r ≡ place_of a.0.now.now.key) f h))
 
 pub BeginsFirst-chain : (m n o : Marker) → BeginsFirst m n → BeginsFirst n o → BeginsFirst m o
 BeginsFirst-chain m n o p q =

@@ -11,7 +11,7 @@ use Rattle.mpw_markers.specs.Order.{StandsBefore}
 use Rattle.mpw_markers.specs.Book.{IsBook}
 use Rattle.mpw_markers.specs.Stitched.{IsJoined}
 use Rattle.mpw_markers.proofs.Order.{line_total, line_before}
-use Rattle.mpw_markers.proofs.Marked.{none_below, none_above}
+use Rattle.mpw_markers.proofs.Marked.{none_below, none_above, same_marker}
 
 -- ---- lists in strict order
 
@@ -33,7 +33,8 @@ pub tail_pairs : {X : Type 0} (R : X → X → Type 0) (y : X) (ys : List X) →
     → AllPairs R ys
 tail_pairs R y ys h i j d l b = h (suc i) (suc j) d (omega arith) (omega arith)
 
-pub head_pairs : {X : Type 0} (R : X → X → Type 0) (y : X) (ys : List X) (x : X) → AllPairs R (y ∷ ys)
+pub head_pairs : {X : Type 0} (R : X → X → Type 0) (y : X) (ys : List X) (x : X)
+    → AllPairs R (y ∷ ys)
     → Contains ys x → R y x
 head_pairs R y ys x h c = subst (R y) c.2 (h zero (suc c.0) x (omega arith) (omega (arith, c.1)))
 
@@ -80,23 +81,6 @@ same_numbers xs ys f g same = same_in_order (λ a b. a < b) (λ a b l m. omega a
 
 -- ---- books
 
-pub same_marker : (m n : Marker) → line_of m ≡ line_of n → m.y0 ≡ n.y0 → m.y1 ≡ n.y1 → m.met ≡ n.met
-    → m ≡ n
-same_marker m n e f g h =
-    ap (λ (p : Line × ℤ × ℤ × List ℕ).
-    let x : Marker = record {
-      rule = p.0.rule;
-      axis = p.0.axis;
-      side = p.0.side;
-      x1 = p.0.x1;
-      x2 = p.0.x2;
-      y0 = p.1;
-      y1 = p.2;
-      met = p.3;
-    } in x)
-    (let q : (let r : Line × ℤ × ℤ × List ℕ = (line_of m, m.y0, m.y1, m.met) in r)
-    ≡ (line_of n, n.y0, n.y1, n.met) = cc in q)
-
 abbrev Precedes : Marker → Marker → Type 0
 Precedes m n = StandsBefore m n × IsFilled m × IsFilled n
 
@@ -117,24 +101,24 @@ never_both m n p q = at p.0 q.0
 found : (part : Marker → Type 0) (a b : List Marker) (m : Marker) → IsJoined part a
     → IsJoined part b → Contains a m → Contains b m
 found part a b m h k c =
-    let s = over (line_of m) m.y0 (m, c, (refl, omega (arith, ints), filled)) in
+    let s = over (line_of m) m.key.piece.y0 (m, c, (refl, omega (arith, ints), filled)) in
     let n : Marker = s.0 in
-    let first : m.y0 ≡ n.y0 = by_lt_z n.y0 m.y0
+    let first : m.key.piece.y0 ≡ n.key.piece.y0 = by_lt_z n.key.piece.y0 m.key.piece.y0
     (λ less. absurd (none_below a m h.markers c
-    (back (line_of m) (m.y0 -ℤ pos 1)
+    (back (line_of m) (m.key.piece.y0 -ℤ pos 1)
     (n, s.1, (s.2.0, omega (arith, ints, less), omega (arith, ints, s.2.2))))))
     (λ more. omega (arith, ints, more, s.2.1)) in
-    let last : m.y1 ≡ n.y1 = by_lt_z n.y1 m.y1
+    let last : m.key.piece.y1 ≡ n.key.piece.y1 = by_lt_z n.key.piece.y1 m.key.piece.y1
     (λ less. absurd (none_above b n k.markers s.1
-    (over (line_of n) n.y1 (m, c, (sym s.2.0, omega (arith, ints, s.2.2), less)))))
-    (λ more. by_lt_z m.y1 n.y1
+    (over (line_of n) n.key.piece.y1 (m, c, (sym s.2.0, omega (arith, ints, s.2.2), less)))))
+    (λ more. by_lt_z m.key.piece.y1 n.key.piece.y1
     (λ less. absurd (none_above a m h.markers c
-    (back (line_of m) m.y1 (n, s.1, (s.2.0, omega (arith, ints, s.2.1, filled), less)))))
+    (back (line_of m) m.key.piece.y1 (n, s.1, (s.2.0, omega (arith, ints, s.2.1, filled), less)))))
     (λ no_more. omega (arith, ints, more, no_more))) in
     subst (Contains b) (sym (same_marker m n (sym s.2.0) first last
     (same_met n s.1 (sym s.2.0) first last))) s.1
   where
-    filled : m.y0 <ℤ m.y1
+    filled : m.key.piece.y0 <ℤ m.key.piece.y1
     filled = All-contains IsFilled a m h.markers.filled c
 
     over : (line : Line) (j : ℤ) → CoversRow a line j → CoversRow b line j
@@ -143,7 +127,8 @@ found part a b m h k c =
     back : (line : Line) (j : ℤ) → CoversRow b line j → CoversRow a line j
     back line j r = (h.rows line j).1 ((k.rows line j).0 r)
 
-    same_met : (n : Marker) → Contains b n → line_of m ≡ line_of n → m.y0 ≡ n.y0 → m.y1 ≡ n.y1
+    same_met : (n : Marker) → Contains b n → line_of m ≡ line_of n → m.key.piece.y0 ≡ n.key.piece.y0
+        → m.key.piece.y1 ≡ n.key.piece.y1
         → m.met ≡ n.met
     same_met n d e f g =
         same_numbers m.met n.met (All-contains (λ (x : Marker). IsAscending x.met) a m

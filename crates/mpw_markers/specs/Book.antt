@@ -4,7 +4,7 @@ use Rattle.std.specs.List.{position}
 use Rattle.mpw_markers.specs.declared.marker.Key.{Key}
 use Rattle.mpw_markers.specs.declared.marker.Marker.{Marker}
 use Rattle.mpw_markers.specs.Met.{IsAscending}
-use Rattle.mpw_markers.specs.Markers.{key_of, key_eq, IsFilled}
+use Rattle.mpw_markers.specs.Markers.{key_eq, IsFilled}
 use Rattle.mpw_markers.specs.Order.{StandsBefore}
 
 -- markers with rows, by line and then by row, of which no two on a line overlap or touch
@@ -15,4 +15,4 @@ pub record IsBook (markers : List Marker) : Type 0 where
 
 -- the index of the marker with a key, counted from 0, if there is one
 abbrev pub place_in : List Marker → Key → Option ℕ
-place_in markers key = position (λ m. key_eq (key_of m) key) markers
+place_in markers key = position (λ m. key_eq m.key key) markers

@@ -5,7 +5,6 @@ use Rattle.mpw_markers.specs.declared.marker.Key.{Key}
 use Rattle.mpw_markers.specs.declared.marker.Line.{Line}
 use Rattle.mpw_markers.specs.declared.marker.Marker.{Marker}
 use Rattle.mpw_markers.specs.Book.{place_in}
-use Rattle.mpw_markers.specs.Markers.{key_of}
 use Rattle.mpw_markers.specs.Stitched.{IsStitched}
 use Rattle.mpw_markers.specs.Whole.{AreMarkersOf}
 
@@ -41,4 +40,4 @@ StitchedIsWhole =
 abbrev pub PlacesAreOfKeys : Type 0
 PlacesAreOfKeys =
     (book : List Marker) (key : Key) (place : ℕ) → place_in book key ≡ Some place
-    → (m : Marker) × (slice_get book place ≡ Some m) × (key_of m ≡ key)
+    → (m : Marker) × (slice_get book place ≡ Some m) × (m.key ≡ key)

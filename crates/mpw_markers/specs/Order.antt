@@ -19,4 +19,5 @@ line_cmp a b =
 -- the first marker's line comes first, or on one line it ends before the second begins, with a gap
 abbrev pub StandsBefore : Marker → Marker → Type 0
 StandsBefore m n =
-    (line_cmp (line_of m) (line_of n) ≡ Less) ⊎ ((line_of m ≡ line_of n) × (m.y1 <ℤ n.y0))
+    (line_cmp (line_of m) (line_of n) ≡ Less)
+    ⊎ ((line_of m ≡ line_of n) × (m.key.piece.y1 <ℤ n.key.piece.y0))

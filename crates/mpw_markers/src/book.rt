@@ -3,7 +3,6 @@
 ghost use Rattle.std.specs.Prelude.{◌≡◌, ◌↔◌, ◌==◌, [], Some, length, slice_get, IfOk, Contains};
 ghost use Rattle.std.specs.Option.{option_copied};
 ghost use Rattle.mpw_markers.specs.declared.marker.Marker.{Marker as MarkerValue};
-ghost use Rattle.mpw_markers.specs.Markers.{key_of};
 ghost use Rattle.mpw_markers.specs.Book.{IsBook, place_in};
 
 use crate::marker::{Key, Marker, TileMarkers};
@@ -92,7 +91,7 @@ impl Book {
     {
         let markers = self.as_slice();
         let place = key.place();
-        match markers.binary_search_by_key(&place, |marker| marker.key().place()) {
+        match markers.binary_search_by_key(&place, |marker| marker.key.place()) {
             Ok(i) => Some(i),
             Err(_) => None,
         }
@@ -101,7 +100,7 @@ impl Book {
     /// The marker with this key, if there is one. A binary search, without memory.
     pub fn find(&self, key: &Key) -> Option<&Marker>
         ensures { (m : MarkerValue) →
-            (option_copied result ≡ Some m) ↔ (Contains self.now m × (key_of m ≡ key.now)) }
+            (option_copied result ≡ Some m) ↔ (Contains self.now m × (m.key ≡ key.now)) }
     {
         let markers = self.as_slice();
         match self.place(key) {

@@ -2,12 +2,10 @@
 
 ghost use Rattle.std.specs.Prelude.{◌≡◌, ◌==◌, [], length, IfOk, All};
 ghost use Rattle.mpw_markers.specs.Met.{IsAscending};
-ghost use Rattle.mpw_markers.specs.Markers.{line_of, line_of_key, key_of, box_of, IsFilled};
-ghost use Rattle.mpw_markers.specs.Internal.Runs.{marker_of};
+ghost use Rattle.mpw_markers.specs.Markers.{line_of, line_of_key, IsFilled};
 
 use crate::met::Met;
-use mpw_edges::Axis;
-use mpw_geom::Box2;
+use mpw_edges::{Axis, Piece};
 use std::alloc::{AllocError, Global};
 use std::marker::Model;
 use std::sync::Arc;
@@ -33,53 +31,21 @@ pub struct Line {
 pub struct Key {
     /// The rule's index in the deck, from 0.
     pub rule: u32,
-    /// The direction of the edges.
-    pub axis: Axis,
-    /// Which of the two kinds of pairs of a rule with two layers it is; 0 for other rules.
-    pub side: u8,
-    /// The first edge, in nm.
-    pub x1: i64,
-    /// The second edge, in nm.
-    pub x2: i64,
-    /// The first row, in nm.
-    pub y0: i64,
-    /// The row after the last one, in nm.
-    pub y1: i64,
+    /// A maximal run of rows with a pair step of the rule.
+    pub piece: Piece,
 }
 
-/// A maximal run of the rows from `y0` to before `y1` with a pair step of a rule at `x1` and `x2`, in nm. Its closed box goes from
-/// `(x1, y0)` to `(x2, y1)`; on axis `H` the coordinates are exchanged. The box touches the submissions in `met`.
+/// A violation of a rule, and the submissions that its closed box touches.
 pub struct Marker {
-    /// The rule's index in the deck, from 0.
-    pub rule: u32,
-    /// The direction of the edges.
-    pub axis: Axis,
-    /// Which of the two kinds of pairs of a rule with two layers it is; 0 for other rules.
-    pub side: u8,
-    /// The first edge, in nm.
-    pub x1: i64,
-    /// The second edge, in nm: at least `x1`, and less than the rule's distance beyond it.
-    pub x2: i64,
-    /// The first row, in nm.
-    pub y0: i64,
-    /// The row after the last one, above `y0`, in nm.
-    pub y1: i64,
+    /// The rule and the run of rows.
+    pub key: Key,
     /// The numbers of the submissions that it touches, ascending, each once.
     pub met: Met,
 }
 
 impl Drop for Marker {
     fn drop(self) {
-        let Marker {
-            rule: _,
-            axis: _,
-            side: _,
-            x1: _,
-            x2: _,
-            y0: _,
-            y1: _,
-            met,
-        } = self;
+        let Marker { key: _, met } = self;
         drop(met);
     }
 }
@@ -91,26 +57,10 @@ impl Key {
     {
         Line {
             rule: self.rule,
-            axis: self.axis,
-            side: self.side,
-            x1: self.x1,
-            x2: self.x2,
-        }
-    }
-
-    /// The marker with this key that touches these submissions.
-    pub(crate) fn with(&self, met: Met) -> Marker
-        ensures { result ≡ marker_of self.now met }
-    {
-        Marker {
-            rule: self.rule,
-            axis: self.axis,
-            side: self.side,
-            x1: self.x1,
-            x2: self.x2,
-            y0: self.y0,
-            y1: self.y1,
-            met,
+            axis: self.piece.axis,
+            side: self.piece.side,
+            x1: self.piece.x1,
+            x2: self.piece.x2,
         }
     }
 }
@@ -120,42 +70,7 @@ impl Marker {
     pub fn line(&self) -> Line
         ensures { result ≡ line_of self.now }
     {
-        self.key().line()
-    }
-
-    /// The marker's key.
-    pub fn key(&self) -> Key
-        ensures { result ≡ key_of self.now }
-    {
-        Key {
-            rule: self.rule,
-            axis: self.axis,
-            side: self.side,
-            x1: self.x1,
-            x2: self.x2,
-            y0: self.y0,
-            y1: self.y1,
-        }
-    }
-
-    /// The marker's closed box.
-    pub fn closed_box(&self) -> Box2
-        ensures { result ≡ box_of self.now }
-    {
-        match self.axis {
-            Axis::V => Box2 {
-                x0: self.x1,
-                y0: self.y0,
-                x1: self.x2,
-                y1: self.y1,
-            },
-            Axis::H => Box2 {
-                x0: self.y0,
-                y0: self.x1,
-                x1: self.y1,
-                y1: self.x2,
-            },
-        }
+        self.key.line()
     }
 
     /// The same marker, in constant time and without more memory.
@@ -167,7 +82,7 @@ impl Marker {
         ensures ascending { IsAscending self.now.met }
     {
         let met = self.met.copy()?;
-        Ok(self.key().with(met))
+        Ok(Marker { key: self.key, met })
     }
 }
 

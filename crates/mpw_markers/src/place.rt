@@ -50,13 +50,13 @@ impl Key {
         Place {
             line: LinePlace {
                 rule: self.rule,
-                axis: axis_place(self.axis),
-                side: self.side,
-                x1: self.x1,
-                x2: self.x2,
+                axis: axis_place(self.piece.axis),
+                side: self.piece.side,
+                x1: self.piece.x1,
+                x2: self.piece.x2,
             },
-            y0: self.y0,
-            y1: self.y1,
+            y0: self.piece.y0,
+            y1: self.piece.y1,
         }
     }
 }

@@ -14,6 +14,7 @@ ghost use Rattle.mpw_markers.specs.Internal.Runs.{lengthened, AreMetBy, IsFirstR
 use crate::book::Book;
 use crate::marker::{Key, Marker, TileMarkers};
 use crate::met::Met;
+use mpw_edges::Piece;
 use std::alloc::{AllocError, Global};
 
 impl Key {
@@ -28,20 +29,19 @@ impl Key {
     /// before.
     fn reaches(&self, next: &Marker) -> bool
         ensures { MatchBool result
-            ((line_of_key self.now ≡ line_of next.now) × (next.now.y0 ≤ℤ self.now.y1))
-            ((line_of_key self.now ≡ line_of next.now) → self.now.y1 <ℤ next.now.y0) }
+            ((line_of_key self.now ≡ line_of next.now) × (next.now.key.piece.y0 ≤ℤ self.now.piece.y1))
+            ((line_of_key self.now ≡ line_of next.now) → self.now.piece.y1 <ℤ next.now.key.piece.y0) }
     {
-        self.is_on_line_of(next) && next.y0 <= self.y1
+        self.is_on_line_of(next) && next.key.piece.y0 <= self.piece.y1
     }
 
     /// This run, extended to the end of the marker.
     fn longer_key(&self, next: &Marker) -> Key
         ensures { result ≡ lengthened self.now next.now }
     {
-        Key {
-            y1: self.y1.max(next.y1),
-            ..*self
-        }
+        let y1 = self.piece.y1.max(next.key.piece.y1);
+        let piece = Piece { y1, ..self.piece };
+        Key { piece, ..*self }
     }
 }
 
@@ -82,7 +82,7 @@ fn in_order<'a>(markers: Vec<&'a Marker>) -> Result<Vec<&'a Marker>, AllocError>
     ensures ordered { IfOk result (λ v. AreInOrder (map (λ m. m.now) v.items)) }
 {
     let mut markers = markers;
-    markers.sort_by_key(|marker| marker.key().place())?;
+    markers.sort_by_key(|marker| marker.key.place())?;
     Ok(markers)
 }
 
@@ -93,7 +93,7 @@ fn first_run(markers: &[&Marker]) -> (usize, Key)
     requires ordered { AreInOrder (map (λ m. m.now) markers.now) }
     ensures { IsFirstRun (map (λ m. m.now) markers.now) result.0 result.1 }
 {
-    let mut run = markers[0].key();
+    let mut run = markers[0].key;
     for count in 1..markers.len() {
         let marker = markers[count];
         if !run.reaches(marker) {
@@ -135,7 +135,7 @@ fn add_run(alloc: Global, book: &mut Vec<Marker>, markers: &[&Marker]) -> Result
 {
     let (count, run) = first_run(markers);
     let met = met_by(alloc, &markers[..count])?;
-    book.push(run.with(met))?;
+    book.push(Marker { key: run, met })?;
     Ok(count)
 }
 

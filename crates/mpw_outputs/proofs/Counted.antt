@@ -12,17 +12,18 @@ use Rattle.mpw_outputs.specs.Internal.Counted.{AreCounts}
 count_more : (markers : List Marker) (i k : ℕ) (m : Marker) → i < length markers
     → m ≡ get_or markers i m
     → count_of (take (i + 1) markers) k
-    ≡ count_of (take i markers) k + cond (m.rule == k) 1 0
+    ≡ count_of (take i markers) k + cond (m.key.rule == k) 1 0
 count_more markers i k m inside at =
-    length-filter_more (λ (x : Marker). x.rule == k) markers i m inside
-    ∙ ap (λ (x : Marker). count_of (take i markers) k + cond (x.rule == k) 1 0) (sym at)
+    length-filter_more (λ (x : Marker). x.key.rule == k) markers i m inside
+    ∙ ap (λ (x : Marker). count_of (take i markers) k + cond (x.key.rule == k) 1 0) (sym at)
 
 -- A rule has as many markers as there are, at most.
 count_few : (markers : List Marker) (k : ℕ) → count_of markers k ≤ length markers
 count_few markers k =
     omega (
       arith,
-      length-filter_both (λ (x : Marker). x.rule == k) (λ (x : Marker). not (x.rule == k)) (λ x. refl)
+      length-filter_both (λ (x : Marker). x.key.rule == k) (λ (x : Marker). not (x.key.rule == k))
+          (λ x. refl)
           markers,
     )
 
@@ -41,11 +42,11 @@ counts_few markers counts i inside are k within =
 pub counts_on : (markers : List Marker) (counts new : List ℕ) (i : ℕ) (m : Marker)
     → i < length markers → m ≡ get_or markers i m → length new ≡ length counts
     → ((k : ℕ) → k < length counts
-    → slice_index new k ≡ slice_index counts k + cond (m.rule == k) 1 0)
+    → slice_index new k ≡ slice_index counts k + cond (m.key.rule == k) 1 0)
     → AreCounts (take i markers) counts → AreCounts (take (i + 1) markers) new
 counts_on markers counts new i m inside at many more are k within =
     let old : k < length counts = omega (arith, within, many) in
-    more k old ∙ ap (λ n. n + cond (m.rule == k) 1 0) (are k old)
+    more k old ∙ ap (λ n. n + cond (m.key.rule == k) 1 0) (are k old)
     ∙ sym (count_more markers i k m inside at)
 
 small_is : (n many most : ℕ) → n ≤ many → many ≤ most → n ≡ min n most

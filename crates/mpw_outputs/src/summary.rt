@@ -53,7 +53,7 @@ pub fn rule_counts(
 {
     let mut counts = zeros(alloc, rules)?;
     for marker in markers {
-        count_one(&mut counts, marker.rule as usize);
+        count_one(&mut counts, marker.key.rule as usize);
     }
     Ok(counts)
 }

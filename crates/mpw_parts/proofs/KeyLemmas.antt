@@ -9,12 +9,13 @@ use Rattle.mpw_keys.specs.declared.column.Column.{Column}
 use Rattle.mpw_parts.specs.Parts.{IsKeyOf}
 use Rattle.mpw_parts.specs.Reading.{edges_by, key_with, is_in_column, key_in, key_from, key_by, ◌>>=◌}
 
-of_test : (c : Column) (k : Key) (b : Bool) → is_in_column c k ≡ b → k.axis ≡ c.axis
+of_test : (c : Column) (k : Key) (b : Bool) → is_in_column c k ≡ b → k.piece.axis ≡ c.axis
     → IfSome (cond b (Some k) None) (IsKeyOf c)
 of_test c k false e on = tt
 of_test c k true e on =
-    let p = and_parts (int_le c.from k.x1) (int_lt k.x1 c.to && int_lt k.y0 k.y1) e in
-    let q = and_parts (int_lt k.x1 c.to) (int_lt k.y0 k.y1) p.1 in
+    let p = and_parts (int_le c.from k.piece.x1)
+    (int_lt k.piece.x1 c.to && int_lt k.piece.y0 k.piece.y1) e in
+    let q = and_parts (int_lt k.piece.x1 c.to) (int_lt k.piece.y0 k.piece.y1) p.1 in
     let left = p.0 in
     let right = q.0 in
     let filled = q.1 in record {
@@ -24,7 +25,7 @@ of_test c k true e on =
       filled = grind (arith, ints, filled);
     }
 
-in_column : (c : Column) (k : Key) → k.axis ≡ c.axis → IfSome (key_in c k) (IsKeyOf c)
+in_column : (c : Column) (k : Key) → k.piece.axis ≡ c.axis → IfSome (key_in c k) (IsKeyOf c)
 unfolding key_in
 in_column c k on = of_test c k (is_in_column c k) refl on
 

@@ -22,16 +22,16 @@ use Rattle.mpw_parts.proofs.Words.{number_plain, integer_read, integer_plain, ax
 
 -- ---- a key
 
-edges_read : (k : Key) → IsKey k → edges_by (signed_decimal k.x1 ∷ signed_decimal k.x2
-    ∷ signed_decimal k.y0 ∷ signed_decimal k.y1 ∷ [])
-    ≡ Some (record { x1 = k.x1; x2 = k.x2; y0 = k.y0; y1 = k.y1 })
+edges_read : (k : Key) → IsKey k → edges_by (signed_decimal k.piece.x1 ∷ signed_decimal k.piece.x2
+    ∷ signed_decimal k.piece.y0 ∷ signed_decimal k.piece.y1 ∷ [])
+    ≡ Some (record { x1 = k.piece.x1; x2 = k.piece.x2; y0 = k.piece.y0; y1 = k.piece.y1 })
 unfolding edges_by
 edges_read k h =
     rw (
-      integer_read k.x1 h.x1,
-      integer_read k.x2 h.x2,
-      integer_read k.y0 h.y0,
-      integer_read k.y1 h.y1,
+      integer_read k.piece.x1 h.x1,
+      integer_read k.piece.x2 h.x2,
+      integer_read k.piece.y0 h.y0,
+      integer_read k.piece.y1 h.y1,
     ) refl
 
 in_read : (c : Column) (k : Key) → IsKeyOf c k → key_in c k ≡ Some k
@@ -40,9 +40,9 @@ in_read c k h =
     let left = h.left in
     let right = h.right in
     let filled = h.filled in
-    let first : int_le c.from k.x1 ≡ true = grind (arith, ints, left) in
-    let second : int_lt k.x1 c.to ≡ true = grind (arith, ints, right) in
-    let third : int_lt k.y0 k.y1 ≡ true = grind (arith, ints, filled) in
+    let first : int_le c.from k.piece.x1 ≡ true = grind (arith, ints, left) in
+    let second : int_lt k.piece.x1 c.to ≡ true = grind (arith, ints, right) in
+    let third : int_lt k.piece.y0 k.piece.y1 ≡ true = grind (arith, ints, filled) in
     ap (λ b. cond b (Some k) None) (and_from _ _ first (and_from _ _ second third))
 
 fields_read : (c : Column) (k : Key) → IsKey k → IsKeyOf c k
@@ -54,24 +54,25 @@ fields_read c k h of =
     rw (
       number_read 0 k.rule 4294967295 (omega (arith, narrow)) (omega arith)
           (omega (arith, narrow)),
-      number_read 0 k.side 255 (omega (arith, short))
+      number_read 0 k.piece.side 255 (omega (arith, short))
           (omega arith) (omega (arith, short)),
       edges_read k h,
     )
-    (ap (λ a. key_in c (key_with a k.rule k.side
-    (record { x1 = k.x1; x2 = k.x2; y0 = k.y0; y1 = k.y1 }))) (sym of.on_axis)
+    (ap (λ a. key_in c (key_with a k.rule k.piece.side
+    (record { x1 = k.piece.x1; x2 = k.piece.x2; y0 = k.piece.y0; y1 = k.piece.y1 })))
+    (sym of.on_axis)
     ∙ in_read c k of)
 
 fields_plain : (k : Key) → IsKey k → All (All IsPlain) (key_fields k)
 fields_plain k h =
     let short = h.side in
     All-from_recursion (All IsPlain) (key_fields k) (
-      number_plain k.side (omega (arith, short)),
+      number_plain k.piece.side (omega (arith, short)),
       (
-        integer_plain k.x1 h.x1,
+        integer_plain k.piece.x1 h.x1,
         (
-          integer_plain k.x2 h.x2,
-          (integer_plain k.y0 h.y0, (integer_plain k.y1 h.y1, tt)),
+          integer_plain k.piece.x2 h.x2,
+          (integer_plain k.piece.y0 h.y0, (integer_plain k.piece.y1 h.y1, tt)),
         ),
       ),
     )

@@ -31,10 +31,10 @@ IsFew subject = subject.columns ≤ 4194304
 
 -- The key is on the column's axis, its first edge lies in the column, and it has a row.
 pub record IsKeyOf (c : Column) (k : Key) : Type 0 where
-  pub on_axis : k.axis ≡ c.axis
-  pub left : c.from ≤ℤ k.x1
-  pub right : k.x1 <ℤ c.to
-  pub filled : k.y0 <ℤ k.y1
+  pub on_axis : k.piece.axis ≡ c.axis
+  pub left : c.from ≤ℤ k.piece.x1
+  pub right : k.piece.x1 <ℤ c.to
+  pub filled : k.piece.y0 <ℤ k.piece.y1
 
 -- The column has a place, and the keys are of it.
 pub record IsListOf (c : Column) (keys : List Key) : Type 0 where
@@ -53,11 +53,11 @@ IsSigned z = FitsSigned w64 z
 
 pub record IsKey (k : Key) : Type 0 where
   pub rule : k.rule < 2 ^ 32
-  pub side : k.side < 2 ^ 8
-  pub x1 : IsSigned k.x1
-  pub x2 : IsSigned k.x2
-  pub y0 : IsSigned k.y0
-  pub y1 : IsSigned k.y1
+  pub side : k.piece.side < 2 ^ 8
+  pub x1 : IsSigned k.piece.x1
+  pub x2 : IsSigned k.piece.x2
+  pub y0 : IsSigned k.piece.y0
+  pub y1 : IsSigned k.piece.y1
 
 pub record IsColumn (c : Column) : Type 0 where
   pub from : IsSigned c.from

@@ -9,6 +9,7 @@ use Rattle.mpw_geom.specs.Names.{name_eq}
 use Rattle.mpw_text.specs.Text.{lines_of, words_of, number_of}
 use Rattle.mpw_edges.specs.declared.run.Axis.{Axis}
 use Rattle.mpw_edges.specs.declared.run.Axis.TheVariants.{V, H}
+use Rattle.mpw_edges.specs.declared.run.Piece.{Piece}
 use Rattle.mpw_markers.specs.declared.marker.Key.{Key}
 use Rattle.mpw_keys.specs.declared.column.Column.{Column}
 use Rattle.mpw_keys.specs.Keys.{are_in_order}
@@ -93,7 +94,8 @@ column_by _ = None
 
 -- a key with a row whose first edge lies in the column
 abbrev pub is_in_column : Column → Key → Bool
-is_in_column c k = int_le c.from k.x1 && (int_lt k.x1 c.to && int_lt k.y0 k.y1)
+is_in_column c k =
+    int_le c.from k.piece.x1 && (int_lt k.piece.x1 c.to && int_lt k.piece.y0 k.piece.y1)
 
 unfoldable pub key_in : Column → Key → Option Key
 key_in c k = if is_in_column c k then Some k else None
@@ -110,15 +112,16 @@ edges_by _ = None
 
 -- a key on an axis
 abbrev pub key_with : Axis → (rule side : ℕ) → Edges → Key
-key_with axis rule side e = record {
-  rule = rule;
-  axis = axis;
-  side = side;
-  x1 = e.x1;
-  x2 = e.x2;
-  y0 = e.y0;
-  y1 = e.y1;
-}
+key_with axis rule side e =
+    let piece : Piece = record {
+      axis = axis;
+      side = side;
+      x1 = e.x1;
+      x2 = e.x2;
+      y0 = e.y0;
+      y1 = e.y1;
+    } in
+    record { rule = rule; piece = piece }
 
 -- the key that fields give, on the column's axis
 unfoldable pub key_from : Column → (rule side : List ℕ) → List (List ℕ) → Option Key

@@ -47,7 +47,7 @@ pub record ArePartsOf (subject : Checked) (parts ordered : List Found) : Type 0 
 
 -- Each key of the part is of one of so many rules, and of side 0 or 1.
 abbrev pub IsRuled : ℕ → Key → Type 0
-IsRuled rules k = (k.rule < rules) × (k.side < 2)
+IsRuled rules k = (k.rule < rules) × (k.piece.side < 2)
 
 abbrev pub AreRuledLists : ℕ → List (List Key) → Type 0
 AreRuledLists rules lists = All (λ (keys : List Key). All (IsRuled rules) keys) lists

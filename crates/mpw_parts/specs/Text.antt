@@ -27,8 +27,9 @@ axis_text H = codes "H"
 
 -- a key, whose axis is its column's: the rule's place in the deck, the side, where the edges lie, which rows there are
 abbrev pub key_fields : Key → List (List ℕ)
-key_fields k = decimal k.side ∷ signed_decimal k.x1 ∷ signed_decimal k.x2 ∷ signed_decimal k.y0
-    ∷ signed_decimal k.y1 ∷ []
+key_fields k = decimal k.piece.side ∷ signed_decimal k.piece.x1 ∷ signed_decimal k.piece.x2
+    ∷ signed_decimal k.piece.y0
+    ∷ signed_decimal k.piece.y1 ∷ []
 
 unfoldable pub key_text : Key → List ℕ
 key_text k = with_colons (decimal k.rule ∷ key_fields k)

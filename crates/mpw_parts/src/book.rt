@@ -30,6 +30,7 @@ fn axis_order(first: Axis, second: Axis) -> Ordering
 fn line_order(first: &Marker, second: &Marker) -> Ordering
     ensures { result ≡ line_cmp (line_of first.now) (line_of second.now) }
 {
+    let (first, second) = (first.line(), second.line());
     let rules = first.rule.cmp(&second.rule);
     let axes = axis_order(first.axis, second.axis);
     let sides = first.side.cmp(&second.side);
@@ -48,14 +49,15 @@ fn is_same_line(first: &Marker, second: &Marker) -> bool
 fn stands_before(first: &Marker, second: &Marker) -> bool
     ensures { IsTrue result ↔ StandsBefore first.now second.now }
 {
-    line_order(first, second).is_lt() || is_same_line(first, second) && first.y1 < second.y0
+    line_order(first, second).is_lt()
+        || is_same_line(first, second) && first.key.piece.y1 < second.key.piece.y0
 }
 
 /// Whether the marker has a row.
 fn is_filled(marker: &Marker) -> bool
     ensures { IsTrue result ↔ IsFilled marker.now }
 {
-    marker.y0 < marker.y1
+    marker.key.piece.y0 < marker.key.piece.y1
 }
 
 /// Whether all markers have rows.

@@ -5,6 +5,7 @@ ghost use Rattle.mpw_parts.specs.Parts.{IsKeyOf};
 ghost use Rattle.mpw_parts.specs.Reading.{all_of, is_in_column, key_in, edges_by, key_from, key_by, column_key};
 
 use crate::word::integer;
+use mpw_edges::Piece;
 use mpw_keys::Column;
 use mpw_markers::Key;
 use mpw_text::{parts, read_number};
@@ -14,7 +15,8 @@ use std::alloc::{AllocError, Global};
 fn is_in_column(column: &Column, key: &Key) -> bool
     ensures { result ≡ is_in_column column.now key.now }
 {
-    column.from <= key.x1 && key.x1 < column.to && key.y0 < key.y1
+    let has_row = key.piece.y0 < key.piece.y1;
+    column.from <= key.piece.x1 && key.piece.x1 < column.to && has_row
 }
 
 /// The key, if it is one of the column.
@@ -72,18 +74,15 @@ fn key_from(column: &Column, rule: &[u8], side_word: &[u8], words: &[&[u8]]) -> 
     let rule = read_number(rule, 0, u32::MAX)?;
     let side = side(side_word)?;
     let edges = edges_by(words)?;
-    key_in(
-        column,
-        Key {
-            rule,
-            axis: column.axis,
-            side,
-            x1: edges.x1,
-            x2: edges.x2,
-            y0: edges.y0,
-            y1: edges.y1,
-        },
-    )
+    let piece = Piece {
+        axis: column.axis,
+        side,
+        x1: edges.x1,
+        x2: edges.x2,
+        y0: edges.y0,
+        y1: edges.y1,
+    };
+    key_in(column, Key { rule, piece })
 }
 
 /// The key of a column that words spell.

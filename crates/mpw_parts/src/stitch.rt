@@ -70,7 +70,7 @@ fn first_other(first: &Subject, parts: &[Part]) -> Option<(usize, Difference)>
 fn is_ruled(rules: u32, key: &Key) -> bool
     ensures { IsTrue result ↔ IsRuled rules key.now }
 {
-    key.rule < rules && key.side < 2
+    key.rule < rules && key.piece.side < 2
 }
 
 /// Whether all keys are.

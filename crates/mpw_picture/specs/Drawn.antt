@@ -5,7 +5,7 @@ use Rattle.mpw_geom.specs.declared.plane.Box2.{Box2}
 use Rattle.mpw_geom.specs.declared.plane.Layer.{Layer}
 use Rattle.mpw_geom.specs.Plane.{Square, has_square, HasArea}
 use Rattle.mpw_markers.specs.declared.marker.Marker.{Marker}
-use Rattle.mpw_markers.specs.Markers.{box_of}
+use Rattle.mpw_edges.specs.Pieces.{box_of}
 use Rattle.mpw_tiles.specs.declared.listing.Rectangle.{Rectangle}
 use Rattle.mpw_tiles.specs.Listing.{IsListed}
 use Rattle.mpw_tiles.specs.Shown.{IsShown}
@@ -34,7 +34,7 @@ pub record ShowShapes (s : Snapshot) (window : Box2) (rectangles : List Rectangl
 
 -- The markers whose closed boxes share a point with the window, in order.
 abbrev pub mark_at : Marker → Mark
-mark_at m = record { area = box_of m; rule = m.rule }
+mark_at m = record { area = box_of m.key.piece; rule = m.key.rule }
 
 abbrev pub marks_in : Box2 → List Marker → List Mark
 marks_in window markers = filter (λ (m : Mark). do_meet m.area window) (map mark_at markers)

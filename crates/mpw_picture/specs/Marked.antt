@@ -6,7 +6,7 @@ use Rattle.mpw_geom.specs.declared.plane.Box2.{Box2}
 use Rattle.mpw_deck.specs.declared.rule.Rule.{Rule}
 use Rattle.mpw_edges.specs.declared.run.Axis.TheVariants.{V, H}
 use Rattle.mpw_markers.specs.declared.marker.Key.{Key}
-use Rattle.mpw_edges.specs.Pieces.{box_on}
+use Rattle.mpw_edges.specs.Pieces.{box_of}
 use Rattle.mpw_report.specs.Escapes.{escaped}
 use Rattle.mpw_picture.specs.declared.picture.Mark.{Mark}
 use Rattle.mpw_picture.specs.declared.picture.Picture.{Picture}
@@ -38,7 +38,8 @@ mark_text w m = outline (turned w m.area)
 
 -- the group of the rule at that index, with its name, which a viewer shows next to the pointer
 unfoldable pub group_head : ℕ → List ℕ
-group_head place = concat (codes "<g class=\"m m" ∷ decimal (rule_colour place) ∷ codes "\"><title>" ∷ [])
+group_head place =
+    concat (codes "<g class=\"m m" ∷ decimal (rule_colour place) ∷ codes "\"><title>" ∷ [])
 
 -- its first markers
 unfoldable pub group_text : Picture → ℕ × Rule → List ℕ
@@ -94,10 +95,8 @@ shown_text rules p =
 
 -- the selected marker
 unfoldable pub wanted_head : ℕ → List ℕ
-wanted_head place = concat (codes "<g class=\"m m" ∷ decimal (rule_colour place) ∷ codes "\">\n" ∷ [])
-
-abbrev pub key_box : Key → Box2
-key_box k = box_on k.axis k.x1 k.x2 k.y0 k.y1
+wanted_head place =
+    concat (codes "<g class=\"m m" ∷ decimal (rule_colour place) ∷ codes "\">\n" ∷ [])
 
 -- a ring around it
 unfoldable pub ring_at : (margin : ℕ) → Corners → Box2 → List ℕ
@@ -118,7 +117,8 @@ ring_at margin c area =
 
 unfoldable pub ring_text : Box2 → Box2 → List ℕ
 ring_text w area =
-    ring_at (ring_margin w) (turned w (widened_in_plane (ring_margin w) area)) (widened_in_plane (ring_margin w) area)
+    ring_at (ring_margin w) (turned w (widened_in_plane (ring_margin w) area))
+    (widened_in_plane (ring_margin w) area)
 
 -- an arrow to it, from the upper left, whose head has two strokes
 unfoldable pub shaft_text : (tail tip : Corners) → List ℕ
@@ -153,7 +153,8 @@ arrow_at tail head tip = shaft_text tail tip ++ barbs_text head tip
 
 unfoldable pub arrow_text : Box2 → Box2 → List ℕ
 arrow_text w area =
-    arrow_at (turned w (widened_in_plane (7 * ring_margin w) area)) (turned w (widened_in_plane (3 * ring_margin w) area))
+    arrow_at (turned w (widened_in_plane (7 * ring_margin w) area))
+    (turned w (widened_in_plane (3 * ring_margin w) area))
     (turned w (widened_in_plane (ring_margin w) area))
 
 -- both: the ring, and the arrow if the marker is smaller than five pixels
@@ -162,8 +163,8 @@ pointers_text w area = ring_text w area ++ (if is_small w area then arrow_text w
 
 unfoldable pub wanted_mark : Box2 → Key → List ℕ
 wanted_mark w key =
-    wanted_head key.rule ++ outline (turned w (key_box key)) ++ codes "</g>\n"
-    ++ pointers_text w (key_box key)
+    wanted_head key.rule ++ outline (turned w (box_of key.piece)) ++ codes "</g>\n"
+    ++ pointers_text w (box_of key.piece)
 
 unfoldable pub wanted_text : Box2 → Option Key → List ℕ
 wanted_text w None = []

@@ -6,6 +6,7 @@ use Rattle.mpw_geom.specs.declared.plane.Box2.{Box2}
 use Rattle.mpw_deck.specs.declared.rule.Rule.{Rule}
 use Rattle.mpw_edges.specs.declared.run.Axis.{Axis}
 use Rattle.mpw_edges.specs.declared.run.Axis.TheVariants.{V, H}
+use Rattle.mpw_edges.specs.declared.run.Piece.{Piece}
 use Rattle.mpw_markers.specs.declared.marker.Key.{Key}
 use Rattle.mpw_report.specs.Escapes.{escaped}
 use Rattle.mpw_report.specs.Report.{rule_text}
@@ -54,25 +55,26 @@ unfoldable pub axis_text : Axis → List ℕ
 axis_text V = codes ":V:"
 axis_text H = codes ":H:"
 
-unfoldable pub places_text : Key → List ℕ
-places_text k =
+unfoldable pub places_text : Piece → List ℕ
+places_text p =
     concat
-    (decimal k.side
+    (decimal p.side
     ∷ codes ":"
-    ∷ signed_decimal k.x1
+    ∷ signed_decimal p.x1
     ∷ codes ":"
-    ∷ signed_decimal k.x2
+    ∷ signed_decimal p.x2
     ∷ codes ":"
-    ∷ signed_decimal k.y0
+    ∷ signed_decimal p.y0
     ∷ codes ":"
-    ∷ signed_decimal k.y1
+    ∷ signed_decimal p.y1
     ∷ codes ", "
     ∷ [])
 
 -- the selected marker: its key, and its rule as the deck has it; only if the deck has its rule
 unfoldable pub key_title : Rule → Key → List ℕ
 key_title rule k =
-    codes "<text x=\"-160\" y=\"-42\">" ++ escaped rule.name ++ axis_text k.axis ++ places_text k
+    codes "<text x=\"-160\" y=\"-42\">" ++ escaped rule.name ++ axis_text k.piece.axis
+    ++ places_text k.piece
     ++ rule_text rule
     ++ codes "</text>\n"
 

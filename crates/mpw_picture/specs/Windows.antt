@@ -5,7 +5,7 @@ use Rattle.std.specs.Option.{option_map_or}
 use Rattle.mpw_geom.specs.declared.plane.Box2.{Box2}
 use Rattle.mpw_deck.specs.declared.rule.Rule.{Rule}
 use Rattle.mpw_markers.specs.declared.marker.Marker.{Marker}
-use Rattle.mpw_markers.specs.Markers.{box_of}
+use Rattle.mpw_edges.specs.Pieces.{box_of}
 use Rattle.mpw_tiles.specs.Placed.{nearest}
 
 -- a box extended by a number of nm on each side, as far as the plane reaches
@@ -34,7 +34,8 @@ marker_margin distance b = 4 * distance + longer_side b / 4
 
 abbrev pub marker_window : List Rule → Marker → Box2
 marker_window rules m =
-    widened_in_plane (marker_margin (distance_of rules m.rule) (box_of m)) (box_of m)
+    widened_in_plane (marker_margin (distance_of rules m.key.rule) (box_of m.key.piece))
+    (box_of m.key.piece)
 
 -- the window around shapes of that extent: extended by a twentieth of its longer side plus 1 nm; around the origin if there are no shapes
 abbrev pub around : Box2 → Box2

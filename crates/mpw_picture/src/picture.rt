@@ -69,8 +69,8 @@ fn mark_at(marker: &Marker) -> Mark
     ensures { result ≡ mark_at marker.now }
 {
     Mark {
-        area: marker.closed_box(),
-        rule: marker.rule,
+        area: marker.key.piece.closed_box(),
+        rule: marker.key.rule,
     }
 }
 

@@ -8,7 +8,7 @@ use crate::picture::Picture;
 use crate::size::{drawing_breadth, drawing_height};
 use itoa::Buffer;
 use mpw_deck::Rule;
-use mpw_edges::Axis;
+use mpw_edges::{Axis, Piece};
 use mpw_geom::{Box2, Name};
 use mpw_markers::Key;
 use mpw_report::{put_name, put_rule};
@@ -85,10 +85,10 @@ fn put_axis<W: Write>(writer: &mut W, axis: Axis) -> io::Result<()>
     }
 }
 
-/// Writes the side and the coordinates of a key.
+/// Writes the side and the coordinates of a marker.
 #[tactic(auto, unfolding(crate::specs::Titles::places_text))]
-fn put_places<W: Write>(writer: &mut W, key: &Key) -> io::Result<()>
-    ensures { Adds W.contents writer.old writer.new result (places_text key.now) }
+fn put_places<W: Write>(writer: &mut W, piece: &Piece) -> io::Result<()>
+    ensures { Adds W.contents writer.old writer.new result (places_text piece.now) }
 {
     let mut side = Buffer::new();
     let mut x1 = Buffer::new();
@@ -98,15 +98,15 @@ fn put_places<W: Write>(writer: &mut W, key: &Key) -> io::Result<()>
     put(
         writer,
         &[
-            side.format(key.side),
+            side.format(piece.side),
             ":",
-            x1.format(key.x1),
+            x1.format(piece.x1),
             ":",
-            x2.format(key.x2),
+            x2.format(piece.x2),
             ":",
-            y0.format(key.y0),
+            y0.format(piece.y0),
             ":",
-            y1.format(key.y1),
+            y1.format(piece.y1),
             ", ",
         ],
     )
@@ -119,8 +119,8 @@ fn put_key_title<W: Write>(writer: &mut W, rule: &Rule, key: &Key) -> io::Result
 {
     put(writer, &["<text x=\"-160\" y=\"-42\">"])?;
     put_name(writer, &rule.name)?;
-    put_axis(writer, key.axis)?;
-    put_places(writer, key)?;
+    put_axis(writer, key.piece.axis)?;
+    put_places(writer, &key.piece)?;
     put_rule(writer, rule)?;
     put(writer, &["</text>\n"])
 }

@@ -1,6 +1,6 @@
 //! Draws the selected marker: with a ring around it, and an arrow to it if it is small.
 ghost use Rattle.std.specs.Prelude.{◌≡◌};
-ghost use Rattle.mpw_picture.specs.Marked.{wanted_head, key_box, ring_at, ring_text, shaft_text, barbs_text, arrow_at, arrow_text, pointers_text, wanted_mark, wanted_text};
+ghost use Rattle.mpw_picture.specs.Marked.{wanted_head, ring_at, ring_text, shaft_text, barbs_text, arrow_at, arrow_text, pointers_text, wanted_mark, wanted_text};
 ghost use Rattle.mpw_text.specs.Writing.{Adds};
 
 use crate::look::rule_colour;
@@ -8,31 +8,10 @@ use crate::mark::put_outline;
 use crate::size::{Corners, breadth, corners_of, height, is_small, ring_margin};
 use crate::window::wider_box;
 use itoa::Buffer;
-use mpw_edges::Axis;
 use mpw_geom::Box2;
 use mpw_markers::Key;
 use mpw_text::put;
 use std::io::{self, Write};
-
-/// The closed box of the marker of a key.
-fn key_box(key: &Key) -> Box2
-    ensures { result ≡ key_box key.now }
-{
-    match key.axis {
-        Axis::V => Box2 {
-            x0: key.x1,
-            y0: key.y0,
-            x1: key.x2,
-            y1: key.y1,
-        },
-        Axis::H => Box2 {
-            x0: key.y0,
-            y0: key.x1,
-            x1: key.y1,
-            y1: key.x2,
-        },
-    }
-}
 
 /// Writes the beginning of the selected marker's group. Its rule is at index `place`.
 #[tactic(auto, unfolding(crate::specs::Marked::wanted_head))]
@@ -191,7 +170,7 @@ fn put_pointers<W: Write>(writer: &mut W, window: Box2, area: Box2) -> io::Resul
 fn put_wanted_mark<W: Write>(writer: &mut W, window: Box2, key: &Key) -> io::Result<()>
     ensures { Adds W.contents writer.old writer.new result (wanted_mark window key.now) }
 {
-    let area = key_box(key);
+    let area = key.piece.closed_box();
     put_wanted_head(writer, key.rule)?;
     put_outline(writer, corners_of(window, area))?;
     put(writer, &["</g>\n"])?;

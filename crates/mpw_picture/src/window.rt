@@ -69,8 +69,8 @@ pub fn marker_window(rules: &[Rule], marker: &Marker) -> Box2
     ensures window { result ≡ marker_window rules.now marker.now }
     ensures plane { IsBoxInPlane result }
 {
-    let area = marker.closed_box();
-    let margin = marker_margin(distance_of(rules, marker.rule), &area);
+    let area = marker.key.piece.closed_box();
+    let margin = marker_margin(distance_of(rules, marker.key.rule), &area);
     wider_box(&area, margin)
 }
 

@@ -7,7 +7,7 @@ use Rattle.mpw_region.proofs.Held.{one_or_before}
 use Rattle.mpw_markers.specs.declared.marker.Line.{Line}
 use Rattle.mpw_markers.specs.declared.marker.Key.{Key}
 use Rattle.mpw_markers.specs.Markers.{line_of_key}
-use Rattle.mpw_keys.proofs.SameKey.{same_key}
+use Rattle.mpw_markers.proofs.Marked.{same_key}
 use Rattle.mpw_pieces.specs.Pieces.{IsRowOf, IsRunOfPieces}
 use Rattle.mpw_pieces.specs.Internal.{IsFilled, StandsBefore}
 use Rattle.mpw_pieces.proofs.Order.{ends_below}
@@ -19,43 +19,44 @@ module _ (pieces runs : List Key) (h : AreMadeOf pieces runs) where
 
   -- two runs of a line are equal, or there is a gap between them
   gap : (k l : Key) → Contains runs k → Contains runs l → line_of_key k ≡ line_of_key l
-      → (k ≡ l) ⊎ ((k.y1 <ℤ l.y0) ⊎ (l.y1 <ℤ k.y0))
+      → (k ≡ l) ⊎ ((k.piece.y1 <ℤ l.piece.y0) ⊎ (l.piece.y1 <ℤ k.piece.y0))
   gap k l c d e = elim (one_or_before StandsBefore runs k k l h.ordered c d) [
     | inl same ↦ inl same
     | inr (inl before) ↦ inr (inl (ends_below k l before e))
     | inr (inr behind) ↦ inr (inr (ends_below l k behind (sym e)))
   ]
 
-  run_has : (k : Key) → Contains runs k → (j : ℤ) → k.y0 ≤ℤ j → j <ℤ k.y1
+  run_has : (k : Key) → Contains runs k → (j : ℤ) → k.piece.y0 ≤ℤ j → j <ℤ k.piece.y1
       → IsRowOf pieces (line_of_key k) j
   run_has k c j low high = (h.rows (line_of_key k) j).0
-      (record { piece = k; there = c; on_line = refl; from = low; to = high })
+      (record { key = k; there = c; on_line = refl; from = low; to = high })
 
   -- ---- each of them is a maximal run
 
-  no_row_below : (k : Key) → Contains runs k → IsRowOf pieces (line_of_key k) (k.y0 -ℤ pos 1) → ⊥
+  no_row_below : (k : Key) → Contains runs k → IsRowOf pieces (line_of_key k) (k.piece.y0 -ℤ pos 1)
+      → ⊥
   no_row_below k c row =
-      let r = (h.rows (line_of_key k) (k.y0 -ℤ pos 1)).1 row in
+      let r = (h.rows (line_of_key k) (k.piece.y0 -ℤ pos 1)).1 row in
       let low = r.from in
       let high = r.to in
       let f = filled k c in
-      elim (gap r.piece k r.there c r.on_line) [
+      elim (gap r.key k r.there c r.on_line) [
         | inl same ↦
-            let also : r.piece.y0 ≡ k.y0 = ap (λ (x : Key). x.y0) same in
+            let also : r.key.piece.y0 ≡ k.piece.y0 = ap (λ (x : Key). x.piece.y0) same in
             absurd (omega (arith, ints, low, also))
         | inr (inl before) ↦ absurd (omega (arith, ints, high, before))
         | inr (inr behind) ↦ absurd (omega (arith, ints, low, behind, f))
       ]
 
-  no_row_above : (k : Key) → Contains runs k → IsRowOf pieces (line_of_key k) k.y1 → ⊥
+  no_row_above : (k : Key) → Contains runs k → IsRowOf pieces (line_of_key k) k.piece.y1 → ⊥
   no_row_above k c row =
-      let r = (h.rows (line_of_key k) k.y1).1 row in
+      let r = (h.rows (line_of_key k) k.piece.y1).1 row in
       let low = r.from in
       let high = r.to in
       let f = filled k c in
-      elim (gap r.piece k r.there c r.on_line) [
+      elim (gap r.key k r.there c r.on_line) [
         | inl same ↦
-            let also : r.piece.y1 ≡ k.y1 = ap (λ (x : Key). x.y1) same in
+            let also : r.key.piece.y1 ≡ k.piece.y1 = ap (λ (x : Key). x.piece.y1) same in
             absurd (omega (arith, ints, high, also))
         | inr (inl before) ↦ absurd (omega (arith, ints, high, before, f))
         | inr (inr behind) ↦ absurd (omega (arith, ints, low, behind))
@@ -72,35 +73,36 @@ module _ (pieces runs : List Key) (h : AreMadeOf pieces runs) where
   -- ---- and each maximal run is one of them
 
   module _ (k : Key) (run : IsRunOfPieces pieces k) (r : Key) (c : Contains runs r)
-      (e : line_of_key r ≡ line_of_key k) (low : r.y0 ≤ℤ k.y0) (high : k.y0 <ℤ r.y1) where
-    at : (j : ℤ) → r.y0 ≤ℤ j → j <ℤ r.y1 → IsRowOf pieces (line_of_key k) j
+      (e : line_of_key r ≡ line_of_key k) (low : r.piece.y0 ≤ℤ k.piece.y0)
+      (high : k.piece.y0 <ℤ r.piece.y1) where
+    at : (j : ℤ) → r.piece.y0 ≤ℤ j → j <ℤ r.piece.y1 → IsRowOf pieces (line_of_key k) j
     at j l m = subst (λ (line : Line). IsRowOf pieces line j) e (run_has r c j l m)
 
-    same_begin : r.y0 ≡ k.y0
-    same_begin = by_lt_z r.y0 k.y0
-        (λ less. absurd (run.below (at (k.y0 -ℤ pos 1) (omega (arith, ints, less))
+    same_begin : r.piece.y0 ≡ k.piece.y0
+    same_begin = by_lt_z r.piece.y0 k.piece.y0
+        (λ less. absurd (run.below (at (k.piece.y0 -ℤ pos 1) (omega (arith, ints, less))
         (omega (arith, ints, high)))))
         (λ not. omega (arith, ints, low, not))
 
-    no_longer : r.y1 ≤ℤ k.y1
-    no_longer = by_lt_z k.y1 r.y1
+    no_longer : r.piece.y1 ≤ℤ k.piece.y1
+    no_longer = by_lt_z k.piece.y1 r.piece.y1
         (λ less. let f = run.filled in
-        absurd (run.above (at k.y1 (omega (arith, ints, low, f)) less)))
+        absurd (run.above (at k.piece.y1 (omega (arith, ints, low, f)) less)))
         (λ not. not)
 
-    no_shorter : k.y1 ≤ℤ r.y1
-    no_shorter = by_lt_z r.y1 k.y1 (λ less. absurd (goes_on less)) (λ not. not)
+    no_shorter : k.piece.y1 ≤ℤ r.piece.y1
+    no_shorter = by_lt_z r.piece.y1 k.piece.y1 (λ less. absurd (goes_on less)) (λ not. not)
       where
-        goes_on : r.y1 <ℤ k.y1 → ⊥
+        goes_on : r.piece.y1 <ℤ k.piece.y1 → ⊥
         goes_on less =
-            let s = (h.rows (line_of_key k) r.y1).1
-            (run.rows r.y1 (omega (arith, ints, high)) less) in
+            let s = (h.rows (line_of_key k) r.piece.y1).1
+            (run.rows r.piece.y1 (omega (arith, ints, high)) less) in
             let from = s.from in
             let to = s.to in
             let f = filled r c in
-            elim (gap s.piece r s.there c (s.on_line ∙ sym e)) [
+            elim (gap s.key r s.there c (s.on_line ∙ sym e)) [
               | inl same ↦
-                  let also : s.piece.y1 ≡ r.y1 = ap (λ (x : Key). x.y1) same in
+                  let also : s.key.piece.y1 ≡ r.piece.y1 = ap (λ (x : Key). x.piece.y1) same in
                   absurd (omega (arith, ints, to, also))
               | inr (inl before) ↦ absurd (omega (arith, ints, to, before, f))
               | inr (inr behind) ↦ absurd (omega (arith, ints, from, behind))
@@ -112,9 +114,10 @@ module _ (pieces runs : List Key) (h : AreMadeOf pieces runs) where
   found : (k : Key) → IsRunOfPieces pieces k → Contains runs k
   found k run =
       let f = run.filled in
-      let first : IsRowOf pieces (line_of_key k) k.y0 = run.rows k.y0 (omega (arith, ints)) f in
-      let s = (h.rows (line_of_key k) k.y0).1 first in
-      subst (Contains runs) (one k run s.piece s.there s.on_line s.from s.to) s.there
+      let first : IsRowOf pieces (line_of_key k) k.piece.y0 =
+      run.rows k.piece.y0 (omega (arith, ints)) f in
+      let s = (h.rows (line_of_key k) k.piece.y0).1 first in
+      subst (Contains runs) (one k run s.key s.there s.on_line s.from s.to) s.there
 
   pub exact : (k : Key) → Contains runs k ↔ IsRunOfPieces pieces k
   exact k = (is_run k, found k)
@@ -130,15 +133,15 @@ made_of_all pieces some runs same h = record {
   ordered = h.ordered;
   rows = λ line j. (
     λ row. let r = (h.rows line j).0 row in record {
-      piece = r.piece;
-      there = ((same r.piece).0 r.there).0;
+      key = r.key;
+      there = ((same r.key).0 r.there).0;
       on_line = r.on_line;
       from = r.from;
       to = r.to;
     },
     λ r. let low = r.from in let high = r.to in (h.rows line j).1 (record {
-      piece = r.piece;
-      there = (same r.piece).1 (r.there, omega (arith, ints, low, high));
+      key = r.key;
+      there = (same r.key).1 (r.there, omega (arith, ints, low, high));
       on_line = r.on_line;
       from = r.from;
       to = r.to;

@@ -58,8 +58,8 @@ filtered pieces = All-weaker (λ k. has_rows k ≡ true) IsFilled has_row (filte
 
 module _ (pieces some sorted given runs : List Key) (left : some ≡ filter has_rows pieces)
     (moved : IsPermutation some sorted) (up : IsSorted key_cmp sorted) (is : given ≡ sorted)
-    (axis : (k l : Key) → Contains pieces k → Contains pieces l → k.axis ≡ l.axis)
-    (sides : All (λ k. k.side ≤ 1) pieces) (made : AreRunsOf given runs) where
+    (axis : (k l : Key) → Contains pieces k → Contains pieces l → k.piece.axis ≡ l.piece.axis)
+    (sides : All (λ k. k.piece.side ≤ 1) pieces) (made : AreRunsOf given runs) where
   all_filled : All IsFilled sorted
   all_filled = All-permutation IsFilled some sorted moved
       (subst (All IsFilled) (sym left) (filtered pieces))
@@ -77,9 +77,9 @@ module _ (pieces some sorted given runs : List Key) (left : some ≡ filter has_
         (to_filter has_rows pieces k (row_had k p.1) p.0)),
   )
 
-  all_sides : All (λ k. k.side ≤ 1) sorted
+  all_sides : All (λ k. k.piece.side ≤ 1) sorted
   all_sides = λ i d l.
-      All-contains (λ k. k.side ≤ 1) pieces (get_or sorted i d) sides
+      All-contains (λ k. k.piece.side ≤ 1) pieces (get_or sorted i d) sides
       (of_pieces (get_or sorted i d) (Contains-get_or sorted i d l))
 
   pub made_in_order : AreMadeOf pieces runs

@@ -39,11 +39,13 @@ line_before = before_itself line_cmp line_total
 
 -- ---- what begins first, and what comes before
 
-pub begins_below : (k l : Key) → BeginsFirst k l → line_of_key k ≡ line_of_key l → k.y0 ≤ℤ l.y0
+pub begins_below : (k l : Key) → BeginsFirst k l → line_of_key k ≡ line_of_key l
+    → k.piece.y0 ≤ℤ l.piece.y0
 begins_below k l (inl less) e = absurd (line_before (line_of_key k) (line_of_key l) less e)
 begins_below k l (inr begins) e = begins.1
 
-pub ends_below : (k l : Key) → StandsBefore k l → line_of_key k ≡ line_of_key l → k.y1 <ℤ l.y0
+pub ends_below : (k l : Key) → StandsBefore k l → line_of_key k ≡ line_of_key l
+    → k.piece.y1 <ℤ l.piece.y0
 ends_below k l (inl less) e = absurd (line_before (line_of_key k) (line_of_key l) less e)
 ends_below k l (inr stands) e = stands.1
 
@@ -72,10 +74,10 @@ then_within Equal Greater c o = refl
 then_within Equal Equal c o = refl
 
 key_by_line : (k l : Key) → key_cmp k l
-    ≡ ordering_then (line_cmp (line_of_key k) (line_of_key l)) (int_cmp k.y0 l.y0)
+    ≡ ordering_then (line_cmp (line_of_key k) (line_of_key l)) (int_cmp k.piece.y0 l.piece.y0)
 key_by_line k l =
     then_within (nat_cmp (line_number (line_of_key k)) (line_number (line_of_key l)))
-    (int_cmp k.x1 l.x1) (int_cmp k.x2 l.x2) (int_cmp k.y0 l.y0)
+    (int_cmp k.piece.x1 l.piece.x1) (int_cmp k.piece.x2 l.piece.x2) (int_cmp k.piece.y0 l.piece.y0)
 
 -- runs of which each comes before the later ones are in order
 less_row : (x y z : ℤ) → x <ℤ y → y <ℤ z → int_cmp x z ≡ Less
@@ -83,13 +85,13 @@ less_row x y z l m = grind (arith, ints)
 
 key_less : (k l : Key) → IsFilled k → StandsBefore k l → key_cmp k l ≡ Less
 key_less k l f (inl less) =
-    key_by_line k l ∙ ap (λ (o : Ordering). ordering_then o (int_cmp k.y0 l.y0)) less
+    key_by_line k l ∙ ap (λ (o : Ordering). ordering_then o (int_cmp k.piece.y0 l.piece.y0)) less
 key_less k l f (inr stands) =
     let tied : line_cmp (line_of_key k) (line_of_key l) ≡ Equal =
     ap (line_cmp (line_of_key k)) (sym stands.0) ∙ tied_itself line_total (line_of_key k) in
     key_by_line k l
-    ∙ ap (λ (o : Ordering). ordering_then o (int_cmp k.y0 l.y0)) tied
-    ∙ less_row k.y0 k.y1 l.y0 f stands.1
+    ∙ ap (λ (o : Ordering). ordering_then o (int_cmp k.piece.y0 l.piece.y0)) tied
+    ∙ less_row k.piece.y0 k.piece.y1 l.piece.y0 f stands.1
 
 pub runs_in_order : (runs : List Key) → All IsFilled runs → AllPairs StandsBefore runs
     → AreInOrder runs
@@ -98,7 +100,7 @@ runs_in_order runs f h i j d less within =
     (h i j d less within)
 
 -- what a sort guarantees for two keys
-begins_from_sort : (k l : Key) → k.axis ≡ l.axis → k.side ≤ 1 → l.side ≤ 1
+begins_from_sort : (k l : Key) → k.piece.axis ≡ l.piece.axis → k.piece.side ≤ 1 → l.piece.side ≤ 1
     → is_lt (key_cmp l k) ≡ false → BeginsFirst k l
 begins_from_sort k l axis first second e =
     elim (then_not_less (line_cmp (line_of_key l) (line_of_key k)) _
@@ -107,13 +109,13 @@ begins_from_sort k l axis first second e =
           (sym (line_total.antisymm (line_of_key l) (line_of_key k)) ∙ greater))
       | inr tied ↦ inr (
         sym (line_tied (line_of_key l) (line_of_key k) (sym axis) second first tied.0),
-        not_after k.y0 l.y0 tied.1,
+        not_after k.piece.y0 l.piece.y0 tied.1,
       )
     ]
 
 pub begins_in_order : (pieces : List Key)
-    → ((k l : Key) → Contains pieces k → Contains pieces l → k.axis ≡ l.axis)
-    → All (λ k. k.side ≤ 1) pieces → IsSorted key_cmp pieces → AllPairs BeginsFirst pieces
+    → ((k l : Key) → Contains pieces k → Contains pieces l → k.piece.axis ≡ l.piece.axis)
+    → All (λ k. k.piece.side ≤ 1) pieces → IsSorted key_cmp pieces → AllPairs BeginsFirst pieces
 begins_in_order pieces axis sides h i j d less within =
     let before : i < length pieces = omega (arith, less, within) in
     begins_from_sort (get_or pieces i d) (get_or pieces j d)

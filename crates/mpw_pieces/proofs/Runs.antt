@@ -5,10 +5,10 @@ use Rattle.std.proofs.lemmas.Int.{ints, clamps, by_lt_z}
 use Rattle.std.proofs.lemmas.List.{drop_more, drop_all}
 use Rattle.std.proofs.lemmas.List.Elements.{All-nil, All-cons, All-head, All-tail}
 use Rattle.std.proofs.lemmas.List.Kept.{AllPairs-cons}
-use Rattle.mpw_edges.specs.declared.run.Axis.TheVariants.{V}
 use Rattle.mpw_markers.specs.declared.marker.Line.{Line}
 use Rattle.mpw_markers.specs.declared.marker.Key.{Key}
 use Rattle.mpw_markers.specs.Markers.{line_of_key}
+use Rattle.mpw_markers.proofs.Marked.{no_marker}
 use Rattle.mpw_markers.proofs.Unique.{cons_cases, Contains-head, Contains-tail, tail_pairs}
 use Rattle.mpw_pieces.specs.Pieces.{IsRowOf}
 use Rattle.mpw_pieces.specs.Internal.{IsFilled, lengthened, BeginsFirst, StandsBefore, GoesOn, IsApart, AreRunsFrom, AreRunsOf}
@@ -23,18 +23,18 @@ pub record AreMadeOf (pieces runs : List Key) : Type 0 where
 -- ---- rows
 
 abbrev pub HasRow : Key → Line → ℤ → Type 0
-HasRow k line j = (line_of_key k ≡ line) × (k.y0 ≤ℤ j) × (j <ℤ k.y1)
+HasRow k line j = (line_of_key k ≡ line) × (k.piece.y0 ≤ℤ j) × (j <ℤ k.piece.y1)
 
 row_of : (ks : List Key) (k : Key) (line : Line) (j : ℤ) → Contains ks k → HasRow k line j
     → IsRowOf ks line j
 row_of ks k line j c h =
-    record { piece = k; there = c; on_line = h.0; from = h.1; to = h.2 }
+    record { key = k; there = c; on_line = h.0; from = h.1; to = h.2 }
 
 row_cases : (k : Key) (ks : List Key) (line : Line) (j : ℤ) → IsRowOf (k ∷ ks) line j
     → HasRow k line j ⊎ IsRowOf ks line j
-row_cases k ks line j h = elim (cons_cases k ks h.piece h.there) [
+row_cases k ks line j h = elim (cons_cases k ks h.key h.there) [
   | inl e ↦ inl (subst (λ (x : Key). HasRow x line j) (sym e) (h.on_line, h.from, h.to))
-  | inr c ↦ inr (row_of ks h.piece line j c (h.on_line, h.from, h.to))
+  | inr c ↦ inr (row_of ks h.key line j c (h.on_line, h.from, h.to))
 ]
 
 row_first : (k : Key) (ks : List Key) (line : Line) (j : ℤ) → HasRow k line j
@@ -44,12 +44,12 @@ row_first k ks line j h = row_of (k ∷ ks) k line j (Contains-head k ks) h
 row_later : (k : Key) (ks : List Key) (line : Line) (j : ℤ) → IsRowOf ks line j
     → IsRowOf (k ∷ ks) line j
 row_later k ks line j h =
-    row_of (k ∷ ks) h.piece line j (Contains-tail k ks h.piece h.there) (h.on_line, h.from, h.to)
+    row_of (k ∷ ks) h.key line j (Contains-tail k ks h.key h.there) (h.on_line, h.from, h.to)
 
 -- an extended run has the rows of both
 lengthened_has : (run piece : Key) (line : Line) (j : ℤ) → GoesOn run piece
     → HasRow (lengthened run piece) line j → HasRow run line j ⊎ HasRow piece line j
-lengthened_has run piece line j g h = by_lt_z j run.y1 (λ within. inl (h.0, h.1, within))
+lengthened_has run piece line j g h = by_lt_z j run.piece.y1 (λ within. inl (h.0, h.1, within))
     (λ out. inr (
       sym g.0 ∙ h.0,
       let starts = g.1 in omega (arith, ints, starts, out),
@@ -60,7 +60,8 @@ run_kept : (run piece : Key) (line : Line) (j : ℤ) → HasRow run line j
     → HasRow (lengthened run piece) line j
 run_kept run piece line j h = (h.0, h.1, (let ends = h.2 in omega (arith, ints, clamps, ends)))
 
-piece_kept : (run piece : Key) (line : Line) (j : ℤ) → GoesOn run piece → run.y0 ≤ℤ piece.y0
+piece_kept : (run piece : Key) (line : Line) (j : ℤ) → GoesOn run piece
+    → run.piece.y0 ≤ℤ piece.piece.y0
     → HasRow piece line j → HasRow (lengthened run piece) line j
 piece_kept run piece line j g starts h = (
   g.0 ∙ h.0,
@@ -69,7 +70,7 @@ piece_kept run piece line j g starts h = (
 )
 
 rows_of_lengthened : (run piece : Key) (pieces : List Key) (line : Line) (j : ℤ) → GoesOn run piece
-    → run.y0 ≤ℤ piece.y0
+    → run.piece.y0 ≤ℤ piece.piece.y0
     → IsRowOf (lengthened run piece ∷ pieces) line j ↔ IsRowOf (run ∷ piece ∷ pieces) line j
 rows_of_lengthened run piece pieces line j g starts = (
   λ h. elim (row_cases (lengthened run piece) pieces line j h) [
@@ -205,15 +206,7 @@ runs_made (piece ∷ pieces) runs f o h =
 
 -- a default key for lists
 abbrev pub no_key : Key
-no_key = record {
-  rule = 0;
-  axis = V;
-  side = 0;
-  x1 = pos 0;
-  x2 = pos 0;
-  y0 = pos 0;
-  y1 = pos 0;
-}
+no_key = no_marker.key
 
 -- whatever the runs of the rest are: appended to those that are done, they are the runs of all
 abbrev pub ComeTo : (first : Key) (rest done : List Key) (run : Key) (i : ℕ) → Type 0

@@ -10,10 +10,10 @@ use Rattle.mpw_markers.specs.Markers.{line_of_key}
 
 -- the piece has a row, and the same as a test
 abbrev pub IsFilled : Key → Type 0
-IsFilled k = k.y0 <ℤ k.y1
+IsFilled k = k.piece.y0 <ℤ k.piece.y1
 
 abbrev pub has_rows : Key → Bool
-has_rows k = int_lt k.y0 k.y1
+has_rows k = int_lt k.piece.y0 k.piece.y1
 
 -- lines of one axis by the number of their list, x1 and x2
 abbrev pub line_number : Line → ℕ
@@ -26,23 +26,24 @@ line_cmp a b = ordering_then (nat_cmp (line_number a) (line_number b))
 -- the first key's line comes first, or on one line it begins no later
 abbrev pub BeginsFirst : Key → Key → Type 0
 BeginsFirst k l = (line_cmp (line_of_key k) (line_of_key l) ≡ Less)
-    ⊎ ((line_of_key k ≡ line_of_key l) × (k.y0 ≤ℤ l.y0))
+    ⊎ ((line_of_key k ≡ line_of_key l) × (k.piece.y0 ≤ℤ l.piece.y0))
 
 -- the first key's line comes first, or on one line it ends before the second begins, with a gap
 abbrev pub StandsBefore : Key → Key → Type 0
 StandsBefore k l = (line_cmp (line_of_key k) (line_of_key l) ≡ Less)
-    ⊎ ((line_of_key k ≡ line_of_key l) × (k.y1 <ℤ l.y0))
+    ⊎ ((line_of_key k ≡ line_of_key l) × (k.piece.y1 <ℤ l.piece.y0))
 
 -- the run, extended to the end of the piece
 abbrev pub lengthened : Key → Key → Key
-lengthened run piece = record run { y1 = int_max run.y1 piece.y1 }
+lengthened run next =
+    record run { piece = record run.piece { y1 = int_max run.piece.y1 next.piece.y1 } }
 
 -- the piece continues the run, or it doesn't
 abbrev pub GoesOn : Key → Key → Type 0
-GoesOn run piece = (line_of_key run ≡ line_of_key piece) × (piece.y0 ≤ℤ run.y1)
+GoesOn run next = (line_of_key run ≡ line_of_key next) × (next.piece.y0 ≤ℤ run.piece.y1)
 
 abbrev pub IsApart : Key → Key → Type 0
-IsApart run piece = line_of_key run ≡ line_of_key piece → run.y1 <ℤ piece.y0
+IsApart run next = line_of_key run ≡ line_of_key next → run.piece.y1 <ℤ next.piece.y0
 
 -- the runs that are made from one that has begun and from the pieces that follow
 abbrev pub AreRunsFrom : Key → (pieces runs : List Key) → Type 0

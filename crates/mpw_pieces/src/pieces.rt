@@ -8,6 +8,7 @@ ghost use Rattle.mpw_keys.specs.Keys.{list_number, key_cmp, AreInOrder};
 ghost use Rattle.mpw_pieces.specs.Pieces.{IsRunOfPieces};
 ghost use Rattle.mpw_pieces.specs.Internal.{has_rows, lengthened, GoesOn, IsApart, AreRunsFrom, AreRunsOf};
 
+use mpw_edges::Piece;
 use mpw_markers::Key;
 use std::alloc::{AllocError, Global};
 use std::cmp::Ordering;
@@ -16,7 +17,8 @@ use std::cmp::Ordering;
 fn list_number(key: &Key) -> u64
     ensures { result ≡ list_number key.now }
 {
-    2 * u64::from(key.rule) + u64::from(key.side)
+    let Piece { side, .. } = key.piece;
+    2 * u64::from(key.rule) + u64::from(side)
 }
 
 /// Which of two keys of one axis comes first.
@@ -24,8 +26,9 @@ fn key_order(first: &Key, second: &Key) -> Ordering
     ensures { result ≡ key_cmp first.now second.now }
 {
     let lists = list_number(first).cmp(&list_number(second));
-    let edges = first.x1.cmp(&second.x1);
-    let rows = first.x2.cmp(&second.x2).then(first.y0.cmp(&second.y0));
+    let edges = first.piece.x1.cmp(&second.piece.x1);
+    let ends = first.piece.x2.cmp(&second.piece.x2);
+    let rows = ends.then(first.piece.y0.cmp(&second.piece.y0));
     lists.then(edges.then(rows))
 }
 
@@ -35,9 +38,9 @@ fn with_rows(pieces: Vec<Key>) -> Vec<Key>
 {
     let mut pieces = pieces;
     pieces.retain(
-        |piece: &Key| -> bool
-            ensures { result ≡ has_rows piece.now }
-        { piece.y0 < piece.y1 },
+        |key: &Key| -> bool
+            ensures { result ≡ has_rows key.now }
+        { key.piece.y0 < key.piece.y1 },
     );
     pieces
 }
@@ -53,27 +56,26 @@ fn sorted(pieces: Vec<Key>) -> Vec<Key>
 }
 
 /// Whether the two lie on one line.
-fn is_on_line_of(run: &Key, piece: &Key) -> bool
-    ensures { IsTrue result ↔ (line_of_key run.now ≡ line_of_key piece.now) }
+fn is_on_line_of(run: &Key, next: &Key) -> bool
+    ensures { IsTrue result ↔ (line_of_key run.now ≡ line_of_key next.now) }
 {
-    run.line() == piece.line()
+    run.line() == next.line()
 }
 
 /// Whether the piece continues the run: it lies on the run's line, and begins at the run's end or before.
-fn goes_on(run: &Key, piece: &Key) -> bool
-    ensures { MatchBool result (GoesOn run.now piece.now) (IsApart run.now piece.now) }
+fn goes_on(run: &Key, next: &Key) -> bool
+    ensures { MatchBool result (GoesOn run.now next.now) (IsApart run.now next.now) }
 {
-    is_on_line_of(run, piece) && piece.y0 <= run.y1
+    is_on_line_of(run, next) && next.piece.y0 <= run.piece.y1
 }
 
 /// The run, extended to the end of the piece.
-fn lengthened(run: &Key, piece: &Key) -> Key
-    ensures { result ≡ lengthened run.now piece.now }
+fn lengthened(run: &Key, next: &Key) -> Key
+    ensures { result ≡ lengthened run.now next.now }
 {
-    Key {
-        y1: run.y1.max(piece.y1),
-        ..*run
-    }
+    let y1 = run.piece.y1.max(next.piece.y1);
+    let piece = Piece { y1, ..run.piece };
+    Key { piece, ..*run }
 }
 
 /// The runs of the first piece and the others. All must be in order.
@@ -112,8 +114,8 @@ fn runs_of(alloc: Global, pieces: &[Key]) -> Result<Vec<Key>, AllocError>
 /// # Errors
 /// Out of memory.
 pub fn joined(alloc: Global, pieces: Vec<Key>) -> Result<Vec<Key>, AllocError>
-    requires axis { (k l : KeyValue) → Contains pieces.items k → Contains pieces.items l → k.axis ≡ l.axis }
-    requires sides { All (λ k. k.side ≤ 1) pieces.items }
+    requires axis { (k l : KeyValue) → Contains pieces.items k → Contains pieces.items l → k.piece.axis ≡ l.piece.axis }
+    requires sides { All (λ k. k.piece.side ≤ 1) pieces.items }
 
     ensures exact { IfOk result (λ v. (k : KeyValue) → Contains v.items k ↔ IsRunOfPieces pieces.items k) }
     ensures ordered { IfOk result (λ v. AreInOrder v.items) }

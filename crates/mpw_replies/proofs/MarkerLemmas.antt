@@ -10,7 +10,6 @@ use Rattle.std.proofs.lemmas.Bool.Decides.{nat_tests}
 use Rattle.mpw_deck.specs.declared.rule.Rule.{Rule}
 use Rattle.mpw_hier.specs.declared.submission.Submission.{Submission}
 use Rattle.mpw_markers.specs.declared.marker.Marker.{Marker}
-use Rattle.mpw_markers.specs.Markers.{key_of}
 use Rattle.mpw_roles.specs.Hierarchy.{Name}
 use Rattle.mpw_replies.specs.Listing.{Listed, marker, masked}
 use Rattle.mpw_replies.specs.Sight.{is_full, is_masked, met_cells, line_for, full_line, full_lines, masked_number, masked_line}
@@ -24,7 +23,7 @@ line_same : (names : List ℕ → List Name) (shelf : List Submission) (m : Mark
     → names m.met ≡ met_cells shelf m.met
     → line_by names m o ≡ line_for shelf m o
 line_same names shelf m None e = refl
-line_same names shelf m (Some rule) e = ap (λ cells. marker rule.name (key_of m) cells ∷ []) e
+line_same names shelf m (Some rule) e = ap (λ cells. marker rule.name m.key cells ∷ []) e
 
 shown_same : (names : List ℕ → List Name) (rules : List Rule) (shelf : List Submission)
     (seen : List Bool)
@@ -35,7 +34,7 @@ shown_same names rules shelf seen same [] = refl
 shown_same names rules shelf seen same (m ∷ book) =
     let one : shown_line names rules seen m ≡ full_line rules shelf seen m =
     ap (λ ls. cond (is_full seen m) ls [])
-    (line_same names shelf m (slice_get rules m.rule) (same m.met)) in
+    (line_same names shelf m (slice_get rules m.key.rule) (same m.met)) in
     ap (λ ls. ls ++ flat_map (shown_line names rules seen) book) one
     ∙ ap (λ ls. full_line rules shelf seen m ++ ls) (shown_same names rules shelf seen same book)
 
@@ -89,7 +88,7 @@ shown_count names rules seen [] = refl
 shown_count names rules seen (m ∷ book) =
     length-append (shown_line names rules seen m) (flat_map (shown_line names rules seen) book)
     ∙ ap (λ n. n + length (flat_map (shown_line names rules seen) book))
-    (line_count names m (is_full seen m) (slice_get rules m.rule))
+    (line_count names m (is_full seen m) (slice_get rules m.key.rule))
     ∙ ap (λ n. cond (has_line rules seen m) 1 0 + n) (shown_count names rules seen book)
     ∙ sym (one_more (has_line rules seen m) m (filter (has_line rules seen) book))
 
@@ -102,7 +101,7 @@ pub number_more : (seen : List Bool) (book : List Marker) (i place : ℕ) (m : M
     + masked_one seen m place
 unfolding masked_number
 number_more seen book i place m l at =
-    length-filter_more (λ x. (x.rule == place) && is_masked seen x) book i m l
+    length-filter_more (λ x. (x.key.rule == place) && is_masked seen x) book i m l
     ∙ ap (λ x. masked_number seen (take i book) place + masked_one seen x place) (sym at)
 
 numbered_same : (seen : List Bool) (book : List Marker) (numbers : List ℕ)
@@ -212,7 +211,7 @@ number_few seen book numbers i l are place inside =
     omega (
       arith,
       are place inside,
-      length_filter (λ m. (m.rule == place) && is_masked seen m)
+      length_filter (λ m. (m.key.rule == place) && is_masked seen m)
           (take i book),
       length-take-le i book (omega (arith, l)),
     )

@@ -5,7 +5,6 @@ use Rattle.std.specs.Prelude.{slice_index_or, drop, Option, None, Some, if◌the
 use Rattle.std.specs.List.{flat_map, list_any}
 use Rattle.mpw_deck.specs.declared.rule.Rule.{Rule}
 use Rattle.mpw_markers.specs.declared.marker.Marker.{Marker}
-use Rattle.mpw_markers.specs.Markers.{key_of}
 use Rattle.mpw_roles.specs.Hierarchy.{Name}
 use Rattle.mpw_replies.specs.declared.met.Turn.{Turn}
 use Rattle.mpw_replies.specs.Listing.{Listed, marker}
@@ -55,11 +54,11 @@ pub record IsMarked (ranks met : List ℕ) (turn : Turn) : Type 0 where
 
 abbrev pub line_by : (List ℕ → List Name) → Marker → Option Rule → List Listed
 line_by names m None = []
-line_by names m (Some rule) = marker rule.name (key_of m) (names m.met) ∷ []
+line_by names m (Some rule) = marker rule.name m.key (names m.met) ∷ []
 
 abbrev pub shown_line : (List ℕ → List Name) → List Rule → List Bool → Marker → List Listed
 shown_line names rules seen m =
-    if is_full seen m then line_by names m (slice_get rules m.rule) else []
+    if is_full seen m then line_by names m (slice_get rules m.key.rule) else []
 
 unfoldable pub shown_lines : (List ℕ → List Name) → List Rule → List Bool → List Marker
     → List Listed

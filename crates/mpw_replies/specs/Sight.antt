@@ -5,7 +5,6 @@ use Rattle.mpw_geom.specs.Names.{by_name, name_eq}
 use Rattle.mpw_deck.specs.declared.rule.Rule.{Rule}
 use Rattle.mpw_hier.specs.declared.submission.Submission.{Submission}
 use Rattle.mpw_markers.specs.declared.marker.Marker.{Marker}
-use Rattle.mpw_markers.specs.Markers.{key_of}
 use Rattle.mpw_roles.specs.Hierarchy.{Name}
 use Rattle.mpw_replies.specs.Listing.{Listed, marker, masked, is_seen}
 
@@ -44,11 +43,11 @@ met_cells shelf met =
 -- The line of a marker: the name of its rule, its key, and the cells that it touches.
 abbrev pub line_for : List Submission → Marker → Option Rule → List Listed
 line_for shelf m None = []
-line_for shelf m (Some rule) = marker rule.name (key_of m) (met_cells shelf m.met) ∷ []
+line_for shelf m (Some rule) = marker rule.name m.key (met_cells shelf m.met) ∷ []
 
 abbrev pub full_line : List Rule → List Submission → List Bool → Marker → List Listed
 full_line rules shelf seen m =
-    if is_full seen m then line_for shelf m (slice_get rules m.rule) else []
+    if is_full seen m then line_for shelf m (slice_get rules m.key.rule) else []
 
 -- The full markers, in order.
 unfoldable pub full_lines : List Rule → List Submission → List Bool → List Marker → List Listed
@@ -56,7 +55,7 @@ full_lines rules shelf seen book = flat_map (full_line rules shelf seen) book
 
 -- How many markers of the rule at that index are masked.
 unfoldable pub masked_number : List Bool → List Marker → ℕ → ℕ
-masked_number seen book rule = length (filter (λ m. (m.rule == rule) && is_masked seen m) book)
+masked_number seen book rule = length (filter (λ m. (m.key.rule == rule) && is_masked seen m) book)
 
 -- A rule without masked markers has no line.
 abbrev pub masked_line : Name → ℕ → List Listed

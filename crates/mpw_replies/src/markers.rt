@@ -171,7 +171,7 @@ impl<'a> MarkerViews<'a> {
         let shown = next_shown(&mut self.at, self.book, self.rules, self.seen)?;
         Some(MarkerView {
             rule: &shown.rule.name,
-            key: shown.marker.key(),
+            key: shown.marker.key,
             cells: MetCells::new(self.cells, self.ranks, shown.marker.met.as_slice()),
         })
     }
@@ -211,7 +211,7 @@ fn rule_shown<'a>(rules: &'a [Rule], seen: &[bool], marker: &Marker) -> Option<&
     if !is_full(seen, marker) {
         return None;
     }
-    rules.get(marker.rule as usize)
+    rules.get(marker.key.rule as usize)
 }
 
 /// The number of lines: one for each full marker, and one for each count that isn't 0.
@@ -240,5 +240,5 @@ fn count_shown(book: &[Marker], rules: &[Rule], seen: &[bool]) -> usize
 fn has_line(rules: &[Rule], seen: &[bool], marker: &Marker) -> bool
     ensures { result ≡ has_line rules.now seen.now marker.now }
 {
-    is_full(seen, marker) && rules.get(marker.rule as usize).is_some()
+    is_full(seen, marker) && rules.get(marker.key.rule as usize).is_some()
 }

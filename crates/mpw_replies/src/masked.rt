@@ -123,7 +123,7 @@ fn add_masked(numbers: &mut Vec<usize>, seen: &[bool], marker: &Marker)
     ensures many { length numbers.new.items ≡ length numbers.old.items }
     ensures more { (place : ℕ) → place < length numbers.old.items → slice_index numbers.new.items place ≡ slice_index numbers.old.items place + masked_one seen.now marker.now place }
 {
-    let place = marker.rule as usize;
+    let place = marker.key.rule as usize;
     if place < numbers.len() && is_masked(seen, marker) {
         numbers[place] += 1;
     }

@@ -21,7 +21,7 @@ use Rattle.mpw_replies.specs.declared.reply.Reply.TheVariants as reply
 use Rattle.mpw_reply_text.specs.declared.reply.LineRefusal.{LineRefusal}
 use Rattle.mpw_reply_text.specs.declared.reply.LineRefusal.TheVariants as refusal
 use Rattle.mpw_requests.specs.Words.{marker_key}
-use Rattle.mpw_wire.specs.Keys.{spot_of, key_text}
+use Rattle.mpw_wire.specs.Keys.{key_text}
 use Rattle.mpw_replies.specs.EntryText.{entry_text}
 use Rattle.mpw_reply_text.specs.Lines.{line_feed}
 use Rattle.mpw_replies.specs.FirstLineText.{count_text, denial_text, refused_text, refusal_of, first_line_text}
@@ -133,7 +133,7 @@ met_text cells = flat_map cell_part cells ++ line_feed
 
 -- the line of a marker
 unfoldable pub marker_text : List ℕ → Key → List (List ℕ) → List ℕ
-marker_text rule key cells = key_text rule (spot_of key) ++ met_text cells
+marker_text rule key cells = key_text rule key.piece ++ met_text cells
 
 -- the line of a rule with masked markers, and their count
 abbrev pub masked_text : List ℕ → ℕ → List ℕ

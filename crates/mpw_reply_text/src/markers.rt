@@ -7,7 +7,7 @@ ghost use Rattle.mpw_replies.specs.Views.{marker_line, number_line};
 ghost use Rattle.mpw_reply_text.specs.Reply.{cell_part, met_text, marker_text, masked_text, listed_text};
 ghost use Rattle.mpw_wire.specs.Writing.{Writes};
 
-use crate::key::{spot_of, write_key};
+use crate::key::write_key;
 use crate::write::write_parts;
 use itoa::Buffer;
 use mpw_devices::Sink;
@@ -47,7 +47,7 @@ fn write_met<W: Sink>(writer: &mut W, cells: MetCells<'_>) -> Result<(), WireFau
 fn write_marker<W: Sink>(writer: &mut W, marker: MarkerView<'_>) -> Result<(), WireFault>
     ensures { Writes W.contents W.failures writer.old writer.new result (listed_text (marker_line marker.entry)) }
 {
-    write_key(writer, marker.rule, spot_of(marker.key))?;
+    write_key(writer, marker.rule, marker.key.piece)?;
     write_met(writer, marker.cells)
 }
 

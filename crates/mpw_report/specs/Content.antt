@@ -66,7 +66,7 @@ content_of r = record {
 
 -- the markers of the rule at that index in the deck, in order
 abbrev pub of_rule : List Marker → ℕ → List Marker
-of_rule markers place = filter (λ m. m.rule == place) markers
+of_rule markers place = filter (λ m. m.key.rule == place) markers
 
 -- how many markers the rule at that index has
 abbrev pub counted : Option (List ℕ) → List Marker → ℕ → ℕ

@@ -10,6 +10,7 @@ use Rattle.mpw_deck.specs.declared.rule.Check.TheVariants.{Width, Space, Separat
 use Rattle.mpw_deck.specs.declared.rule.Rule.{Rule}
 use Rattle.mpw_edges.specs.declared.run.Axis.{Axis}
 use Rattle.mpw_edges.specs.declared.run.Axis.TheVariants.{V, H}
+use Rattle.mpw_edges.specs.declared.run.Piece.{Piece}
 use Rattle.mpw_markers.specs.declared.marker.Marker.{Marker}
 use Rattle.mpw_report.specs.Content.{Told, Noted, no_rules, idle, unnamed, unchecked, Content, counted, of_rule, AgreeFirst, with_markers}
 use Rattle.mpw_report.specs.Escapes.{path_character, escaped, path_text}
@@ -76,11 +77,11 @@ point_on V x y = record { x = x; y = y }
 point_on H x y = record { x = y; y = x }
 
 -- the edges of a marker's pair: the first along its rows, the second back
-abbrev pub first_edge : Marker → Edge
-first_edge m = record { start = point_on m.axis m.x1 m.y0; end = point_on m.axis m.x1 m.y1 }
+abbrev pub first_edge : Piece → Edge
+first_edge p = record { start = point_on p.axis p.x1 p.y0; end = point_on p.axis p.x1 p.y1 }
 
-abbrev pub second_edge : Marker → Edge
-second_edge m = record { start = point_on m.axis m.x2 m.y1; end = point_on m.axis m.x2 m.y0 }
+abbrev pub second_edge : Piece → Edge
+second_edge p = record { start = point_on p.axis p.x2 p.y1; end = point_on p.axis p.x2 p.y0 }
 
 -- points, in micrometres, and an edge by its two
 unfoldable pub point_text : Point → List ℕ
@@ -90,15 +91,15 @@ unfoldable pub edge_text : Edge → List ℕ
 edge_text e = codes "(" ++ point_text e.start ++ codes ";" ++ point_text e.end ++ codes ")"
 
 -- both
-unfoldable pub pair_text : Marker → List ℕ
-pair_text m =
-    codes "edge-pair: " ++ edge_text (first_edge m) ++ codes "|" ++ edge_text (second_edge m)
+unfoldable pub pair_text : Piece → List ℕ
+pair_text p =
+    codes "edge-pair: " ++ edge_text (first_edge p) ++ codes "|" ++ edge_text (second_edge p)
 
 -- the item of a marker of that rule, in the cell with that name
 unfoldable pub item_text : List ℕ → Rule → Marker → List ℕ
 item_text top rule m =
     part_text ItemPath ++ path_text rule.name ++ part_text ItemCell ++ escaped top
-    ++ part_text Value ++ pair_text m
+    ++ part_text Value ++ pair_text m.key.piece
     ++ part_text ItemEnd
 
 -- the items of a rule: of its first markers
@@ -172,7 +173,8 @@ original_text (Some file) = part_text Original ++ escaped file ++ part_text Orig
 -- what comes before the categories
 unfoldable pub head_text : Content → List ℕ
 head_text c =
-    part_text Head ++ escaped c.top ++ flat_map note_text c.notes ++ part_text HeadEnd ++ original_text c.original
+    part_text Head ++ escaped c.top ++ flat_map note_text c.notes ++ part_text HeadEnd
+    ++ original_text c.original
     ++ part_text Generator
     ++ escaped c.top
     ++ part_text Categories

@@ -99,7 +99,7 @@ fn count_of(markers: &[Marker], place: usize) -> usize
 {
     markers
         .iter()
-        .filter(|marker| marker.rule as usize == place)
+        .filter(|marker| marker.key.rule as usize == place)
         .count()
 }
 

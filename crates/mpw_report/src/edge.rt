@@ -1,12 +1,11 @@
 //! Writes pairs of edges, in micrometres.
 ghost use Rattle.std.specs.Prelude.{◌≡◌};
-ghost use Rattle.mpw_report.specs.Report.{first_edge, second_edge, point_text, edge_text, pair_text};
+ghost use Rattle.mpw_report.specs.Report.{point_on, first_edge, second_edge, point_text, edge_text, pair_text};
 ghost use Rattle.mpw_text.specs.Writing.{Adds};
 
 use crate::length::put_micrometres;
-use mpw_edges::Axis;
+use mpw_edges::{Axis, Piece};
 use mpw_geom::Point;
-use mpw_markers::Marker;
 use mpw_text::put;
 use std::io::{self, Write};
 
@@ -19,59 +18,33 @@ pub(crate) struct Edge {
     pub end: Point,
 }
 
-/// The edge at a marker's `x1`, along its rows.
-fn first_edge(marker: &Marker) -> Edge
-    ensures { result ≡ first_edge marker.now }
+/// The point at `x` in row `y` of an axis.
+fn point_on(axis: Axis, x: i64, y: i64) -> Point
+    ensures { result ≡ point_on axis x y }
 {
-    match marker.axis {
-        Axis::V => Edge {
-            start: Point {
-                x: marker.x1,
-                y: marker.y0,
-            },
-            end: Point {
-                x: marker.x1,
-                y: marker.y1,
-            },
-        },
-        Axis::H => Edge {
-            start: Point {
-                x: marker.y0,
-                y: marker.x1,
-            },
-            end: Point {
-                x: marker.y1,
-                y: marker.x1,
-            },
-        },
+    match axis {
+        Axis::V => Point { x, y },
+        Axis::H => Point { x: y, y: x },
     }
 }
 
-/// The edge at its `x2`, back along its rows.
-fn second_edge(marker: &Marker) -> Edge
-    ensures { result ≡ second_edge marker.now }
+/// The edge at `x1`, along the rows.
+fn first_edge(piece: &Piece) -> Edge
+    ensures { result ≡ first_edge piece.now }
 {
-    match marker.axis {
-        Axis::V => Edge {
-            start: Point {
-                x: marker.x2,
-                y: marker.y1,
-            },
-            end: Point {
-                x: marker.x2,
-                y: marker.y0,
-            },
-        },
-        Axis::H => Edge {
-            start: Point {
-                x: marker.y1,
-                y: marker.x2,
-            },
-            end: Point {
-                x: marker.y0,
-                y: marker.x2,
-            },
-        },
+    Edge {
+        start: point_on(piece.axis, piece.x1, piece.y0),
+        end: point_on(piece.axis, piece.x1, piece.y1),
+    }
+}
+
+/// The edge at `x2`, back along the rows.
+fn second_edge(piece: &Piece) -> Edge
+    ensures { result ≡ second_edge piece.now }
+{
+    Edge {
+        start: point_on(piece.axis, piece.x2, piece.y1),
+        end: point_on(piece.axis, piece.x2, piece.y0),
     }
 }
 
@@ -99,11 +72,11 @@ fn put_edge<W: Write>(writer: &mut W, edge: Edge) -> io::Result<()>
 
 /// Writes a marker's pair of edges.
 #[tactic(auto, unfolding(crate::specs::Report::pair_text))]
-pub(crate) fn put_pair<W: Write>(writer: &mut W, marker: &Marker) -> io::Result<()>
-    ensures { Adds W.contents writer.old writer.new result (pair_text marker.now) }
+pub(crate) fn put_pair<W: Write>(writer: &mut W, piece: &Piece) -> io::Result<()>
+    ensures { Adds W.contents writer.old writer.new result (pair_text piece.now) }
 {
     put(writer, &["edge-pair: "])?;
-    put_edge(writer, first_edge(marker))?;
+    put_edge(writer, first_edge(piece))?;
     put(writer, &["|"])?;
-    put_edge(writer, second_edge(marker))
+    put_edge(writer, second_edge(piece))
 }

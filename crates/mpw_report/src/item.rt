@@ -24,7 +24,7 @@ fn put_item<W: Write>(writer: &mut W, top: &Name, rule: &Rule, marker: &Marker) 
     put_part(writer, Part::ItemCell)?;
     put_name(writer, top)?;
     put_part(writer, Part::Value)?;
-    put_pair(writer, marker)?;
+    put_pair(writer, &marker.key.piece)?;
     put_part(writer, Part::ItemEnd)
 }
 
@@ -39,7 +39,7 @@ fn put_rule_items<W: Write>(
 {
     let mut left = report.limit;
     for marker in report.markers {
-        if marker.rule as usize == place {
+        if marker.key.rule as usize == place {
             if left > 0 {
                 put_item(writer, report.top, rule, marker)?;
                 left -= 1;

@@ -1,5 +1,5 @@
 -- The requests of the layouts: what each needs, its line, and its parts.
-use Rattle.std.specs.Prelude.{ℕ, List, codes, Option, None, Some}
+use Rattle.std.specs.Prelude.{ℕ, Bool, true, false, List, codes, Option, None, Some}
 use Rattle.mpw_permissions.specs.declared.permission.Object.TheVariants.{Cell}
 use Rattle.mpw_permissions.specs.declared.permission.Operation.TheVariants as to
 use Rattle.mpw_requests.specs.declared.layouts.LayoutRequest.{LayoutRequest}
@@ -28,6 +28,11 @@ abbrev pub layout_form : LayoutVerb → List ℕ × Shape
 layout_form Submit = (codes "submit", shape.Pair)
 layout_form Cells = (codes "cells", shape.Alone)
 layout_form Shapes = (codes "shapes", shape.Name)
+
+-- whether a request of the verb only lists
+abbrev pub layout_lists : LayoutVerb → Bool
+layout_lists Submit = false
+layout_lists verb = true
 
 -- the verb and the operands of a request
 abbrev pub layout_parts : LayoutRequest → Verb × Operands

@@ -1,5 +1,5 @@
 -- The requests of the run: what each needs, its line, and its parts.
-use Rattle.std.specs.Prelude.{ℕ, List, codes, Option, None, Some}
+use Rattle.std.specs.Prelude.{ℕ, Bool, true, false, List, codes, Option, None, Some}
 use Rattle.mpw_permissions.specs.declared.permission.Object.TheVariants.{Desk}
 use Rattle.mpw_permissions.specs.declared.permission.Operation.TheVariants as to
 use Rattle.mpw_requests.specs.declared.run.RunRequest.{RunRequest}
@@ -30,6 +30,12 @@ run_form Run = (codes "run", shape.Alone)
 run_form Cancel = (codes "cancel", shape.Alone)
 run_form Status = (codes "status", shape.Alone)
 run_form Markers = (codes "markers", shape.Alone)
+
+-- whether a request of the verb only lists
+abbrev pub run_lists : RunVerb → Bool
+run_lists Run = false
+run_lists Cancel = false
+run_lists verb = true
 
 -- the verb and the operands of a request
 abbrev pub run_parts : RunRequest → Verb × Operands

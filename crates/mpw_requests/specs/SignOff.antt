@@ -1,5 +1,5 @@
 -- The sign-off requests: what each needs, its line, and its parts.
-use Rattle.std.specs.Prelude.{ℕ, List, codes, Option, None, Some}
+use Rattle.std.specs.Prelude.{ℕ, Bool, true, false, List, codes, Option, None, Some}
 use Rattle.mpw_permissions.specs.declared.permission.Object.TheVariants.{Desk}
 use Rattle.mpw_permissions.specs.declared.permission.Operation.TheVariants as to
 use Rattle.mpw_requests.specs.declared.sign_off.SignOffRequest.{SignOffRequest}
@@ -30,6 +30,12 @@ sign_off_form Waive = (codes "waive", shape.Key)
 sign_off_form Sign = (codes "sign", shape.Key)
 sign_off_form Waivers = (codes "waivers", shape.Alone)
 sign_off_form Verdict = (codes "verdict", shape.Alone)
+
+-- whether a request of the verb only lists
+abbrev pub sign_off_lists : SignOffVerb → Bool
+sign_off_lists Waive = false
+sign_off_lists Sign = false
+sign_off_lists verb = true
 
 -- the verb and the operands of a request
 abbrev pub sign_off_parts : SignOffRequest → Verb × Operands

@@ -1,5 +1,5 @@
 -- The requests of the wafer: what each needs, its line, and its parts.
-use Rattle.std.specs.Prelude.{ℕ, List, codes, Option, None, Some}
+use Rattle.std.specs.Prelude.{ℕ, Bool, false, List, codes, Option, None, Some}
 use Rattle.mpw_permissions.specs.declared.permission.Object.TheVariants.{Cell, Desk}
 use Rattle.mpw_permissions.specs.declared.permission.Operation.TheVariants as to
 use Rattle.mpw_requests.specs.declared.wafer.WaferRequest.{WaferRequest}
@@ -28,6 +28,10 @@ abbrev pub wafer_form : WaferVerb → List ℕ × Shape
 wafer_form Place = (codes "place", shape.Placement)
 wafer_form Unplace = (codes "unplace", shape.Pair)
 wafer_form Deck = (codes "deck", shape.Alone)
+
+-- whether a request of the verb only lists
+abbrev pub wafer_lists : WaferVerb → Bool
+wafer_lists verb = false
 
 -- the verb and the operands of a request
 abbrev pub wafer_parts : WaferRequest → Verb × Operands

@@ -46,8 +46,8 @@ axis_of word = first_of axis_text word (V ∷ H ∷ [])
 -- the edges and the rows, in nm
 abbrev pub marker_key : MarkerName → List ℕ
 marker_key m =
-    with_colons (m.rule ∷ axis_text m.axis ∷ decimal m.side ∷ signed_decimal m.x1
-    ∷ signed_decimal m.x2 ∷ signed_decimal m.y0 ∷ signed_decimal m.y1 ∷ [])
+    with_colons (m.rule ∷ axis_text m.piece.axis ∷ decimal m.piece.side ∷ signed_decimal m.piece.x1
+    ∷ signed_decimal m.piece.x2 ∷ signed_decimal m.piece.y0 ∷ signed_decimal m.piece.y1 ∷ [])
 
 -- the word of an operation
 unfoldable pub operation_text : Operation → List ℕ

@@ -2,12 +2,12 @@
 ghost use Rattle.std.specs.Prelude.{◌≡◌, IfOk};
 ghost use Rattle.mpw_requests.specs.Layouts.{layout_need};
 ghost use Rattle.mpw_requests.specs.Parts.{seen, parts_of, request_of};
-ghost use Rattle.mpw_requests.specs.Table.{verb_text, verb_shape, has_payload};
+ghost use Rattle.mpw_requests.specs.Table.{verb_text, verb_shape, has_payload, lists};
 
 use crate::need::{Need, on_cell};
 use crate::parts::{Operands, Parts};
 use crate::request::Request;
-use crate::table::{Form, Shape, Verb, line, upload};
+use crate::table::{Form, Shape, Verb, listing, upload};
 use mpw_geom::Name;
 use mpw_library::LibraryText;
 use mpw_permissions::Operation;
@@ -63,16 +63,17 @@ pub(crate) fn layout_need(request: &LayoutRequest) -> Result<Need, AllocError>
 }
 
 /// The form of a verb's line.
-#[tactic(auto, unfolding(crate::specs::Table::verb_form, crate::specs::Table::has_payload))]
+#[tactic(auto, unfolding(crate::specs::Table::verb_form, crate::specs::Table::has_payload, crate::specs::Table::lists))]
 pub(crate) const fn layout_form(verb: LayoutVerb) -> Form
     ensures word { result.word.now ≡ verb_text (Verb.Layout verb) }
     ensures shape { result.shape ≡ verb_shape (Verb.Layout verb) }
     ensures payload { result.has_payload ≡ has_payload (Verb.Layout verb) }
+    ensures lists { result.lists ≡ lists (Verb.Layout verb) }
 {
     match verb {
         LayoutVerb::Submit => upload("submit", " cell top length", Shape::Pair),
-        LayoutVerb::Cells => line("cells", "", Shape::Alone),
-        LayoutVerb::Shapes => line("shapes", " cell", Shape::Name),
+        LayoutVerb::Cells => listing("cells", "", Shape::Alone),
+        LayoutVerb::Shapes => listing("shapes", " cell", Shape::Name),
     }
 }
 

@@ -2,7 +2,7 @@
 ghost use Rattle.std.specs.Prelude.{◌≡◌};
 ghost use Rattle.mpw_requests.specs.Parts.{seen, parts_of, request_of};
 ghost use Rattle.mpw_requests.specs.Policy.{policy_need};
-ghost use Rattle.mpw_requests.specs.Table.{verb_text, verb_shape, has_payload};
+ghost use Rattle.mpw_requests.specs.Table.{verb_text, verb_shape, has_payload, lists};
 
 use crate::need::{Need, on_desk};
 use crate::parts::{Operands, Parts};
@@ -141,11 +141,12 @@ pub(crate) fn policy_need(request: &PolicyRequest) -> Need
 }
 
 /// The form of a verb's line.
-#[tactic(auto, unfolding(crate::specs::Table::verb_form, crate::specs::Table::has_payload))]
+#[tactic(auto, unfolding(crate::specs::Table::verb_form, crate::specs::Table::has_payload, crate::specs::Table::lists))]
 pub(crate) const fn policy_form(verb: PolicyVerb) -> Form
     ensures word { result.word.now ≡ verb_text (Verb.Policy verb) }
     ensures shape { result.shape ≡ verb_shape (Verb.Policy verb) }
     ensures payload { result.has_payload ≡ has_payload (Verb.Policy verb) }
+    ensures lists { result.lists ≡ lists (Verb.Policy verb) }
 {
     match verb {
         PolicyVerb::Open => line("open", " user token", Shape::Login),

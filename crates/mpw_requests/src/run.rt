@@ -2,12 +2,12 @@
 ghost use Rattle.std.specs.Prelude.{◌≡◌};
 ghost use Rattle.mpw_requests.specs.Parts.{seen, parts_of, request_of};
 ghost use Rattle.mpw_requests.specs.Run.{run_need};
-ghost use Rattle.mpw_requests.specs.Table.{verb_text, verb_shape, has_payload};
+ghost use Rattle.mpw_requests.specs.Table.{verb_text, verb_shape, has_payload, lists};
 
 use crate::need::{Need, on_desk};
 use crate::parts::{Operands, Parts};
 use crate::request::Request;
-use crate::table::{Form, Shape, Verb, line};
+use crate::table::{Form, Shape, Verb, line, listing};
 use mpw_permissions::Operation;
 
 /// A request of the run that checks the wafer.
@@ -43,17 +43,18 @@ pub(crate) fn run_need(request: &RunRequest) -> Need
 }
 
 /// The form of a verb's line.
-#[tactic(auto, unfolding(crate::specs::Table::verb_form, crate::specs::Table::has_payload))]
+#[tactic(auto, unfolding(crate::specs::Table::verb_form, crate::specs::Table::has_payload, crate::specs::Table::lists))]
 pub(crate) const fn run_form(verb: RunVerb) -> Form
     ensures word { result.word.now ≡ verb_text (Verb.Run verb) }
     ensures shape { result.shape ≡ verb_shape (Verb.Run verb) }
     ensures payload { result.has_payload ≡ has_payload (Verb.Run verb) }
+    ensures lists { result.lists ≡ lists (Verb.Run verb) }
 {
     match verb {
         RunVerb::Run => line("run", "", Shape::Alone),
         RunVerb::Cancel => line("cancel", "", Shape::Alone),
-        RunVerb::Status => line("status", "", Shape::Alone),
-        RunVerb::Markers => line("markers", "", Shape::Alone),
+        RunVerb::Status => listing("status", "", Shape::Alone),
+        RunVerb::Markers => listing("markers", "", Shape::Alone),
     }
 }
 

@@ -2,46 +2,28 @@
 ghost use Rattle.std.specs.Prelude.{◌≡◌};
 ghost use Rattle.mpw_requests.specs.Parts.{seen, parts_of, request_of};
 ghost use Rattle.mpw_requests.specs.SignOff.{sign_off_need};
-ghost use Rattle.mpw_requests.specs.Table.{verb_text, verb_shape, has_payload};
+ghost use Rattle.mpw_requests.specs.Table.{verb_text, verb_shape, has_payload, lists};
 
 use crate::need::{Need, on_desk};
 use crate::parts::{Operands, Parts};
 use crate::request::Request;
-use crate::table::{Form, Shape, Verb, line};
-use mpw_edges::Axis;
+use crate::table::{Form, Shape, Verb, line, listing};
+use mpw_edges::Piece;
 use mpw_geom::Name;
 use mpw_permissions::Operation;
 
-/// A marker as a request names it: the name of its rule, and its place. The side is 0 or 1. The coordinates are in nm, from -2^30 to 2^30,
+/// A marker as a request names it: the name of its rule, and its run of rows. The side is 0 or 1. The coordinates are in nm, from -2^30 to 2^30,
 /// and need not be in order.
 pub struct MarkerName {
     /// 1 to 255 bytes from 21 to 7E hex. No deck has a rule with a colon in its name.
     pub rule: Name,
-    /// The direction of the marker's edges.
-    pub axis: Axis,
-    /// Which of its two kinds of pairs a rule of two layers found. It is 0 in markers of other rules.
-    pub side: u8,
-    /// The coordinate of the first edge.
-    pub x1: i64,
-    /// The coordinate of the second edge.
-    pub x2: i64,
-    /// The first row.
-    pub y0: i64,
-    /// The row after the last one.
-    pub y1: i64,
+    /// The edges and the rows.
+    pub piece: Piece,
 }
 
 impl Drop for MarkerName {
     fn drop(self) {
-        let MarkerName {
-            rule,
-            axis: _,
-            side: _,
-            x1: _,
-            x2: _,
-            y0: _,
-            y1: _,
-        } = self;
+        let MarkerName { rule, piece: _ } = self;
         drop(rule);
     }
 }
@@ -90,17 +72,18 @@ pub(crate) fn sign_off_need(request: &SignOffRequest) -> Need
 }
 
 /// The form of a verb's line.
-#[tactic(auto, unfolding(crate::specs::Table::verb_form, crate::specs::Table::has_payload))]
+#[tactic(auto, unfolding(crate::specs::Table::verb_form, crate::specs::Table::has_payload, crate::specs::Table::lists))]
 pub(crate) const fn sign_off_form(verb: SignOffVerb) -> Form
     ensures word { result.word.now ≡ verb_text (Verb.SignOff verb) }
     ensures shape { result.shape ≡ verb_shape (Verb.SignOff verb) }
     ensures payload { result.has_payload ≡ has_payload (Verb.SignOff verb) }
+    ensures lists { result.lists ≡ lists (Verb.SignOff verb) }
 {
     match verb {
         SignOffVerb::Waive => line("waive", " key", Shape::Key),
         SignOffVerb::Sign => line("sign", " key", Shape::Key),
-        SignOffVerb::Waivers => line("waivers", "", Shape::Alone),
-        SignOffVerb::Verdict => line("verdict", "", Shape::Alone),
+        SignOffVerb::Waivers => listing("waivers", "", Shape::Alone),
+        SignOffVerb::Verdict => listing("verdict", "", Shape::Alone),
     }
 }
 

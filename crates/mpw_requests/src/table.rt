@@ -2,7 +2,7 @@
 //!
 //! Whoever adds a request adds its verb to `ALL`, and all else in the file of its group. Readers and writers of lines go by the shape alone.
 ghost use Rattle.std.specs.Prelude.{◌≡◌, true, false};
-ghost use Rattle.mpw_requests.specs.Table.{verb_text, verb_shape, has_payload, verb_of};
+ghost use Rattle.mpw_requests.specs.Table.{verb_text, verb_shape, has_payload, lists, verb_of};
 ghost use Rattle.mpw_requests.specs.Words.{first_of};
 
 use crate::layouts::{LayoutVerb, layout_form};
@@ -55,6 +55,8 @@ pub struct Form {
     pub shape: Shape,
     /// Whether the number of bytes of a payload comes last, and the payload after the line.
     pub has_payload: bool,
+    /// Whether the request only lists.
+    pub lists: bool,
 }
 
 /// Each verb, in the order of the help.
@@ -95,47 +97,64 @@ pub const ALL: [Verb; 34] = [
     Verb::Trail,
 ];
 
-/// A line without a payload.
+/// The line of a request that changes something, without a payload.
 pub(crate) const fn line(word: &'static str, operands: &'static str, shape: Shape) -> Form
     ensures word { result.word.now ≡ word.now }
-    ensures rest { (result.shape ≡ shape) × (result.has_payload ≡ false) }
+    ensures rest { (result.shape ≡ shape) × (result.has_payload ≡ false) × (result.lists ≡ false) }
 {
     Form {
         word,
         operands,
         shape,
         has_payload: false,
+        lists: false,
     }
 }
 
-/// A line with a payload.
+/// The line of a request that only lists.
+pub(crate) const fn listing(word: &'static str, operands: &'static str, shape: Shape) -> Form
+    ensures word { result.word.now ≡ word.now }
+    ensures rest { (result.shape ≡ shape) × (result.has_payload ≡ false) × (result.lists ≡ true) }
+{
+    Form {
+        word,
+        operands,
+        shape,
+        has_payload: false,
+        lists: true,
+    }
+}
+
+/// The line of a request with a payload.
 pub(crate) const fn upload(word: &'static str, operands: &'static str, shape: Shape) -> Form
     ensures word { result.word.now ≡ word.now }
-    ensures rest { (result.shape ≡ shape) × (result.has_payload ≡ true) }
+    ensures rest { (result.shape ≡ shape) × (result.has_payload ≡ true) × (result.lists ≡ false) }
 {
     Form {
         word,
         operands,
         shape,
         has_payload: true,
+        lists: false,
     }
 }
 
 /// The form of a verb's line. It takes no memory.
-#[tactic(auto, unfolding(crate::specs::Table::verb_form, crate::specs::Table::has_payload))]
+#[tactic(auto, unfolding(crate::specs::Table::verb_form, crate::specs::Table::has_payload, crate::specs::Table::lists))]
 pub const fn form_of(verb: Verb) -> Form
     ensures word { result.word.now ≡ verb_text verb }
     ensures shape { result.shape ≡ verb_shape verb }
     ensures payload { result.has_payload ≡ has_payload verb }
+    ensures lists { result.lists ≡ lists verb }
 {
     match verb {
         Verb::Policy(verb) => policy_form(verb),
-        Verb::Whoami => line("whoami", "", Shape::Alone),
+        Verb::Whoami => listing("whoami", "", Shape::Alone),
         Verb::Layout(verb) => layout_form(verb),
         Verb::Wafer(verb) => wafer_form(verb),
         Verb::Run(verb) => run_form(verb),
         Verb::SignOff(verb) => sign_off_form(verb),
-        Verb::Trail => line("trail", "", Shape::Alone),
+        Verb::Trail => listing("trail", "", Shape::Alone),
     }
 }
 

@@ -1,7 +1,7 @@
 //! The requests of the wafer: what each needs, its line, and its parts.
 ghost use Rattle.std.specs.Prelude.{◌≡◌, IfOk};
 ghost use Rattle.mpw_requests.specs.Parts.{seen, parts_of, request_of};
-ghost use Rattle.mpw_requests.specs.Table.{verb_text, verb_shape, has_payload};
+ghost use Rattle.mpw_requests.specs.Table.{verb_text, verb_shape, has_payload, lists};
 ghost use Rattle.mpw_requests.specs.Wafer.{wafer_need};
 
 use crate::need::{Need, on_cell, on_desk};
@@ -73,11 +73,12 @@ pub(crate) fn wafer_need(request: &WaferRequest) -> Result<Need, AllocError>
 }
 
 /// The form of a verb's line.
-#[tactic(auto, unfolding(crate::specs::Table::verb_form, crate::specs::Table::has_payload))]
+#[tactic(auto, unfolding(crate::specs::Table::verb_form, crate::specs::Table::has_payload, crate::specs::Table::lists))]
 pub(crate) const fn wafer_form(verb: WaferVerb) -> Form
     ensures word { result.word.now ≡ verb_text (Verb.Wafer verb) }
     ensures shape { result.shape ≡ verb_shape (Verb.Wafer verb) }
     ensures payload { result.has_payload ≡ has_payload (Verb.Wafer verb) }
+    ensures lists { result.lists ≡ lists (Verb.Wafer verb) }
 {
     match verb {
         WaferVerb::Place => line("place", " cell label orientation x y", Shape::Placement),

@@ -1,11 +1,10 @@
 -- A request changes the desk if it is accepted and is no listing.
-use Rattle.std.proofs.Common.{◌≡◌, ℕ, ◌+◌, Bool, true, false, List, [], ◌∷◌, Result, Ok, Err, refl}
+use Rattle.std.proofs.Common.{◌≡◌, ◌∙◌, ℕ, ◌+◌, Bool, true, false, List, [], ◌∷◌, Result, Ok, Err, refl, sym, ap}
 use Rattle.std.specs.Prelude.{◌&&◌}
 use Rattle.mpw_access.specs.Guard.{entered}
 use Rattle.mpw_layouts.specs.Layouts as layouts
 use Rattle.mpw_wafer.specs.Wafers as wafers
 use Rattle.mpw_wafer.specs.Run.Checking as checking
-use Rattle.mpw_deck.specs.Reading.{deck_of}
 use Rattle.mpw_signoff.specs.SigningOff as signing
 use Rattle.mpw_replies.specs.Listing.{Listed}
 use Rattle.mpw_replies.specs.Rows.{changing, ended_by, listing}
@@ -24,6 +23,10 @@ use Rattle.mpw_requests.specs.declared.run.RunRequest.TheVariants as running
 use Rattle.mpw_requests.specs.declared.sign_off.SignOffRequest.{SignOffRequest}
 use Rattle.mpw_requests.specs.declared.sign_off.SignOffRequest.TheVariants as sign_off
 use Rattle.mpw_requests.specs.Needs.{need_of}
+use Rattle.mpw_requests.specs.Parts.{parts_of}
+use Rattle.mpw_requests.specs.Table.{lists}
+use Rattle.mpw_requests.specs.declared.policy.PolicyRequest.{PolicyRequest}
+use Rattle.mpw_requests.specs.declared.policy.PolicyRequest.TheVariants as policy
 use Rattle.mpw_events.specs.PolicyRows.{row_of}
 use Rattle.mpw_events.specs.declared.event.Event.TheVariants as event
 use Rattle.mpw_events.specs.Step.{State, Outcome, ending_of, event_outcome, guarded, outcome_by, row_outcome, over_policy, over_run, over_shelf, over_wafer, over_waivers}
@@ -53,6 +56,7 @@ Tells request o = o.changes ≡ (is_change request && is_accepted o.response)
 
 layout_tells : (s : State) (connection : ℕ) (request : LayoutRequest)
     → Tells (ask.Layout request) (row_outcome s connection (ask.Layout request))
+unfolding parts_of lists
 layout_tells s connection (layout.Submit cell top text) =
     changing_tells layouts.ending_of (over_shelf s) s _ (λ new. line.Version new.version ∷ [])
     (layouts.submit_row s.policy s.shelf connection cell top text)
@@ -60,17 +64,15 @@ layout_tells s connection request = search listing_tells
 
 wafer_tells : (s : State) (connection : ℕ) (request : WaferRequest)
     → Tells (ask.Wafer request) (row_outcome s connection (ask.Wafer request))
+unfolding parts_of lists
 wafer_tells s connection (wafer.Place cell label placing) =
     changing_tells ending.Refused (over_wafer s) s _ _
     (wafers.place_row s.shelf s.wafer.placings cell label placing)
-wafer_tells s connection (wafer.Unplace cell label) =
-    changing_tells ending.Refused (over_wafer s) s _ (λ ps. [])
-    (wafers.unplace_row s.wafer.placings cell label)
-wafer_tells s connection (wafer.Deck text) =
-    changing_tells ending.Refused (over_wafer s) s _ (λ deck. []) (wafers.deck_row (deck_of text))
+wafer_tells s connection request = search (changing_tells, listing_tells)
 
 run_tells : (s : State) (connection : ℕ) (request : RunRequest)
     → Tells (ask.Run request) (row_outcome s connection (ask.Run request))
+unfolding parts_of lists
 run_tells s connection running.Run =
     changing_tells ending.Refused (over_run s) s _ (λ planned. line.Run (s.run.number + 1) ∷ [])
     (checking.run_row s.shelf s.wafer s.run)
@@ -80,6 +82,7 @@ run_tells s connection request = search listing_tells
 
 sign_off_tells : (s : State) (connection : ℕ) (request : SignOffRequest)
     → Tells (ask.SignOff request) (row_outcome s connection (ask.SignOff request))
+unfolding parts_of lists
 sign_off_tells s connection (sign_off.Waive marker) =
     changing_tells signing.ending_of (over_waivers s) s _ (λ by. [])
     (signing.waive_row s.policy s.run s.waivers connection marker)
@@ -88,11 +91,20 @@ sign_off_tells s connection (sign_off.Sign marker) =
     (signing.sign_row s.policy s.run s.waivers connection marker)
 sign_off_tells s connection request = search listing_tells
 
+-- each request of the policy may change it
+policy_changes : (request : PolicyRequest) → is_change (ask.Policy request) ≡ true
+unfolding parts_of lists
+policy_changes policy.Close = refl
+policy_changes request = refl
+
 row_tells : (s : State) (connection : ℕ) (request : Request)
     → Tells request (row_outcome s connection request)
+unfolding parts_of lists
 row_tells s connection (ask.Policy request) =
     changing_tells ending_of (over_policy s) s (λ next. next) (λ next. [])
     (row_of s.policy connection request)
+    ∙ ap (λ (may : Bool). may && is_accepted (row_outcome s connection (ask.Policy request)).response)
+    (sym (policy_changes request))
 row_tells s connection (ask.Layout request) = layout_tells s connection request
 row_tells s connection (ask.Wafer request) = wafer_tells s connection request
 row_tells s connection (ask.Run request) = run_tells s connection request

@@ -27,23 +27,30 @@ use Rattle.mpw_run.proofs.Uniting.{head_at, none_in, cons_pairs, union_has, unio
 
 abbrev Position : Marker → Marker → Ordering → Type 0
 Position m n Less = StandsBefore m n
-Position m n Equal = (line_of m ≡ line_of n) × (n.y0 ≤ℤ m.y1) × (m.y0 ≤ℤ n.y1)
+Position m n Equal = (line_of m ≡ line_of n) × (n.key.piece.y0 ≤ℤ m.key.piece.y1)
+    × (m.key.piece.y0 ≤ℤ n.key.piece.y1)
 Position m n Greater = StandsBefore n m
 
 position : (m n : Marker) (c : Ordering) → line_cmp (line_of m) (line_of n) ≡ c
     → Position m n (beside c m n)
 position m n Less e = inl e
 position m n Greater e = inl (line_total.antisymm (line_of n) (line_of m) ∙ ap ordering_reverse e)
-position m n Equal e = tests (int_lt m.y1 n.y0) (int_lt n.y1 m.y0) refl refl
+position m n Equal e =
+    tests (int_lt m.key.piece.y1 n.key.piece.y0) (int_lt n.key.piece.y1 m.key.piece.y0) refl refl
   where
     same : line_of m ≡ line_of n
     same = line_tied (line_of m) (line_of n) e
 
-    tests : (s t : Bool) → int_lt m.y1 n.y0 ≡ s → int_lt n.y1 m.y0 ≡ t
+    tests : (s t : Bool) → int_lt m.key.piece.y1 n.key.piece.y0 ≡ s
+        → int_lt n.key.piece.y1 m.key.piece.y0 ≡ t
         → Position m n (if s then Less else (if t then Greater else Equal))
-    tests true t f g = inr (same, lt_from_test m.y1 n.y0 f)
-    tests false true f g = inr (sym same, lt_from_test n.y1 m.y0 g)
-    tests false false f g = (same, ge_from_test m.y1 n.y0 f, ge_from_test n.y1 m.y0 g)
+    tests true t f g = inr (same, lt_from_test m.key.piece.y1 n.key.piece.y0 f)
+    tests false true f g = inr (sym same, lt_from_test n.key.piece.y1 m.key.piece.y0 g)
+    tests false false f g = (
+      same,
+      ge_from_test m.key.piece.y1 n.key.piece.y0 f,
+      ge_from_test n.key.piece.y1 m.key.piece.y0 g,
+    )
 
 -- ---- one more marker
 
@@ -60,7 +67,7 @@ trans_lies a b c f g = (f.0 ∙ g.0, omega (arith, ints, f.1, g.1), omega (arith
 pub wider : (a b : Marker) (line : Line) (j : ℤ) → LiesIn a b → HasRow a line j → HasRow b line j
 wider a b line j l r = (sym l.0 ∙ r.0, omega (arith, ints, l.1, r.1), omega (arith, ints, l.2, r.2))
 
-pub own_rows : (n : Marker) → IsFilled n → HasRow n (line_of n) n.y0
+pub own_rows : (n : Marker) → IsFilled n → HasRow n (line_of n) n.key.piece.y0
 own_rows n f = (refl, omega (arith, ints), f)
 
 -- a marker before all parts of a book is before each marker of the book
@@ -68,7 +75,7 @@ before_all : (P : Marker → Type 0) (n : Marker) (book : List Marker) → IsJoi
     → ((p : Marker) → P p → StandsBefore n p) → (y : Marker) → Contains book y → StandsBefore n y
 before_all P n book h near y c =
     let f = All-contains IsFilled book y h.markers.filled c in
-    let p = (h.rows (line_of y) y.y0).0 (y, c, own_rows y f) in
+    let p = (h.rows (line_of y) y.key.piece.y0).0 (y, c, own_rows y f) in
     StandsBefore-begins n p.0 y (near p.0 p.1) (inr (p.2.0, p.2.1))
 
 -- a marker before the parts of a book is put before it
@@ -161,7 +168,7 @@ split_part P m n book touch pm pn h = record {
 
     of_both : (line : Line) (j : ℤ) → HasRow both line j → (x : Marker) × Q x × HasRow x line j
     of_both line j r =
-        by_lt_z j m.y0
+        by_lt_z j m.key.piece.y0
         (λ less. (
           n,
           inr (inr refl),
@@ -171,7 +178,7 @@ split_part P m n book touch pm pn h = record {
             omega (arith, ints, clamps, less, touch.2),
           ),
         ))
-        (λ from_m. by_lt_z j m.y1
+        (λ from_m. by_lt_z j m.key.piece.y1
         (λ less. (m, inr (inl refl), (r.0, from_m, less)))
         (λ past. (
           n,
@@ -221,10 +228,11 @@ split_part P m n book touch pm pn h = record {
     through : (a : Marker) (y : Marker) (o : ℕ) → Contains book y → IsFilled a → LiesIn a both
         → LiesIn a y → Contains both.met o → Contains y.met o
     through a y o c f in_both in_y d =
-        let row : HasRow a (line_of a) a.y0 = own_rows a f in
-        let l : LiesIn both y = lies_in (λ x. P x ⊎ (both ≡ x)) book both y (line_of a) a.y0 h c
-        (inr refl) (wider a both (line_of a) a.y0 in_both row)
-        (wider a y (line_of a) a.y0 in_y row) in
+        let row : HasRow a (line_of a) a.key.piece.y0 = own_rows a f in
+        let l : LiesIn both y = lies_in (λ x. P x ⊎ (both ≡ x)) book both y (line_of a)
+        a.key.piece.y0 h c
+        (inr refl) (wider a both (line_of a) a.key.piece.y0 in_both row)
+        (wider a y (line_of a) a.key.piece.y0 in_y row) in
         (h.met y o c).1 (both, inr refl, l, d)
 
     met_from : (y : Marker) (o : ℕ) → Contains book y → (x : Marker) × Q x × LiesIn x y
@@ -246,8 +254,8 @@ own_book book b = record {
     λ x. (y, c, (refl, omega (arith, ints), omega (arith, ints)), x),
     λ p.
         let row = own_rows p.0 (All-contains IsFilled book p.0 b.filled p.1) in
-        let same : p.0 ≡ y = one_by_row book p.0 y (line_of p.0) p.0.y0 b p.1 c row
-        (wider p.0 y (line_of p.0) p.0.y0 p.2 row) in
+        let same : p.0 ≡ y = one_by_row book p.0 y (line_of p.0) p.0.key.piece.y0 b p.1 c row
+        (wider p.0 y (line_of p.0) p.0.key.piece.y0 p.2 row) in
         subst (λ (z : Marker). Contains z.met o) same p.3,
   );
 }

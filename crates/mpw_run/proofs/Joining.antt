@@ -47,10 +47,11 @@ compose P m book new parts h k = record {
     from y o c p = elim p.1 [
       | inl q ↦
           let row = own_rows p.0 (parts p.0 q).0 in
-          let b = (h.rows (line_of p.0) p.0.y0).1 (p.0, q, row) in
-          let within = lies_in P book p.0 b.0 (line_of p.0) p.0.y0 h b.1 q row b.2 in
-          let lies = lies_in (λ x. Contains book x ⊎ (m ≡ x)) new b.0 y (line_of p.0) p.0.y0 k c
-          (inl b.1) b.2 (wider p.0 y (line_of p.0) p.0.y0 p.2 row) in
+          let b = (h.rows (line_of p.0) p.0.key.piece.y0).1 (p.0, q, row) in
+          let within = lies_in P book p.0 b.0 (line_of p.0) p.0.key.piece.y0 h b.1 q row b.2 in
+          let lies =
+          lies_in (λ x. Contains book x ⊎ (m ≡ x)) new b.0 y (line_of p.0) p.0.key.piece.y0 k c
+          (inl b.1) b.2 (wider p.0 y (line_of p.0) p.0.key.piece.y0 p.2 row) in
           (k.met y o c).1 (b.0, inl b.1, lies, (h.met b.0 o b.1).1 (p.0, q, within, p.3))
       | inr e ↦ (k.met y o c).1 (p.0, inr e, p.2, p.3)
     ]

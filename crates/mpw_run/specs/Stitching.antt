@@ -4,6 +4,7 @@ use Rattle.std.specs.List.{flat_map}
 use Rattle.std.specs.Int.{int_min, int_max}
 use Rattle.std.specs.declared.cmp.Ordering.{Ordering}
 use Rattle.std.specs.declared.cmp.Ordering.TheVariants.{Less, Equal, Greater}
+use Rattle.mpw_edges.specs.declared.run.Piece.{Piece}
 use Rattle.mpw_markers.specs.declared.marker.Marker.{Marker}
 use Rattle.mpw_markers.specs.Met.{IsAscending}
 use Rattle.mpw_markers.specs.Markers.{line_of, IsFilled}
@@ -18,23 +19,23 @@ met_with n (k ∷ ks) =
 
 -- One marker for two of a line.
 abbrev pub joined : Marker → Marker → Marker
-joined m n = record {
-  rule = m.rule;
-  axis = m.axis;
-  side = m.side;
-  x1 = m.x1;
-  x2 = m.x2;
-  y0 = int_min m.y0 n.y0;
-  y1 = int_max m.y1 n.y1;
-  met = fold (λ met k. met_with k met) n.met m.met;
-}
+joined m n =
+    let p : Piece = m.key.piece in
+    let q : Piece = n.key.piece in
+    let piece : Piece = record p { y0 = int_min p.y0 q.y0; y1 = int_max p.y1 q.y1 } in
+    record {
+      key = record m.key { piece = piece };
+      met = fold (λ met k. met_with k met) n.met m.met;
+    }
 
 -- The position of a marker relative to one of a book: before it, after it, or joined with it, if their rows
 -- overlap or touch.
 abbrev pub beside : Ordering → Marker → Marker → Ordering
 beside Less m n = Less
 beside Greater m n = Greater
-beside Equal m n = if int_lt m.y1 n.y0 then Less else (if int_lt n.y1 m.y0 then Greater else Equal)
+beside Equal m n =
+    if int_lt m.key.piece.y1 n.key.piece.y0 then Less
+    else (if int_lt n.key.piece.y1 m.key.piece.y0 then Greater else Equal)
 
 -- The book with one more marker. Which of three books it is: the marker comes before, is joined, or comes
 -- after.

@@ -18,7 +18,7 @@ use Rattle.mpw_edges.specs.declared.run.Axis.{Axis}
 use Rattle.mpw_edges.specs.declared.run.Axis.TheVariants.{V, H}
 use Rattle.mpw_edges.specs.Edges.{Squares, exchanged}
 use Rattle.mpw_edges.specs.Laws.{AreSameIn}
-use Rattle.mpw_edges.specs.Pieces.{HasStep, axis_cmp}
+use Rattle.mpw_edges.specs.Pieces.{HasStep, axis_cmp, box_of}
 use Rattle.mpw_tiles.specs.declared.listing.Rectangle.{Rectangle}
 use Rattle.mpw_geom.specs.Meeting.{Meet, IsMet}
 use Rattle.mpw_tiles.specs.Laws.{EachWindowDecides, EachWindowDecidesRows, MetSquaresLieInWindows}
@@ -27,10 +27,10 @@ use Rattle.mpw_tiles.proofs.Tiles.{no_greater}
 use Rattle.mpw_markers.specs.declared.marker.Marker.{Marker}
 use Rattle.mpw_markers.specs.declared.marker.Key.{Key}
 use Rattle.mpw_markers.specs.Markers as marks
-use Rattle.mpw_markers.proofs.Unique.{same_in_order, same_numbers, same_marker}
+use Rattle.mpw_markers.proofs.Marked.{same_marker}
+use Rattle.mpw_markers.proofs.Unique.{same_in_order, same_numbers}
 use Rattle.mpw_tiles.specs.Listing.{IsListed, HasListed}
-use Rattle.mpw_job.specs.Answers.{TileJob, listed_on, IsFoundIn, run_of, marker_cmp, ComesBefore, Answers}
-use Rattle.mpw_job.specs.Internal.Keys.{key_box}
+use Rattle.mpw_job.specs.Answers.{TileJob, listed_on, IsFoundIn, marker_cmp, ComesBefore, Answers}
 use Rattle.mpw_job.specs.Layers.{first_squares, second_squares}
 use Rattle.mpw_job.proofs.Tests.{same_first, same_second, get_contains}
 use Rattle.mpw_job.proofs.Shapes.{tests_tell_listed}
@@ -177,11 +177,12 @@ axis_total = record { antisymm = back; trans = chain; congr = alike }
 
 marker_total : IsTotalOrder marker_cmp
 marker_total =
-    then_total (on_total (λ m. m.rule) nat_cmp_total)
-    (then_total (on_total (λ m. m.axis) axis_total)
-    (then_total (on_total (λ m. m.side) nat_cmp_total)
-    (then_total (on_total (λ m. m.x1) int_cmp_total)
-    (then_total (on_total (λ m. m.x2) int_cmp_total) (on_total (λ m. m.y0) int_cmp_total)))))
+    then_total (on_total (λ m. m.key.rule) nat_cmp_total)
+    (then_total (on_total (λ m. m.key.piece.axis) axis_total)
+    (then_total (on_total (λ m. m.key.piece.side) nat_cmp_total)
+    (then_total (on_total (λ m. m.key.piece.x1) int_cmp_total)
+    (then_total (on_total (λ m. m.key.piece.x2) int_cmp_total)
+    (on_total (λ m. m.key.piece.y0) int_cmp_total)))))
 
 never_both : (m n : Marker) → ComesBefore m n → ComesBefore n m → ⊥
 never_both m n e f =
@@ -199,44 +200,46 @@ in_both runs met extent deck tile first second found others m is other same f g 
     let own = f.sound m c in
     let rule : Rule = own.rule in
     let in_deck : Contains deck.rules rule = subst (λ (rules : List Rule). Contains rules rule)
-    is.rules (get_contains first.rules m.rule rule own.at) in
+    is.rules (get_contains first.rules m.key.rule rule own.at) in
     let layers = same_coverage window first.window second.window same in
-    let here : IsFoundIn core (listed_on first.window) rule (run_of m) =
-    subst (λ (b : Box2). IsFoundIn b (listed_on first.window) rule (run_of m)) is.core own.run in
-    let there : IsFoundIn core (listed_on second.window) rule (run_of m) =
+    let here : IsFoundIn core (listed_on first.window) rule m.key.piece =
+    subst (λ (b : Box2). IsFoundIn b (listed_on first.window) rule m.key.piece) is.core own.run in
+    let there : IsFoundIn core (listed_on second.window) rule m.key.piece =
     (runs extent deck rule tile (first_squares rule.check (listed_on first.window))
     (second_squares rule.check (listed_on first.window))
     (first_squares rule.check (listed_on second.window))
     (second_squares rule.check (listed_on second.window)) in_deck
     (same_first rule.check window (listed_on first.window) (listed_on second.window) layers)
     (same_second rule.check window (listed_on first.window) (listed_on second.window) layers)
-    (run_of m)).0 here in
-    let at : slice_get second.rules m.rule ≡ Some rule =
-    ap (λ (rules : List Rule). slice_get rules m.rule) (other.rules ∙ sym is.rules) ∙ own.at in
-    let held = g.complete m.rule rule (run_of m) at
-    (subst (λ (b : Box2). IsFoundIn b (listed_on second.window) rule (run_of m)) (sym other.core)
+    m.key.piece).0 here in
+    let at : slice_get second.rules m.key.rule ≡ Some rule =
+    ap (λ (rules : List Rule). slice_get rules m.key.rule) (other.rules ∙ sym is.rules) ∙ own.at in
+    let held = g.complete m.key.rule rule m.key.piece at
+    (subst (λ (b : Box2). IsFoundIn b (listed_on second.window) rule m.key.piece) (sym other.core)
     there) in
     let n : Marker = held.0 in
-    let keys : marks.key_of n ≡ marks.key_of m = held.2 in
-    let boxes : marks.box_of n ≡ marks.box_of m = ap key_box keys in
+    let keys : n.key ≡ m.key = held.2 in
+    let boxes : box_of n.key.piece ≡ box_of m.key.piece =
+    ap (λ (k : Key). box_of k.piece) keys in
     let told = g.sound n held.1 in
-    let within : (s : Square) → Meet (closed_square s) (marks.box_of m)
+    let within : (s : Square) → Meet (closed_square s) (box_of m.key.piece)
     → has_square window s ≡ true = λ s k.
     met extent deck rule tile (first_squares rule.check (listed_on first.window))
-    (second_squares rule.check (listed_on first.window)) (run_of m) s in_deck here k in
+    (second_squares rule.check (listed_on first.window)) m.key.piece s in_deck here k in
     let numbers : n.met ≡ m.met =
     same_numbers n.met m.met told.met.ascending own.met.ascending (λ origin. (
-      λ k. (own.met.exact origin).1 (met_alike window second.window first.window (marks.box_of m)
+      λ k. (own.met.exact origin).1 (met_alike window second.window first.window
+          (box_of m.key.piece)
           origin (turned window first.window second.window same) within
           (subst (λ (b : Box2). IsMet (HasListed second.window) b origin) boxes
           ((told.met.exact origin).0 k))),
       λ k. (told.met.exact origin).1 (subst (λ (b : Box2).
           IsMet (HasListed second.window) b origin) (sym boxes)
-          (met_alike window first.window second.window (marks.box_of m) origin same within
+          (met_alike window first.window second.window (box_of m.key.piece) origin same within
           ((own.met.exact origin).0 k))),
     )) in
     subst (Contains others) (same_marker n m (ap marks.line_of_key keys)
-    (ap (λ (k : Key). k.y0) keys) (ap (λ (k : Key). k.y1) keys) numbers) held.1
+    (ap (λ (k : Key). k.piece.y0) keys) (ap (λ (k : Key). k.piece.y1) keys) numbers) held.1
 
 pub answers_decided : EachWindowDecides → MetSquaresLieInWindows → SquaresDecideAnswers
 answers_decided runs met extent deck tile first second found others is other same f g =

@@ -9,7 +9,6 @@ use Rattle.mpw_deck.specs.declared.rule.Rule.{Rule}
 use Rattle.mpw_hier.specs.declared.submission.Submission.{Submission}
 use Rattle.mpw_markers.specs.declared.marker.Key.{Key}
 use Rattle.mpw_markers.specs.declared.marker.Marker.{Marker}
-use Rattle.mpw_markers.specs.Markers.{key_of}
 use Rattle.mpw_requests.specs.declared.sign_off.MarkerName.{MarkerName}
 use Rattle.mpw_roles.specs.Hierarchy.{Name}
 use Rattle.mpw_rbac.specs.Policy.{Policy, session_of}
@@ -114,13 +113,14 @@ full_by : (rules : List Rule) (shelf : List Submission) (seen : List Bool) (user
     → full_line rules shelf seen m ≡ flat_map (told_in (names_of rules))
     (marker_seen shelf seen user m waiver)
 full_by rules shelf seen user m waiver =
-    elim (is_full seen m) as (λ b. cond b (line_for shelf m (slice_get rules m.rule)) []
+    elim (is_full seen m) as (λ b. cond b (line_for shelf m (slice_get rules m.key.rule)) []
     ≡ flat_map (told_in (names_of rules)) (cond b (marker_of shelf user m waiver ∷ []) [])) [
       | true ↦
-          line_by shelf user m waiver (slice_get rules m.rule)
+          line_by shelf user m waiver (slice_get rules m.key.rule)
           ∙ ap (λ o. told_by o (marker_of shelf user m waiver))
-          (sym (slice_get-map (λ (rule : Rule). rule.name) rules m.rule))
-          ∙ nil_right (told_by (slice_get (names_of rules) m.rule) (marker_of shelf user m waiver))
+          (sym (slice_get-map (λ (rule : Rule). rule.name) rules m.key.rule))
+          ∙ nil_right (told_by (slice_get (names_of rules) m.key.rule)
+          (marker_of shelf user m waiver))
       | false ↦ refl
     ]
 
@@ -205,15 +205,7 @@ markers_alike why connection =
 -- ---- waivers
 
 abbrev named_by : Name → Key → MarkerName
-named_by rule key = record {
-  rule = rule;
-  axis = key.axis;
-  side = key.side;
-  x1 = key.x1;
-  x2 = key.x2;
-  y0 = key.y0;
-  y1 = key.y1;
-}
+named_by rule key = record { rule = rule; piece = key.piece }
 
 abbrev waiver_of : Key → Waiver → Option Name → List Line
 waiver_of key waiver None = []
@@ -227,17 +219,17 @@ abbrev waiver_in : List Name → MarkerSeen → List Line
 waiver_in names seen = waiver_by seen.key seen.waiver (slice_get names seen.key.rule)
 
 rule_by : (m : Marker) (waiver : Waiver) (o : Option Rule)
-    → rule_line m waiver o ≡ waiver_of (key_of m) waiver (option_map (λ (rule : Rule). rule.name) o)
+    → rule_line m waiver o ≡ waiver_of m.key waiver (option_map (λ (rule : Rule). rule.name) o)
 rule_by m waiver None = refl
 rule_by m waiver (Some rule) = refl
 
 marker_by : (rules : List Rule) (m : Marker) (o : Option Waiver)
-    → marker_line rules m o ≡ waiver_by (key_of m) o (slice_get (names_of rules) m.rule)
+    → marker_line rules m o ≡ waiver_by m.key o (slice_get (names_of rules) m.key.rule)
 marker_by rules m None = refl
 marker_by rules m (Some waiver) =
-    rule_by m waiver (slice_get rules m.rule)
-    ∙ ap (waiver_of (key_of m) waiver)
-    (sym (slice_get-map (λ (rule : Rule). rule.name) rules m.rule))
+    rule_by m waiver (slice_get rules m.key.rule)
+    ∙ ap (waiver_of m.key waiver)
+    (sym (slice_get-map (λ (rule : Rule). rule.name) rules m.key.rule))
 
 shown_by : (rules : List Rule) (shelf : List Submission) (seen : List Bool) (user : Name)
     (m : Marker) (o : Option Waiver)
@@ -247,7 +239,7 @@ shown_by rules shelf seen user m o =
     elim (is_full seen m) as (λ b. cond b (marker_line rules m o) []
     ≡ flat_map (waiver_in (names_of rules)) (cond b (marker_of shelf user m o ∷ []) [])) [
       | true ↦ marker_by rules m o ∙ nil_right
-          (waiver_by (key_of m) o (slice_get (names_of rules) m.rule))
+          (waiver_by m.key o (slice_get (names_of rules) m.key.rule))
       | false ↦ refl
     ]
 

@@ -11,7 +11,7 @@ use Rattle.mpw_markers.specs.declared.marker.Key.{Key}
 use Rattle.mpw_markers.specs.declared.marker.Marker.{Marker}
 use Rattle.mpw_markers.specs.Book.{IsBook, place_in}
 use Rattle.mpw_markers.specs.Laws.{PlacesAreOfKeys}
-use Rattle.mpw_markers.specs.Markers.{IsFilled, key_eq, key_of, line_of, line_of_key}
+use Rattle.mpw_markers.specs.Markers.{IsFilled, key_eq, line_of, line_of_key}
 use Rattle.mpw_markers.specs.Order.{StandsBefore}
 use Rattle.mpw_markers.proofs.Order.{line_before}
 use Rattle.mpw_waiver.specs.declared.waiver.Waiver.{Waiver}
@@ -21,44 +21,36 @@ use Rattle.mpw_secrecy.proofs.Waived.{IsNowhere, IsOnlyAt}
 -- ---- keys
 
 abbrev with_key : Key → Marker
-with_key k = record {
-  rule = k.rule;
-  axis = k.axis;
-  side = k.side;
-  x1 = k.x1;
-  x2 = k.x2;
-  y0 = k.y0;
-  y1 = k.y1;
-  met = [];
-}
+with_key k = record { key = k; met = [] }
 
 pub key_same : PlacesAreOfKeys → (k l : Key) → key_eq k l ≡ true → k ≡ l
 key_same keys k l e =
     let at : place_in (with_key k ∷ []) l ≡ Some 0 =
     ap (λ b. cond (nat_lt (cond (not b) 1 0) 1) (Some (cond (not b) 1 0)) None) e in
     let found = keys (with_key k ∷ []) l 0 at in
-    ap key_of (same_Some (with_key k) found.0 found.1) ∙ found.2
+    (λ i. (same_Some (with_key k) found.0 found.1 i).key) ∙ found.2
 
 -- no two markers of a book have the same key
-apart : (m n : Marker) → IsFilled m → StandsBefore m n → key_of m ≡ key_of n → ⊥
+apart : (m n : Marker) → IsFilled m → StandsBefore m n → m.key ≡ n.key → ⊥
 apart m n filled (inl less) same = line_before (line_of m) (line_of n) less (ap line_of_key same)
 apart m n filled (inr p) same =
-    let first : m.y0 ≡ n.y0 = ap (λ (k : Key). k.y0) same in omega (arith, ints, p.1, first, filled)
+    let first : m.key.piece.y0 ≡ n.key.piece.y0 = ap (λ (k : Key). k.piece.y0) same in
+    omega (arith, ints, p.1, first, filled)
 
 before : (book : List Marker) (i j : ℕ) (m n : Marker) → IsBook book → slice_get book i ≡ Some m
-    → slice_get book j ≡ Some n → i < j → key_of m ≡ key_of n → ⊥
+    → slice_get book j ≡ Some n → i < j → m.key ≡ n.key → ⊥
 before book i j m n is at there less same =
     let first = get_or_from_slice_get book i m m at in
     let second = get_or_from_slice_get book j n m there in
     let within = slice_get_within book j n there in
     apart (get_or book i m) (get_or book j m) (is.filled i m (omega (arith, within, less)))
     (is.ordered i j m less within)
-    (ap key_of first ∙ same ∙ sym (ap key_of second))
+    ((λ k. (first k).key) ∙ same ∙ sym (λ k. (second k).key))
 
 pub only_at : PlacesAreOfKeys → (book : List Marker) (key : Key) (i : ℕ) (m : Marker) → IsBook book
-    → slice_get book i ≡ Some m → key_of m ≡ key → IsOnlyAt book key i
+    → slice_get book i ≡ Some m → m.key ≡ key → IsOnlyAt book key i
 only_at keys book key i m is at has j n there same =
-    let of : key_of n ≡ key = key_same keys (key_of n) key same in
+    let of : n.key ≡ key = key_same keys n.key key same in
     elim (cases_lt j i) [
       | inl less ↦ absurd (before book j i n m is there at less (of ∙ sym has))
       | inr more ↦ elim (cases_lt i j) [
@@ -68,7 +60,7 @@ only_at keys book key i m is at has j n there same =
     ]
 
 abbrev has_key : Key → Marker → Bool
-has_key key m = key_eq (key_of m) key
+has_key key m = key_eq m.key key
 
 past : (b : Bool) (n : ℕ) → cond b (Some n) None ≡ None → b ≡ false
 past true n gone = absurd (none-some n (sym gone))
@@ -89,7 +81,7 @@ nowhere book key e j m there =
     ∙ fails_before_first (has_key key) book j m less
 
 pub found_key : (book : List Marker) (key : Key) (i : ℕ) (m : Marker) → place_in book key ≡ Some i
-    → slice_get book i ≡ Some m → key_eq (key_of m) key ≡ true
+    → slice_get book i ≡ Some m → key_eq m.key key ≡ true
 found_key book key i m e at = ap (has_key key) (sym (get_or_from_slice_get book i m m at))
     ∙ (position-Some (has_key key) book i m e).1
 

@@ -11,7 +11,6 @@ use Rattle.mpw_markers.specs.Book.{IsBook, place_in}
 use Rattle.mpw_markers.specs.declared.marker.Key.{Key}
 use Rattle.mpw_markers.specs.declared.marker.Marker.{Marker}
 use Rattle.mpw_markers.specs.Laws.{PlacesAreOfKeys}
-use Rattle.mpw_markers.specs.Markers.{key_of}
 use Rattle.mpw_requests.specs.declared.sign_off.MarkerName.{MarkerName}
 use Rattle.mpw_roles.specs.Hierarchy.{Name}
 use Rattle.mpw_rbac.specs.declared.session.Identity.{Identity}
@@ -80,7 +79,7 @@ module _ {B : Type 0} (keys : PlacesAreOfKeys) (policy : Policy) (connection : �
   new_at place = slice_set waivers place (change user (waiver_at waivers place))
 
   left_at : (key : Key) (n : Named) → slice_get f.book n.place ≡ Some n.marker
-      → place_in f.book key ≡ Some n.place → key_of n.marker ≡ key
+      → place_in f.book key ≡ Some n.place → n.marker.key ≡ key
       → markers_seen shelf seen user (new_at n.place) 0 f.book ≡ map (with_waiver key (change user))
       markers
   left_at key n at e has =
@@ -99,7 +98,7 @@ module _ {B : Type 0} (keys : PlacesAreOfKeys) (policy : Policy) (connection : �
       (λ q. other (q ∙ sym here)))
 
   by_test : (key : Key) (n : Named) → slice_get f.book n.place ≡ Some n.marker
-      → place_in f.book key ≡ Some n.place → key_of n.marker ≡ key
+      → place_in f.book key ≡ Some n.place → n.marker.key ≡ key
       → (r : Result (Unit {0}) SignOffEnding) → Gives (r >>= (λ free. Ok (end n)))
       (r >>= (λ passed. Ok key))
   by_test key n at e has (Err why) = refl
@@ -112,7 +111,7 @@ module _ {B : Type 0} (keys : PlacesAreOfKeys) (policy : Policy) (connection : �
       } in b)) (left_at key n at e has)
 
   by_full : (key : Key) (n : Named) → slice_get f.book n.place ≡ Some n.marker
-      → place_in f.book key ≡ Some n.place → key_of n.marker ≡ key → (b : Bool)
+      → place_in f.book key ≡ Some n.place → n.marker.key ≡ key → (b : Bool)
       → Gives (cond b (Ok n) (Err (Refused code.NoMarker)) >>= tail)
       (test_row seen_test key (cond b (Some
       (marker_of shelf user n.marker (waiver_at waivers n.place))) None))
@@ -282,7 +281,8 @@ put_by s put row =
     outcome_by signing.ending_of (over_waivers s) s (changing put (λ by. []) row)
 
 both_alike : (connection : ℕ) (a b : State) → SameView connection a b → (change : Name → Change)
-    (put : ByUser → WaiverChange) (first second : Result ByUser SignOffEnding) (told : Result Key SignOffEnding)
+    (put : ByUser → WaiverChange) (first second : Result ByUser SignOffEnding)
+    (told : Result Key SignOffEnding)
     → IsToldOf a connection change put first told → IsToldOf b connection change put second told
     → SameOutcome connection (put_by a put first) (put_by b put second)
 both_alike connection a b same change put (Ok x) (Ok y) (Ok key) of_a of_b = record {

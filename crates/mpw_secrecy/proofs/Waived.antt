@@ -5,7 +5,7 @@ use Rattle.std.proofs.lemmas.Option.{none-some, same_Some}
 use Rattle.mpw_hier.specs.declared.submission.Submission.{Submission}
 use Rattle.mpw_markers.specs.declared.marker.Key.{Key}
 use Rattle.mpw_markers.specs.declared.marker.Marker.{Marker}
-use Rattle.mpw_markers.specs.Markers.{key_of, key_eq}
+use Rattle.mpw_markers.specs.Markers.{key_eq}
 use Rattle.mpw_roles.specs.Hierarchy.{Name}
 use Rattle.mpw_replies.specs.Sight.{is_full}
 use Rattle.mpw_waiver.specs.declared.waiver.Waiver.{Waiver}
@@ -15,12 +15,12 @@ use Rattle.mpw_secrecy.specs.Views.{MarkerSeen, marker_of, marker_seen, markers_
 -- no marker of the book other than the one at that index has the key
 abbrev pub IsOnlyAt : List Marker → Key → ℕ → Type 0
 IsOnlyAt book key i =
-    (j : ℕ) (m : Marker) → slice_get book j ≡ Some m → key_eq (key_of m) key ≡ true → j ≡ i
+    (j : ℕ) (m : Marker) → slice_get book j ≡ Some m → key_eq m.key key ≡ true → j ≡ i
 
 -- none has it
 abbrev pub IsNowhere : List Marker → Key → Type 0
 IsNowhere book key =
-    (j : ℕ) (m : Marker) → slice_get book j ≡ Some m → key_eq (key_of m) key ≡ false
+    (j : ℕ) (m : Marker) → slice_get book j ≡ Some m → key_eq m.key key ≡ false
 
 never_true : (b : Bool) → (b ≡ true → ⊥) → b ≡ false
 never_true true never = absurd (never refl)
@@ -68,7 +68,7 @@ module _ (shelf : List Submission) (seen : List Bool) (user : Name) (key : Key) 
       ]
 
   pub seen_at_place : (waivers : List (Option Waiver)) (place i : ℕ) (m : Marker)
-      (book : List Marker) → slice_get book i ≡ Some m → key_eq (key_of m) key ≡ true
+      (book : List Marker) → slice_get book i ≡ Some m → key_eq m.key key ≡ true
       → IsOnlyAt book key i → marker_with key (markers_seen shelf seen user waivers place book)
       ≡ cond (is_full seen m) (Some (marker_of shelf user m (waiver_at waivers (place + i))))
       None
@@ -76,7 +76,7 @@ module _ (shelf : List Submission) (seen : List Bool) (user : Name) (key : Key) 
   seen_at_place waivers place i m [] at is only = absurd (none-some m at)
   seen_at_place waivers place zero m (n ∷ book) at is only =
       let same : n ≡ m = same_Some n m at in
-      let none : Nowhere book = λ j k there. never_true (key_eq (key_of k) key)
+      let none : Nowhere book = λ j k there. never_true (key_eq k.key key)
       (λ has. absurd (omega (arith, only (suc j) k there has))) in
       let rest = markers_seen shelf seen user waivers (place + 1) book in
       let here : place ≡ place + 0 = omega arith in
@@ -93,7 +93,7 @@ module _ (shelf : List Submission) (seen : List Bool) (user : Name) (key : Key) 
         | false ↦ seen_nowhere waivers (place + 1) book none
       ]))
   seen_at_place waivers place (suc i) m (n ∷ book) at is only =
-      let apart : key_eq (key_of n) key ≡ false = never_true (key_eq (key_of n) key)
+      let apart : key_eq n.key key ≡ false = never_true (key_eq n.key key)
       (λ has. absurd (omega (arith, only 0 n refl has))) in
       let later : IsOnlyAt book key i = λ j k there has. omega (arith, only (suc j) k there has) in
       let rest = markers_seen shelf seen user waivers (place + 1) book in
@@ -115,7 +115,7 @@ module _ (shelf : List Submission) (seen : List Bool) (user : Name) (key : Key) 
 
   -- one more marker, whose key and waiver stay
   kept_one : (change : Option Waiver → Option Waiver) (m : Marker) (old new : Option Waiver)
-      → key_eq (key_of m) key ≡ false → new ≡ old
+      → key_eq m.key key ≡ false → new ≡ old
       → marker_seen shelf seen user m new ≡ map (with_waiver key change)
       (marker_seen shelf seen user m old)
   kept_one change m old new apart e =
@@ -129,7 +129,7 @@ module _ (shelf : List Submission) (seen : List Bool) (user : Name) (key : Key) 
       ]
 
   changed_one : (change : Option Waiver → Option Waiver) (m : Marker) (old new : Option Waiver)
-      → key_eq (key_of m) key ≡ true → new ≡ change old
+      → key_eq m.key key ≡ true → new ≡ change old
       → marker_seen shelf seen user m new ≡ map (with_waiver key change)
       (marker_seen shelf seen user m old)
   changed_one change m old new has e =
@@ -161,7 +161,7 @@ module _ (shelf : List Submission) (seen : List Bool) (user : Name) (key : Key) 
 
   pub changed_at : (change : Option Waiver → Option Waiver) (old new : List (Option Waiver))
       (place i : ℕ) (m : Marker) (book : List Marker)
-      → slice_get book i ≡ Some m → key_eq (key_of m) key ≡ true → IsOnlyAt book key i
+      → slice_get book i ≡ Some m → key_eq m.key key ≡ true → IsOnlyAt book key i
       → waiver_at new (place + i) ≡ change (waiver_at old (place + i))
       → ((k : ℕ) → (k ≡ place + i → ⊥) → waiver_at new k ≡ waiver_at old k)
       → markers_seen shelf seen user new place book ≡ map (with_waiver key change)
@@ -170,11 +170,11 @@ module _ (shelf : List Submission) (seen : List Bool) (user : Name) (key : Key) 
   changed_at change old new place i m [] at is only changed alike = absurd (none-some m at)
   changed_at change old new place zero m (n ∷ book) at is only changed alike =
       let same : n ≡ m = same_Some n m at in
-      let none : Nowhere book = λ j k there. never_true (key_eq (key_of k) key)
+      let none : Nowhere book = λ j k there. never_true (key_eq k.key key)
       (λ has. absurd (omega (arith, only (suc j) k there has))) in
       let here : place + 0 ≡ place = omega arith in
       (λ i. changed_one change n (waiver_at old place) (waiver_at new place)
-      (ap (λ (k : Marker). key_eq (key_of k) key) same ∙ is)
+      (ap (λ (k : Marker). key_eq k.key key) same ∙ is)
       (subst (λ p. waiver_at new p ≡ change (waiver_at old p)) here changed) i
       ++ kept_behind change old new (place + 1) book none
       (λ k l. alike k (λ e. omega (arith, l, e))) i)
@@ -182,7 +182,7 @@ module _ (shelf : List Submission) (seen : List Bool) (user : Name) (key : Key) 
       (marker_seen shelf seen user n (waiver_at old place))
       (markers_seen shelf seen user old (place + 1) book))
   changed_at change old new place (suc i) m (n ∷ book) at is only changed alike =
-      let apart : key_eq (key_of n) key ≡ false = never_true (key_eq (key_of n) key)
+      let apart : key_eq n.key key ≡ false = never_true (key_eq n.key key)
       (λ has. absurd (omega (arith, only 0 n refl has))) in
       let later : IsOnlyAt book key i = λ j k there has. omega (arith, only (suc j) k there has) in
       let e : place + suc i ≡ (place + 1) + i = omega arith in

@@ -12,7 +12,6 @@ use Rattle.mpw_hier.specs.Values.{flat}
 use Rattle.mpw_tiles.specs.Plan.{tiles}
 use Rattle.mpw_markers.specs.declared.marker.Key.{Key}
 use Rattle.mpw_markers.specs.declared.marker.Marker.{Marker}
-use Rattle.mpw_markers.specs.Markers.{key_of}
 use Rattle.mpw_roles.specs.Hierarchy.{Name}
 use Rattle.mpw_permissions.specs.declared.permission.Object.{Object}
 use Rattle.mpw_permissions.specs.declared.permission.Object.TheVariants as object
@@ -132,7 +131,7 @@ pub record BookSeen : Type 0 where
 
 abbrev pub marker_of : List Submission → Name → Marker → Option Waiver → MarkerSeen
 marker_of shelf user m waiver = record {
-  key = key_of m;
+  key = m.key;
   cells = met_cells shelf m.met;
   own = by_name (own_cells shelf m.met user);
   waiver = waiver;
@@ -152,7 +151,7 @@ markers_seen shelf seen user waivers place (m ∷ book) =
     ++ markers_seen shelf seen user waivers (place + 1) book
 
 abbrev pub masked_of : List Bool → List Marker → ℕ → ℕ
-masked_of seen book rule = length (filter (λ m. (m.rule == rule) && is_masked seen m) book)
+masked_of seen book rule = length (filter (λ m. (m.key.rule == rule) && is_masked seen m) book)
 
 -- Those from an index of the deck on.
 unfoldable pub rules_seen : List Bool → List Marker → ℕ → List Rule → List RuleSeen

@@ -14,27 +14,11 @@ rule_place rules name = position (λ rule. name_eq rule.name name) rules
 
 -- The key of the named marker, of the rule at that index.
 abbrev pub key_by : MarkerName → ℕ → Key
-key_by name rule = record {
-  rule = rule;
-  axis = name.axis;
-  side = name.side;
-  x1 = name.x1;
-  x2 = name.x2;
-  y0 = name.y0;
-  y1 = name.y1;
-}
+key_by name rule = record { rule = rule; piece = name.piece }
 
 -- The name of a marker of a rule of that name.
 abbrev pub name_for : List ℕ → Marker → MarkerName
-name_for rule m = record {
-  rule = rule;
-  axis = m.axis;
-  side = m.side;
-  x1 = m.x1;
-  x2 = m.x2;
-  y0 = m.y0;
-  y1 = m.y1;
-}
+name_for rule m = record { rule = rule; piece = m.key.piece }
 
 -- A marker of a book with its index.
 pub record Named : Type 0 where

@@ -22,7 +22,7 @@ rule_line m waiver (Some rule) = waiver_line (name_for rule.name m) waiver.asker
 -- A marker without a waiver has no line.
 abbrev pub marker_line : List Rule → Marker → Option Waiver → List Line
 marker_line rules m None = []
-marker_line rules m (Some waiver) = rule_line m waiver (slice_get rules m.rule)
+marker_line rules m (Some waiver) = rule_line m waiver (slice_get rules m.key.rule)
 
 -- Nor has one that isn't full.
 abbrev pub shown_line : List Rule → List Bool → Marker → Option Waiver → List Line

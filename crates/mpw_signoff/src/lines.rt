@@ -17,15 +17,9 @@ use std::alloc::{AllocError, Global};
 fn name_for(rule: &Name, marker: &Marker) -> Result<MarkerName, AllocError>
     ensures { IfOk result (λ name. name ≡ name_for rule.now marker.now) }
 {
-    Ok(MarkerName {
-        rule: rule.copy()?,
-        axis: marker.axis,
-        side: marker.side,
-        x1: marker.x1,
-        x2: marker.x2,
-        y0: marker.y0,
-        y1: marker.y1,
-    })
+    let rule = rule.copy()?;
+    let piece = marker.key.piece;
+    Ok(MarkerName { rule, piece })
 }
 
 /// The line of an unsigned waiver.
@@ -106,7 +100,7 @@ fn add_shown(
     if !is_full(seen, marker) {
         return Ok(());
     }
-    add_line(lines, rule_at(rules, marker.rule), marker, waiver)
+    add_line(lines, rule_at(rules, marker.key.rule), marker, waiver)
 }
 
 /// The lines of a book's markers, in order. Cost: a pass over the book, and one over the touched submissions of each marker that has a waiver.

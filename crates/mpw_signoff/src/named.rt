@@ -4,7 +4,7 @@
 //! key is found in the book by a binary search.
 ghost use Rattle.std.specs.Prelude.{◌≡◌, ◌≤◌, length, option_map};
 ghost use Rattle.mpw_markers.specs.Book.{place_in};
-ghost use Rattle.mpw_signoff.specs.Named.{found_at, key_by, named_in, rule_place};
+ghost use Rattle.mpw_signoff.specs.Named.{found_at, named_in, rule_place};
 ghost use Rattle.mpw_signoff.specs.Internal.Named.{seen_named};
 
 use mpw_deck::{Deck, Rule};
@@ -37,21 +37,6 @@ fn rule_place(rules: &[Rule], name: &Name) -> Option<u32>
     Some(place as u32)
 }
 
-/// The key of the named marker, of the rule at that index.
-fn key_by(name: &MarkerName, rule: u32) -> Key
-    ensures { result ≡ key_by name.now rule }
-{
-    Key {
-        rule,
-        axis: name.axis,
-        side: name.side,
-        x1: name.x1,
-        x2: name.x2,
-        y0: name.y0,
-        y1: name.y1,
-    }
-}
-
 /// The marker of that key.
 fn found_at<'a>(book: &'a Book, key: &Key) -> Option<Named<'a>>
     ensures { option_map seen_named result ≡ found_at book.now (place_in book.now key.now) }
@@ -68,5 +53,6 @@ pub(crate) fn named_in<'a>(deck: &Deck, book: &'a Book, name: &MarkerName) -> Op
 {
     deck.is_deck();
     let rule = rule_place(deck.rules().as_slice(), &name.rule)?;
-    found_at(book, &key_by(name, rule))
+    let piece = name.piece;
+    found_at(book, &Key { rule, piece })
 }

@@ -11,7 +11,7 @@ use Rattle.mpw_deck.specs.Decks.{Deck}
 use Rattle.mpw_edges.specs.declared.run.Axis.{Axis}
 use Rattle.mpw_edges.specs.declared.run.Axis.TheVariants.{V, H}
 use Rattle.mpw_edges.specs.Edges.{Squares, exchanged}
-use Rattle.mpw_edges.specs.Pieces.{HasStep, IsPiece, box_on, piece_box}
+use Rattle.mpw_edges.specs.Pieces.{HasStep, IsPiece, box_on, box_of}
 use Rattle.mpw_tiles.specs.declared.listing.Rectangle.{Rectangle}
 use Rattle.mpw_tiles.specs.Listing.{IsListed, AreWindowsOf}
 use Rattle.mpw_tiles.specs.Shown.{IsShown}
@@ -109,7 +109,7 @@ met_in_window extent deck rule tile a b p s c piece m =
     let last = piece.steps (p.y1 -ℤ pos 1) (omega (arith, ints)) (omega (arith, ints)) in
     test_from_SquareIn (tile_window (plan_of extent deck) tile) s
     (near_run rule a b core (greatest_distance deck.rules) p.axis p.side p.x1 p.x2 p.y0 p.y1 s
-    (no_greater deck.rules rule c) (first, last) (next_to (piece_box p) s m))
+    (no_greater deck.rules rule c) (first, last) (next_to (box_of p) s m))
 
 -- ---- origins
 
@@ -137,7 +137,7 @@ pub tell_met : WindowsTellMet
 tell_met s plan windows rule tile a b p origin e stand u c piece =
     let f = (windows_show s plan windows e stand).each tile u in
     let over = plan_is s.deck (shown_extent s) plan e in
-    let within : (q : Square) → Meet (closed_square q) (piece_box p)
+    let within : (q : Square) → Meet (closed_square q) (box_of p)
     → has_square (tile_window plan tile) q ≡ true =
     λ q m. subst (λ (x : Tiling). has_square (tile_window x tile) q ≡ true) (sym over.is)
     (met_in_window over.extent s.deck rule tile a b p q c

@@ -9,7 +9,7 @@ use Rattle.mpw_deck.specs.Decks.{Deck}
 use Rattle.mpw_edges.specs.declared.run.Axis.{Axis}
 use Rattle.mpw_edges.specs.declared.run.Piece.{Piece}
 use Rattle.mpw_edges.specs.Edges.{Squares}
-use Rattle.mpw_edges.specs.Pieces.{IsStepOn, HasStep, IsPiece, piece_box}
+use Rattle.mpw_edges.specs.Pieces.{IsStepOn, HasStep, IsPiece, box_of}
 use Rattle.mpw_edges.specs.Laws.{AreSameIn}
 use Rattle.mpw_hier.specs.declared.submission.Submission.{Submission}
 use Rattle.mpw_hier.specs.Items.{Item}
@@ -136,7 +136,7 @@ MetSquaresLieInWindows =
     (extent : Box2) (deck : Deck) (rule : Rule) (tile : ℕ) (a b : Squares) (p : Piece) (s : Square)
     → Contains deck.rules rule
     → IsPiece rule a b (tile_core (plan_of extent deck) tile) p
-    → Meet (closed_square s) (piece_box p)
+    → Meet (closed_square s) (box_of p)
     → has_square (tile_window (plan_of extent deck) tile) s ≡ true
 
 -- The window of a tile determines which origins touch the box of a run that its core finds.
@@ -147,5 +147,5 @@ WindowsTellMet =
     → plan_for snapshot ≡ Some plan → StandFor snapshot windows → tile < tiles plan
     → Contains snapshot.deck.rules rule
     → IsPiece rule a b (tile_core plan tile) p
-    → IsMet (HasShown (shown snapshot)) (piece_box p) origin
-    ↔ IsMet (HasListed (slice_index_or windows tile [])) (piece_box p) origin
+    → IsMet (HasShown (shown snapshot)) (box_of p) origin
+    ↔ IsMet (HasListed (slice_index_or windows tile [])) (box_of p) origin

@@ -3,41 +3,23 @@
 use Rattle.std.specs.Prelude.{ℕ, ℤ, List, [], ◌∷◌, Option, Some, None, ◌==◌, if◌then◌else◌}
 use Rattle.mpw_text.specs.Text.{number_of}
 use Rattle.mpw_edges.specs.declared.run.Axis.{Axis}
-use Rattle.mpw_markers.specs.declared.marker.Key.{Key}
+use Rattle.mpw_edges.specs.declared.run.Piece.{Piece}
 use Rattle.mpw_requests.specs.declared.sign_off.MarkerName.{MarkerName}
 use Rattle.mpw_requests.specs.Words.{marker_key, axis_of}
-use Rattle.mpw_wire.specs.declared.key.Spot.{Spot}
 use Rattle.mpw_wire.specs.declared.operand.Origin.{Origin}
 use Rattle.mpw_wire.specs.declared.operand.Origin.TheVariants.{Connection, Store}
 use Rattle.mpw_wire.specs.Placement.{coordinate_of}
 use Rattle.mpw_wire.specs.Names.{◌>>=◌, name_of}
 
--- the place of a key's marker
-abbrev pub spot_of : Key → Spot
-spot_of key =
-    record { axis = key.axis; side = key.side; x1 = key.x1; x2 = key.x2; y0 = key.y0; y1 = key.y1 }
-
--- the place of the marker that a request names
-abbrev pub named_spot : MarkerName → Spot
-named_spot m = record { axis = m.axis; side = m.side; x1 = m.x1; x2 = m.x2; y0 = m.y0; y1 = m.y1 }
-
--- the marker of a rule at that place
-abbrev pub marker_at : List ℕ → Spot → MarkerName
-marker_at rule spot = record {
-  rule = rule;
-  axis = spot.axis;
-  side = spot.side;
-  x1 = spot.x1;
-  x2 = spot.x2;
-  y0 = spot.y0;
-  y1 = spot.y1;
-}
+-- the marker of a rule with that run
+abbrev pub marker_at : List ℕ → Piece → MarkerName
+marker_at rule piece = record { rule = rule; piece = piece }
 
 -- ---- writing
 
--- the key of the marker of a rule at that place
-abbrev pub key_text : List ℕ → Spot → List ℕ
-key_text rule spot = marker_key (marker_at rule spot)
+-- the key of such a marker
+abbrev pub key_text : List ℕ → Piece → List ℕ
+key_text rule piece = marker_key (marker_at rule piece)
 
 -- ---- reading
 
@@ -74,9 +56,9 @@ last_axis word = do
   axis ← axis_of parts.1
   Some (parts.0, axis)
 
--- the place of a marker by the end of its key, with the part before it
-unfoldable pub last_spot : Origin → List ℕ → Option (List ℕ × Spot)
-last_spot origin word = do
+-- the run of a marker by the end of its key, with the part before it
+unfoldable pub last_piece : Origin → List ℕ → Option (List ℕ × Piece)
+last_piece origin word = do
   y1 ← last_coordinate origin word
   y0 ← last_coordinate origin y1.0
   x2 ← last_coordinate origin y0.0
@@ -88,6 +70,6 @@ last_spot origin word = do
 -- the marker of a key
 unfoldable pub key_of : Origin → List ℕ → Option MarkerName
 key_of origin word = do
-  found ← last_spot origin word
+  found ← last_piece origin word
   rule ← name_of origin found.0
   Some (marker_at rule found.1)

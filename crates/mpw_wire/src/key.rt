@@ -3,31 +3,14 @@
 //! A name may have colons, so a key is read from its end.
 ghost use Rattle.std.specs.Prelude.{◌≡◌, Some, None, IfOk, IfSome, IfNone};
 ghost use Rattle.mpw_text.specs.Text.{number_of};
-ghost use Rattle.mpw_wire.specs.Keys.{cut_last, greatest_side, last_coordinate, last_side, last_axis, last_spot, key_of};
+ghost use Rattle.mpw_wire.specs.Keys.{cut_last, greatest_side, last_coordinate, last_side, last_axis, last_piece, key_of};
 
 use crate::operand::{Origin, name};
 use crate::placement::coordinate;
-use mpw_edges::Axis;
+use mpw_edges::{Axis, Piece};
 use mpw_requests::{MarkerName, axis_of};
 use mpw_text::read_number;
 use std::alloc::{AllocError, Global};
-
-/// The place of a marker: its axis, its side, and its coordinates in nm.
-#[derive(Clone, Copy)]
-pub struct Spot {
-    /// `V` or `H`, the direction of the edges.
-    pub axis: Axis,
-    /// Which of its two kinds of pairs a rule of two layers found, 0 or 1. It is 0 for other rules.
-    pub side: u8,
-    /// The first edge: from -2^30 to 2^30, like the other three.
-    pub x1: i64,
-    /// The second edge: in a marker at least `x1`, in a request any.
-    pub x2: i64,
-    /// The first row.
-    pub y0: i64,
-    /// The row after the last one: in a marker above `y0`, in a request any.
-    pub y1: i64,
-}
 
 /// The parts before and after the last colon. It searches from the end.
 fn cut_last(word: &[u8]) -> Option<(&[u8], &[u8])>
@@ -92,11 +75,11 @@ fn last_axis(word: &[u8]) -> Option<(&[u8], Axis)>
     Some((rest, axis))
 }
 
-/// The place of a marker by the end of its key, and the part before it.
-#[tactic(auto, unfolding(crate::specs::Keys::last_spot))]
-fn last_spot(origin: Origin, word: &[u8]) -> Option<(&[u8], Spot)>
-    ensures some { IfSome result (λ found. last_spot origin word.now ≡ Some (found.0.now, found.1)) }
-    ensures none { IfNone result (last_spot origin word.now ≡ None) }
+/// The run of a marker by the end of its key, and the part before it.
+#[tactic(auto, unfolding(crate::specs::Keys::last_piece))]
+fn last_piece(origin: Origin, word: &[u8]) -> Option<(&[u8], Piece)>
+    ensures some { IfSome result (λ found. last_piece origin word.now ≡ Some (found.0.now, found.1)) }
+    ensures none { IfNone result (last_piece origin word.now ≡ None) }
 {
     let (rest, y1) = last_coordinate(origin, word)?;
     let (rest, y0) = last_coordinate(origin, rest)?;
@@ -106,7 +89,7 @@ fn last_spot(origin: Origin, word: &[u8]) -> Option<(&[u8], Spot)>
     let (rest, axis) = last_axis(rest)?;
     Some((
         rest,
-        Spot {
+        Piece {
             axis,
             side,
             x1,
@@ -126,19 +109,11 @@ pub(crate) fn key(
 ) -> Result<Option<MarkerName>, AllocError>
     ensures { IfOk result (λ marker. marker ≡ key_of origin word.now) }
 {
-    let Some((rest, spot)) = last_spot(origin, word) else {
+    let Some((rest, piece)) = last_piece(origin, word) else {
         return Ok(None);
     };
     let Some(rule) = name(alloc, origin, rest)? else {
         return Ok(None);
     };
-    Ok(Some(MarkerName {
-        rule,
-        axis: spot.axis,
-        side: spot.side,
-        x1: spot.x1,
-        x2: spot.x2,
-        y0: spot.y0,
-        y1: spot.y1,
-    }))
+    Ok(Some(MarkerName { rule, piece }))
 }

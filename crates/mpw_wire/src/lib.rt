@@ -14,7 +14,6 @@ mod read;
 mod request;
 
 pub use fault::WireFault;
-pub use key::Spot;
 pub use line::MAX_LINE;
 pub use operand::Origin;
 pub use read::{Asked, read_request};

@@ -6,7 +6,7 @@ use Rattle.std.specs.Cmp.{nat_cmp_is}
 use Rattle.std.specs.declared.cmp.Ordering.{Ordering}
 use Rattle.std.specs.declared.cmp.Ordering.TheVariants.{Less, Equal}
 use Rattle.std.proofs.lemmas.Int.{ints}
-use Rattle.std.proofs.lemmas.List.{length-map, get_or-map, map_more, append-nil}
+use Rattle.std.proofs.lemmas.List.{length-map, get_or-map, map_more, map_push, take_more, append-nil}
 use Rattle.std.proofs.lemmas.List.Elements.{All-append, All-contains, Contains-append_left, Contains-append_right, Contains-append_cases, Contains-push_cases, Contains-get_or}
 use Rattle.std.proofs.lemmas.List.Kept.{AllPairs-cons}
 use Rattle.std.proofs.lemmas.Option.{slice_get_within}
@@ -23,11 +23,9 @@ use Rattle.mpw_edges.specs.Steps.{IsPair}
 use Rattle.mpw_edges.specs.Pieces.{HasStep, piece_cmp, ComesBefore as IsPieceBefore, box_on}
 use Rattle.mpw_markers.specs.declared.marker.Key.{Key}
 use Rattle.mpw_markers.specs.declared.marker.Marker.{Marker}
-use Rattle.mpw_markers.specs.Markers.{key_of}
 use Rattle.mpw_job.specs.Layers.{Coverage, first_squares, second_squares}
 use Rattle.mpw_job.specs.Answers.{TileJob, listed_on, IsFoundIn, key_at, TellsMet, ComesBefore, Answers}
-use Rattle.mpw_job.specs.Internal.Keys.{run_at, key_box}
-use Rattle.mpw_work.specs.Internal.Found.{key_cmp, IsKey, IsKeyBefore, AddsRule, AreFirstKeys, AreKeys, AreMarkersOfKeys}
+use Rattle.mpw_work.specs.Internal.Found.{key_of, key_box, key_cmp, IsKey, IsKeyBefore, AddsRule, AreFirstKeys, AreKeys, AreMarkersOfKeys}
 
 -- ---- mapped lists
 
@@ -64,14 +62,12 @@ pairs_append R (x ∷ xs) ys a b cross =
 pub adds_none : (place : ℕ) (old : List Key) → old ≡ old ++ map (key_at place) []
 adds_none place old = sym (append-nil old)
 
-pub adds_one : (place : ℕ) (runs : List Piece) (n : ℕ) (d : Piece) (old new : List Key) (k : Key)
-    → n < length runs
-    → new ≡ old ++ map (key_at place) (take n runs) → k ≡ key_at place (get_or runs n d)
-    → new ++ k ∷ [] ≡ old ++ map (key_at place) (take (n + 1) runs)
-adds_one place runs n d old new k lt e f =
-    ap (λ (ks : List Key). ks ++ k ∷ []) e ∙ append_assoc old (map (key_at place) (take n runs))
-    (k ∷ [])
-    ∙ ap (λ (x : Key). old ++ (map (key_at place) (take n runs) ++ x ∷ [])) f
+pub adds_one : (place : ℕ) (runs : List Piece) (n : ℕ) (d : Piece) (old new : List Key)
+    → n < length runs → new ≡ old ++ map (key_at place) (take n runs)
+    → new ++ key_at place (get_or runs n d) ∷ [] ≡ old ++ map (key_at place) (take (n + 1) runs)
+adds_one place runs n d old new lt e =
+    ap (λ (ks : List Key). ks ++ key_at place (get_or runs n d) ∷ []) e
+    ∙ append_assoc old (map (key_at place) (take n runs)) (key_at place (get_or runs n d) ∷ [])
     ∙ ap (λ (ks : List Key). old ++ ks) (sym (map_more (key_at place) runs n d lt))
 
 -- ---- rules so far
@@ -102,19 +98,19 @@ in_rule : (place : ℕ) (p q : Piece) → IsPieceBefore p q
 in_rule place p q h = ap (λ (o : Ordering). ordering_then o (piece_cmp p q)) (itself place) ∙ h
 
 behind : (k l : Key) → k.rule < l.rule → key_cmp k l ≡ Less
-behind k l lt = ap (λ (o : Ordering). ordering_then o (piece_cmp (run_at k) (run_at l)))
+behind k l lt = ap (λ (o : Ordering). ordering_then o (piece_cmp k.piece l.piece))
     (below k.rule l.rule lt)
 
 keys_ordered : (place : ℕ) (runs : List Piece) → AllPairs IsPieceBefore runs
     → AllPairs IsKeyBefore (map (key_at place) runs)
 keys_ordered place runs h i j d lt within =
     let same : length (map (key_at place) runs) ≡ length runs = length-map runs (key_at place) in
-    let first = get_or-map (key_at place) runs i (run_at d) d (omega arith) in
-    let second = get_or-map (key_at place) runs j (run_at d) d (omega arith) in
+    let first = get_or-map (key_at place) runs i d.piece d (omega arith) in
+    let second = get_or-map (key_at place) runs j d.piece d (omega arith) in
     ap (λ (k : Key). key_cmp k (get_or (map (key_at place) runs) j d)) first
-    ∙ ap (key_cmp (key_at place (get_or runs i (run_at d)))) second
-    ∙ in_rule place (get_or runs i (run_at d)) (get_or runs j (run_at d))
-    (h i j (run_at d) lt (omega arith))
+    ∙ ap (key_cmp (key_at place (get_or runs i d.piece))) second
+    ∙ in_rule place (get_or runs i d.piece) (get_or runs j d.piece)
+    (h i j d.piece lt (omega arith))
 
 cases_place : (place n : ℕ) → place < n + 1 → (place < n) ⊎ (place ≡ n)
 cases_place place n lt = grind arith
@@ -150,7 +146,7 @@ keys_both job n rule old runs at h exact ordered = record {
           record {
             rule = rule;
             at = ap (slice_get job.rules) (sym place) ∙ at;
-            run = subst (IsFoundIn job.core (listed_on job.window) rule) (ap run_at a.2)
+            run = subst (IsFoundIn job.core (listed_on job.window) rule) (λ i. (a.2 i).piece)
                 ((exact a.0).0 a.1);
           },
         )
@@ -208,12 +204,13 @@ box_ordered V x1 x2 y0 y1 le lt = record { x = le; y = omega (arith, ints) }
 box_ordered H x1 x2 y0 y1 le lt = record { x = omega (arith, ints); y = le }
 
 run_ordered : (core : Box2) (on : Coverage) (rule : Rule) (k : Key)
-    → IsFoundIn core on rule (run_at k) → IsOrdered (key_box k)
+    → IsFoundIn core on rule k.piece → IsOrdered (key_box k)
 run_ordered core on rule k h =
-    let step = h.steps k.y0 (omega (arith, ints)) h.filled in
-    box_ordered k.axis k.x1 k.x2 k.y0 k.y1
-    (step_ordered rule (first_squares rule.check on) (second_squares rule.check on) core k.axis
-    k.side k.x1 k.x2 k.y0 step) h.filled
+    let step = h.steps k.piece.y0 (omega (arith, ints)) h.filled in
+    box_ordered k.piece.axis k.piece.x1 k.piece.x2 k.piece.y0 k.piece.y1
+    (step_ordered rule (first_squares rule.check on) (second_squares rule.check on) core
+    k.piece.axis
+    k.piece.side k.piece.x1 k.piece.x2 k.piece.y0 step) h.filled
 
 pub boxes_ordered : (job : TileJob) (keys : List Key) → AreKeys job keys
     → All (λ (k : Key). IsOrdered (key_box k)) keys
@@ -222,6 +219,17 @@ boxes_ordered job keys h k d lt =
     run_ordered job.core (listed_on job.window) s.rule (get_or keys k d) s.run
 
 -- ---- the markers of keys
+
+abbrev touching : Key → List ℕ → Marker
+touching k met = record { key = k; met = met }
+
+-- the marker of one more key
+pub keyed_more : (keys : List Key) (n : ℕ) (d : Key) (met : List ℕ) (old new : List Marker)
+    → n < length keys → new ≡ old ++ touching (get_or keys n d) met ∷ []
+    → map key_of old ≡ take n keys → map key_of new ≡ take (n + 1) keys
+keyed_more keys n d met old new lt is e =
+    ap (map key_of) is ∙ map_push key_of old (touching (get_or keys n d) met)
+    ∙ ap (λ (ks : List Key). ks ++ get_or keys n d ∷ []) e ∙ sym (take_more keys n d lt)
 
 pub answers_from : (job : TileJob) (keys : List Key) (markers : List Marker) → AreKeys job keys
     → AreMarkersOfKeys job.window keys markers

@@ -13,13 +13,11 @@ use Rattle.mpw_markers.specs.declared.search.Rectangle.{Rectangle as Located}
 use Rattle.mpw_markers.specs.Origins.{OriginHasSquare, AreMetOrigins}
 use Rattle.mpw_markers.specs.declared.marker.Key.{Key}
 use Rattle.mpw_markers.specs.declared.marker.Marker.{Marker}
-use Rattle.mpw_markers.specs.Markers.{key_of}
 use Rattle.mpw_markers.specs.Met.{IsAscending}
 use Rattle.mpw_geom.specs.Meeting.{IsMet}
 use Rattle.mpw_tiles.specs.Listing.{HasListed}
 use Rattle.mpw_job.specs.Answers.{TellsMet}
-use Rattle.mpw_job.specs.Internal.Keys.{key_box}
-use Rattle.mpw_work.specs.Internal.Found.{met_of, TellMet, MeetsSome, AreMarkersOfKeys}
+use Rattle.mpw_work.specs.Internal.Found.{key_of, met_of, key_box, TellMet, MeetsSome, AreMarkersOfKeys}
 
 -- ---- rectangles with squares
 
@@ -29,7 +27,8 @@ located r = record { area = r.area; origin = r.origin }
 -- the rectangles have the squares of those listed, each of them some
 pub record AreThose (listed : List Rectangle) (found : List Located) : Type 0 where
   pub areas : All (λ (r : Located). HasArea r.area) found
-  pub squares : (origin : ℕ) (s : Square) → OriginHasSquare found origin s ↔ HasListed listed origin s
+  pub squares : (origin : ℕ) (s : Square) → OriginHasSquare found origin s
+      ↔ HasListed listed origin s
 
 -- the result of the test of an area
 pub yes_area : (answer : Bool) (b : Box2) → answer ≡ true
@@ -88,7 +87,8 @@ one_more listed n d found lt h area = record {
   squares = λ origin s. (to origin s, from origin s);
 }
   where
-    to : (origin : ℕ) (s : Square) → OriginHasSquare (found ++ located (get_or listed n d) ∷ []) origin
+    to : (origin : ℕ) (s : Square) → OriginHasSquare (found ++ located (get_or listed n d) ∷ [])
+        origin
         s → HasListed (take (n + 1) listed) origin s
     to origin s k = elim (Contains-push_cases found (located (get_or listed n d)) k.0 k.1) [
       | inl c ↦ was_there listed n d origin s lt ((h.squares origin s).0 (k.0, c, k.2, k.3))

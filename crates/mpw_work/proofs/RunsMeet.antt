@@ -17,7 +17,6 @@ use Rattle.mpw_geom.specs.Layers.{same_layer}
 use Rattle.mpw_job.specs.Layers.{first_squares, second_squares}
 use Rattle.mpw_tiles.specs.Listing.{HasListed}
 use Rattle.mpw_job.specs.Answers.{TileJob, listed_on, IsFoundIn}
-use Rattle.mpw_job.specs.Internal.Keys.{run_at}
 use Rattle.mpw_work.specs.Internal.Found.{AreKeys, MeetsSome}
 use Rattle.mpw_job.proofs.Tests.{some_passes}
 use Rattle.mpw_job.proofs.Edges.{TellsSeen, some_met}
@@ -25,7 +24,8 @@ use Rattle.mpw_job.proofs.Edges.{TellsSeen, some_met}
 listed_seen : (listed : List Rectangle) → TellsSeen (listed_on listed) (HasListed listed)
 listed_seen listed layer i j e =
     let s : Square = record { column = i; row = j } in
-    let p = some_passes (λ (r : Rectangle). same_layer r.layer layer && has_square r.area s) listed e in
+    let p =
+    some_passes (λ (r : Rectangle). same_layer r.layer layer && has_square r.area s) listed e in
     (p.0.origin, (p.0, p.1, refl, (and_parts _ _ p.2).1))
 
 -- a pair step within a core is one of the whole plane
@@ -35,13 +35,15 @@ anywhere rule a b core V side x1 x2 j h = h.0
 anywhere rule a b core H side x1 x2 j h = h.0
 
 run_met : (core : Box2) (listed : List Rectangle) (rule : Rule) (k : Key)
-    → IsFoundIn core (listed_on listed) rule (run_at k) → MeetsSome listed k
+    → IsFoundIn core (listed_on listed) rule k.piece → MeetsSome listed k
 run_met core listed rule k h =
-    some_met rule (listed_on listed) (HasListed listed) (listed_seen listed) k.axis k.side k.x1 k.x2
-    k.y0 k.y1 h.filled
+    some_met rule (listed_on listed) (HasListed listed) (listed_seen listed) k.piece.axis
+    k.piece.side k.piece.x1 k.piece.x2
+    k.piece.y0 k.piece.y1 h.filled
     (anywhere rule (first_squares rule.check (listed_on listed))
-    (second_squares rule.check (listed_on listed)) core k.axis k.side k.x1 k.x2 k.y0
-    (h.steps k.y0 (omega (arith, ints)) h.filled))
+    (second_squares rule.check (listed_on listed)) core k.piece.axis k.piece.side k.piece.x1
+    k.piece.x2 k.piece.y0
+    (h.steps k.piece.y0 (omega (arith, ints)) h.filled))
 
 pub keys_meet : (job : TileJob) (keys : List Key) → AreKeys job keys
     → All (MeetsSome job.window) keys

@@ -18,27 +18,15 @@ use mpw_job::TileJob;
 use mpw_markers::{Key, Marker};
 use std::alloc::{AllocError, Global};
 
-/// The key of a run of the rule at index `place`.
-fn key(place: u32, p: &Piece) -> Key
-    ensures { result ≡ key_at place p.now }
-{
-    Key {
-        rule: place,
-        axis: p.axis,
-        side: p.side,
-        x1: p.x1,
-        x2: p.x2,
-        y0: p.y0,
-        y1: p.y1,
-    }
-}
-
 /// Adds the keys of the runs of the rule at index `place`.
 fn add_keys(keys: &mut Vec<Key>, place: u32, runs: &[Piece]) -> Result<(), AllocError>
     ensures { OnOk result (keys.new.items ≡ keys.old.items ++ map (key_at place) runs.now) }
 {
     for run in runs {
-        keys.push(key(place, run))?;
+        keys.push(Key {
+            rule: place,
+            piece: *run,
+        })?;
     }
     Ok(())
 }

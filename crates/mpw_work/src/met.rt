@@ -5,13 +5,10 @@
 
 ghost use Rattle.std.specs.Prelude.{◌≡◌, ◌↔◌, ℕ, [], ◌∷◌, IfOk, IfSome, IsTrue, MatchBool, All, length, map};
 ghost use Rattle.mpw_geom.specs.Plane.{Square, HasArea, IsOrdered};
-ghost use Rattle.mpw_markers.specs.Markers.{key_of};
 ghost use Rattle.mpw_markers.specs.Origins.{OriginHasSquare};
 ghost use Rattle.mpw_tiles.specs.Listing.{HasListed};
-ghost use Rattle.mpw_job.specs.Internal.Keys.{key_box};
-ghost use Rattle.mpw_work.specs.Internal.Found.{met_of, TellMet, MeetsSome, AreMarkersOfKeys};
+ghost use Rattle.mpw_work.specs.Internal.Found.{key_of, met_of, key_box, TellMet, MeetsSome, AreMarkersOfKeys};
 
-use mpw_edges::Axis;
 use mpw_geom::Box2;
 use mpw_markers::{Key, Marker, Met, met_origins};
 use mpw_tiles::Rectangle;
@@ -42,33 +39,13 @@ fn with_area(alloc: Global, window: &[Rectangle]) -> Result<Vec<mpw_markers::Rec
     Ok(found)
 }
 
-/// The closed box of a marker with this key.
-fn closed_box(key: &Key) -> Box2
-    ensures { result ≡ key_box key.now }
-{
-    match key.axis {
-        Axis::V => Box2 {
-            x0: key.x1,
-            y0: key.y0,
-            x1: key.x2,
-            y1: key.y1,
-        },
-        Axis::H => Box2 {
-            x0: key.y0,
-            y0: key.x1,
-            x1: key.y1,
-            y1: key.x2,
-        },
-    }
-}
-
 /// The closed boxes of markers with these keys.
 fn closed_boxes(alloc: Global, keys: &[Key]) -> Result<Vec<Box2>, AllocError>
     ensures { IfOk result (λ v. v.items ≡ map key_box keys.now) }
 {
     let mut boxes = Vec::with_capacity(alloc, keys.len())?;
     for key in keys {
-        boxes.push(closed_box(key))?;
+        boxes.push(key.piece.closed_box())?;
     }
     Ok(boxes)
 }
@@ -84,23 +61,6 @@ fn mets_of(alloc: Global, window: &[Rectangle], keys: &[Key]) -> Result<Vec<Met>
     Ok(mets)
 }
 
-/// The marker with this key, which touches these submissions.
-fn marker(key: &Key, met: Met) -> Marker
-    ensures key { key_of result ≡ key.now }
-    ensures met { result.met ≡ met }
-{
-    Marker {
-        rule: key.rule,
-        axis: key.axis,
-        side: key.side,
-        x1: key.x1,
-        x2: key.x2,
-        y0: key.y0,
-        y1: key.y1,
-        met,
-    }
-}
-
 /// The markers with these keys, each with what it touches.
 fn with_mets(alloc: Global, keys: &[Key], mets: &[Met]) -> Result<Vec<Marker>, AllocError>
     requires { length mets.now ≡ length keys.now }
@@ -110,7 +70,10 @@ fn with_mets(alloc: Global, keys: &[Key], mets: &[Met]) -> Result<Vec<Marker>, A
     let mut markers = Vec::with_capacity(alloc, keys.len())?;
     for place in 0..keys.len() {
         let met = mets[place].copy()?;
-        markers.push(marker(&keys[place], met))?;
+        markers.push(Marker {
+            key: keys[place],
+            met,
+        })?;
     }
     Ok(markers)
 }
@@ -155,7 +118,7 @@ fn with_origin(alloc: Global, keys: &[Key], origin: u32) -> Result<Vec<Marker>, 
     let mut markers = Vec::with_capacity(alloc, keys.len())?;
     for key in keys {
         let met = Met::of(alloc, &[origin])?;
-        markers.push(marker(key, met))?;
+        markers.push(Marker { key: *key, met })?;
     }
     Ok(markers)
 }

@@ -99,10 +99,11 @@ fn book<T: Threads + Sync>(
 }
 
 fn print_marker(rt: &HostRuntime, rule: &str, m: &Marker) -> io::Result<()> {
-    let axis = letter(m.axis);
+    let p = m.key.piece;
+    let axis = letter(p.axis);
     print!(rt;
         "    {rule}:{axis}:{}:{}:{}:{}:{}",
-        m.side, m.x1, m.x2, m.y0, m.y1
+        p.side, p.x1, p.x2, p.y0, p.y1
     )?;
     for origin in m.met.as_slice() {
         print!(rt; " {origin}")?;
@@ -112,7 +113,7 @@ fn print_marker(rt: &HostRuntime, rule: &str, m: &Marker) -> io::Result<()> {
 
 fn print_book(rt: &HostRuntime, rules: &Rules, markers: &[Marker]) -> Result<()> {
     for m in markers {
-        let rule = rules.as_slice().get(m.rule as usize).context("a rule")?;
+        let rule = rules.as_slice().get(m.key.rule as usize).context("a rule")?;
         print_marker(rt, rule.name.as_str(), m)?;
     }
     Ok(())
@@ -135,7 +136,7 @@ pub fn print_found<T: Threads + Sync>(
 }
 
 fn is_same(m: &Marker, n: &Marker) -> bool {
-    m.key() == n.key() && m.met.as_slice() == n.met.as_slice()
+    m.key == n.key && m.met.as_slice() == n.met.as_slice()
 }
 
 fn are_same(a: &[Marker], b: &[Marker]) -> bool {

@@ -5,7 +5,7 @@ use anyhow::{Result, bail};
 use gate_plain::{Picture, PlainMarker, deck_of, flat_list, layout, placed, plain_markers, roots};
 use gate_words::Random;
 use mpw_deck::Rule;
-use mpw_edges::Axis;
+use mpw_edges::{Axis, Piece};
 use mpw_hier::Shelf;
 use mpw_markers::{Key, Marker};
 use mpw_tiles::Snapshot;
@@ -30,8 +30,7 @@ struct Tally {
 }
 
 fn is_same(marker: &Marker, found: &PlainMarker) -> bool {
-    let key = Key {
-        rule: found.rule,
+    let piece = Piece {
         axis: if found.is_horizontal {
             Axis::H
         } else {
@@ -43,7 +42,8 @@ fn is_same(marker: &Marker, found: &PlainMarker) -> bool {
         y0: found.y0,
         y1: found.y1,
     };
-    marker.key() == key && marker.met.as_slice() == found.met.as_slice()
+    let rule = found.rule;
+    marker.key == Key { rule, piece } && marker.met.as_slice() == found.met.as_slice()
 }
 
 fn are_same(markers: &[Marker], list: &[PlainMarker]) -> bool {

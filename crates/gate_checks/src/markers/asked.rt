@@ -26,7 +26,7 @@ fn is_ascending(numbers: &[u32]) -> bool
 fn is_filled(marker: &Marker) -> bool
     ensures { result ≡ true → IsFilled marker.now }
 {
-    marker.y0 < marker.y1
+    marker.key.piece.y0 < marker.key.piece.y1
 }
 
 /// Whether each marker has a row.

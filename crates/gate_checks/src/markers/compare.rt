@@ -3,8 +3,8 @@
 use crate::markers::asked::{met, tile};
 use crate::markers::plain::{COORDINATES, ROWS, RULES, SUBMISSIONS, book};
 use anyhow::Result;
-use gate_words::{Random, marker_of};
-use mpw_edges::Axis;
+use gate_words::Random;
+use mpw_edges::{Axis, Piece};
 use mpw_markers::{Book, Key, Marker, TileMarkers, stitch};
 use std::alloc::{AllocError, Global};
 
@@ -30,21 +30,23 @@ fn axis(random: &mut Random) -> Axis {
 /// The key of a marker of up to four rows. There are so few lines that many markers share one.
 fn key(random: &mut Random) -> Key {
     let y0 = i64::from(random.below(ROWS - 4));
-    Key {
-        rule: random.below(RULES),
+    let rule = random.below(RULES);
+    let piece = Piece {
         axis: axis(random),
         side: (random.below(2) % 2) as u8,
         x1: i64::from(random.below(COORDINATES)),
         x2: i64::from(random.below(COORDINATES)),
         y0,
         y1: y0 + 1 + i64::from(random.below(4)),
-    }
+    };
+    Key { rule, piece }
 }
 
 fn random_marker(alloc: Global, random: &mut Random) -> Result<Marker> {
     let numbers = submissions(alloc, random)?;
     let key = key(random);
-    Ok(marker_of(key, met(alloc, &numbers)?))
+    let met = met(alloc, &numbers)?;
+    Ok(Marker { key, met })
 }
 
 /// A list of a tile, and its markers added to `all`.
@@ -59,7 +61,7 @@ fn list(alloc: Global, random: &mut Random, all: &mut Vec<Marker>) -> Result<Til
 }
 
 fn is_same(a: &Marker, b: &Marker) -> bool {
-    a.key() == b.key() && a.met.as_slice() == b.met.as_slice()
+    a.key == b.key && a.met.as_slice() == b.met.as_slice()
 }
 
 fn are_same(a: &[Marker], b: &[Marker]) -> bool {
@@ -74,7 +76,7 @@ fn are_same(a: &[Marker], b: &[Marker]) -> bool {
 /// The marker with a key among others.
 fn find<'a>(markers: &'a [Marker], key: &Key) -> Option<&'a Marker> {
     for marker in markers {
-        if marker.key() == *key {
+        if marker.key == *key {
             return Some(marker);
         }
     }
@@ -94,10 +96,32 @@ fn finds_alike(book: &Book, wanted: &[Marker], key: &Key) -> bool {
 fn finds_all(book: &Book, wanted: &[Marker]) -> bool {
     let mut finds_all = true;
     for marker in wanted {
-        let key = marker.key();
+        let key = marker.key;
+        let ended = Piece {
+            y1: key.piece.y0,
+            ..key.piece
+        };
+        let beside = Piece {
+            side: 1,
+            ..key.piece
+        };
         finds_all &= finds_alike(book, wanted, &key)
-            & finds_alike(book, wanted, &Key { y1: key.y0, ..key })
-            & finds_alike(book, wanted, &Key { side: 1, ..key });
+            & finds_alike(
+                book,
+                wanted,
+                &Key {
+                    piece: ended,
+                    ..key
+                },
+            )
+            & finds_alike(
+                book,
+                wanted,
+                &Key {
+                    piece: beside,
+                    ..key
+                },
+            );
     }
     finds_all
 }

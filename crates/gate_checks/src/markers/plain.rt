@@ -2,8 +2,7 @@
 
 use crate::markers::asked::met;
 use anyhow::Result;
-use gate_words::marker_of;
-use mpw_edges::Axis;
+use mpw_edges::{Axis, Piece};
 use mpw_markers::{Key, Line, Marker};
 use std::alloc::{AllocError, Global};
 
@@ -21,7 +20,8 @@ pub const SUBMISSIONS: u32 = 6;
 
 fn has_row(all: &[Marker], line: &Line, row: i64) -> bool {
     for marker in all {
-        if marker.line() == *line && marker.y0 <= row && row < marker.y1 {
+        let Piece { y0, y1, .. } = marker.key.piece;
+        if marker.line() == *line && y0 <= row && row < y1 {
             return true;
         }
     }
@@ -32,7 +32,8 @@ fn has_row(all: &[Marker], line: &Line, row: i64) -> bool {
 fn meets(all: &[Marker], key: &Key, submission: u32) -> bool {
     let line = key.line();
     for marker in all {
-        let is_within = marker.line() == line && key.y0 <= marker.y0 && marker.y1 <= key.y1;
+        let Piece { y0, y1, .. } = marker.key.piece;
+        let is_within = marker.line() == line && key.piece.y0 <= y0 && y1 <= key.piece.y1;
         if is_within && marker.met.as_slice().contains(&submission) {
             return true;
         }
@@ -53,8 +54,7 @@ fn submissions(alloc: Global, all: &[Marker], key: &Key) -> Result<Vec<u32>, All
 
 /// The marker of a line's rows.
 fn marker_at(alloc: Global, all: &[Marker], line: &Line, y0: i64, y1: i64) -> Result<Marker> {
-    let key = Key {
-        rule: line.rule,
+    let piece = Piece {
         axis: line.axis,
         side: line.side,
         x1: line.x1,
@@ -62,8 +62,10 @@ fn marker_at(alloc: Global, all: &[Marker], line: &Line, y0: i64, y1: i64) -> Re
         y0,
         y1,
     };
+    let rule = line.rule;
+    let key = Key { rule, piece };
     let met = met(alloc, &submissions(alloc, all, &key)?)?;
-    Ok(marker_of(key, met))
+    Ok(Marker { key, met })
 }
 
 /// Adds the markers of a line: each row without one before it begins a marker, and each row without one after it ends a marker.

@@ -4,7 +4,7 @@ use crate::markers::asked::{met, tile};
 use crate::markers::shapes::Shapes;
 use crate::markers::{compare, scattered};
 use anyhow::{Result, bail};
-use gate_words::{Answers, Words, key, marker_of, tell_marker};
+use gate_words::{Answers, Words, key, tell_marker};
 use mpw_markers::{Book, Marker, TileMarkers, stitch};
 use std::alloc::Global;
 use std::mem;
@@ -72,7 +72,7 @@ impl Tiles {
         let key = key(words);
         let numbers = words.numbers(alloc)?;
         let met = met(alloc, &numbers)?;
-        self.markers.push(marker_of(key, met))?;
+        self.markers.push(Marker { key, met })?;
         Ok(())
     }
 

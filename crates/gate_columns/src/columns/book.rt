@@ -46,7 +46,7 @@ fn whole<T: Threads + Sync>(threads: &T, alloc: Global, snapshot: &Snapshot) -> 
 
 /// Whether two markers are the same.
 pub fn is_same(a: &Marker, b: &Marker) -> bool {
-    a.key() == b.key() && a.met.as_slice() == b.met.as_slice()
+    a.key == b.key && a.met.as_slice() == b.met.as_slice()
 }
 
 fn are_same(first: &[Marker], second: &[Marker]) -> bool {
@@ -88,10 +88,11 @@ pub fn books_that_differ<T: Threads + Sync>(
 }
 
 fn print_marker(rt: &HostRuntime, rule: &str, m: &Marker) -> io::Result<()> {
-    let axis = letter(m.axis);
+    let p = m.key.piece;
+    let axis = letter(p.axis);
     print!(rt;
         "    {rule}:{axis}:{}:{}:{}:{}:{}",
-        m.side, m.x1, m.x2, m.y0, m.y1
+        p.side, p.x1, p.x2, p.y0, p.y1
     )?;
     for origin in m.met.as_slice() {
         print!(rt; " {origin}")?;
@@ -102,7 +103,7 @@ fn print_marker(rt: &HostRuntime, rule: &str, m: &Marker) -> io::Result<()> {
 /// Prints markers, one a line.
 pub fn print_markers(rt: &HostRuntime, rules: &Rules, markers: &[Marker]) -> Result<()> {
     for m in markers {
-        let rule = rules.as_slice().get(m.rule as usize).context("a rule")?;
+        let rule = rules.as_slice().get(m.key.rule as usize).context("a rule")?;
         print_marker(rt, rule.name.as_str(), m)?;
     }
     Ok(())

@@ -42,7 +42,7 @@ fn count_all<T: Threads + Sync>(
 fn count_first(book: &[Marker], first: &[Marker], rule: usize, limit: usize) -> Option<usize> {
     let mut count = 0usize;
     for marker in book {
-        if marker.rule as usize == rule {
+        if marker.key.rule as usize == rule {
             if count < limit && !is_same(marker, first.get(count)?) {
                 return None;
             }

@@ -2,7 +2,7 @@
 
 use anyhow::{Context, Result, bail};
 use gate_plain::{placed, placed_roots, submit};
-use gate_words::{Words, key, marker_of};
+use gate_words::{Words, key};
 use mpw_deck::read_deck;
 use mpw_geom::Name;
 use mpw_hier::Shelf;
@@ -64,11 +64,12 @@ impl Given {
 
     /// Adds so many markers, each so far to the right of the one before.
     fn add(&mut self, count: u32, step: i64, first: Key) -> Result<(), AllocError> {
-        let mut at = first;
+        let mut key = first;
         for _ in 0..count {
-            self.markers.push(marker_of(at, Met::none()))?;
-            at.x1 = at.x1.saturating_add(step);
-            at.x2 = at.x2.saturating_add(step);
+            let met = Met::none();
+            self.markers.push(Marker { key, met })?;
+            key.piece.x1 = key.piece.x1.saturating_add(step);
+            key.piece.x2 = key.piece.x2.saturating_add(step);
         }
         Ok(())
     }

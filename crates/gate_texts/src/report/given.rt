@@ -1,7 +1,7 @@
 //! What the lines give: a deck, a name, markers, and what a full report has besides.
 
 use anyhow::{Result, bail};
-use gate_words::{Words, key, marker_of};
+use gate_words::{Words, key};
 use mpw_deck::{Deck, read_deck};
 use mpw_geom::{Box2, Layer, Name};
 use mpw_markers::{Marker, Met};
@@ -124,7 +124,9 @@ impl Given {
             "fault" => self.faults.push(read_fault(alloc, &mut words)?)?,
             _ => {
                 words = Words::of(line);
-                self.markers.push(marker_of(key(&mut words), Met::none()))?;
+                let key = key(&mut words);
+                let met = Met::none();
+                self.markers.push(Marker { key, met })?;
             }
         }
         words.end()

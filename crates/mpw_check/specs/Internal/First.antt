@@ -6,13 +6,13 @@ use Rattle.mpw_markers.specs.declared.marker.Marker.{Marker}
 
 -- One more marker is counted, and is stored if fewer than the limit of its rule were.
 pub record AddsOne (most : ℕ) (m : Marker) (old new : FirstMarkers) : Type 0 where
-  pub taken : slice_index old.counts.items m.rule < most
+  pub taken : slice_index old.counts.items m.key.rule < most
       → new.markers.items ≡ old.markers.items ++ m ∷ []
-  pub left : most ≤ slice_index old.counts.items m.rule → new.markers.items ≡ old.markers.items
+  pub left : most ≤ slice_index old.counts.items m.key.rule → new.markers.items ≡ old.markers.items
   pub long : length new.counts.items ≡ length old.counts.items
   pub counted : (place : ℕ) → place < length old.counts.items
       → slice_index new.counts.items place
-      ≡ slice_index old.counts.items place + (if m.rule == place then 1 else 0)
+      ≡ slice_index old.counts.items place + (if m.key.rule == place then 1 else 0)
   pub all : new.all ≡ old.all
 
 -- The first of the markers that were read, and how many of these each rule has.

@@ -5,6 +5,7 @@ use Rattle.mpw_geom.specs.declared.plane.Layer.{Layer}
 use Rattle.mpw_deck.specs.declared.rule.Rule.{Rule}
 use Rattle.mpw_edges.specs.declared.run.Axis.{Axis}
 use Rattle.mpw_edges.specs.Laws.{AreSameIn}
+use Rattle.mpw_edges.specs.Pieces.{piece_of}
 use Rattle.mpw_region.specs.declared.runs.Run.{Run}
 use Rattle.mpw_markers.specs.declared.marker.Key.{Key}
 use Rattle.mpw_job.specs.Layers.{Coverage}
@@ -27,15 +28,7 @@ AddsRule place rules axis on core old new = (k : Key)
 
 -- The key of a run of the rule at that index.
 abbrev pub key_of_run : ℕ → Axis → Run → Key
-key_of_run place axis r = record {
-  rule = place;
-  axis = axis;
-  side = r.line.side;
-  x1 = r.line.first;
-  x2 = r.line.second;
-  y0 = r.from;
-  y1 = r.to;
-}
+key_of_run place axis r = record { rule = place; piece = piece_of axis r }
 
 -- The input of a search: at most 256 rules, with their layers, and a distance that is at least each of theirs.
 pub record IsLook (rules : List Rule) (layers : List Layer) (distance : ℕ) : Type 0 where

@@ -6,6 +6,7 @@ use Rattle.mpw_geom.specs.Plane.{Square, has_square}
 use Rattle.mpw_deck.specs.declared.rule.Rule.{Rule}
 use Rattle.mpw_edges.specs.declared.run.Axis.{Axis}
 use Rattle.mpw_edges.specs.declared.run.Axis.TheVariants.{V, H}
+use Rattle.mpw_edges.specs.declared.run.Piece.{Piece}
 use Rattle.mpw_edges.specs.Pieces.{HasVerticalStep}
 use Rattle.mpw_walk.specs.Window.{do_meet}
 use Rattle.mpw_contents.specs.declared.thing.Thing.{Thing}
@@ -26,7 +27,8 @@ use Rattle.mpw_columns.specs.declared.kept.Solved.{Solved}
 use Rattle.mpw_columns.specs.Internal.Found.{AgreeIn, left_of, right_of}
 
 -- The row has a pair step of the line's rule in the core.
-pub record IsStepIn (rules : List Rule) (axis : Axis) (on : Coverage) (core : Box2) (line : Line) (j : ℤ) :
+pub record IsStepIn (rules : List Rule) (axis : Axis) (on : Coverage) (core : Box2) (line : Line)
+    (j : ℤ) :
     Type 0 where
   pub rule : Rule
   pub at : slice_get rules line.rule ≡ Some rule
@@ -35,13 +37,15 @@ pub record IsStepIn (rules : List Rule) (axis : Axis) (on : Coverage) (core : Bo
       line.side line.x1 line.x2 j
 
 -- Each of the keys has some row, and together they have exactly the rows of the core's pair steps.
-pub record ArePieces (rules : List Rule) (axis : Axis) (on : Coverage) (core : Box2) (keys : List Key) :
+pub record ArePieces (rules : List Rule) (axis : Axis) (on : Coverage) (core : Box2)
+    (keys : List Key) :
     Type 0 where
-  pub filled : All (λ k. k.y0 <ℤ k.y1) keys
+  pub filled : All (λ k. k.piece.y0 <ℤ k.piece.y1) keys
   pub exact : (line : Line) (j : ℤ) → IsRowOf keys line j ↔ IsStepIn rules axis on core line j
 
 -- Such pieces were added after others.
-pub record AddsPieces (rules : List Rule) (axis : Axis) (on : Coverage) (core : Box2) (old new : List Key) :
+pub record AddsPieces (rules : List Rule) (axis : Axis) (on : Coverage) (core : Box2)
+    (old new : List Key) :
     Type 0 where
   pub added : List Key
   pub is : new ≡ old ++ added
@@ -61,15 +65,15 @@ abbrev pub moved_box : Point → Box2 → Box2
 moved_box d b = record { x0 = b.x0 +ℤ d.x; y0 = b.y0 +ℤ d.y; x1 = b.x1 +ℤ d.x; y1 = b.y1 +ℤ d.y }
 
 abbrev pub moved_key : Point → Key → Key
-moved_key d k = record {
-  rule = k.rule;
-  axis = k.axis;
-  side = k.side;
-  x1 = k.x1 +ℤ d.x;
-  x2 = k.x2 +ℤ d.x;
-  y0 = k.y0 +ℤ d.y;
-  y1 = k.y1 +ℤ d.y;
-}
+moved_key d k =
+    let p = k.piece in
+    let piece : Piece = record p {
+      x1 = p.x1 +ℤ d.x;
+      x2 = p.x2 +ℤ d.x;
+      y0 = p.y0 +ℤ d.y;
+      y1 = p.y1 +ℤ d.y;
+    } in
+    record k { piece = piece }
 
 -- The displacement as it is seen along an axis.
 abbrev pub seen_way : Axis → Point → Point
@@ -104,7 +108,8 @@ pub record IsCutAlong (core : Box2) (at : ℤ) (first second : Box2) : Type 0 wh
   pub second_is : second ≡ above_of core at
 
 abbrev pub IsCut : (core first second : Box2) → Type 0
-IsCut core first second = (at : ℤ) × (IsCutAcross core at first second ⊎ IsCutAlong core at first second)
+IsCut core first second =
+    (at : ℤ) × (IsCutAcross core at first second ⊎ IsCutAlong core at first second)
 
 -- ---- the content of entries
 
@@ -123,7 +128,8 @@ pub record IsSpan (low high : ℤ) : Type 0 where
 
 -- The box without its outermost points.
 abbrev pub smaller : Box2 → Box2
-smaller b = record { x0 = b.x0 +ℤ pos 1; y0 = b.y0 +ℤ pos 1; x1 = b.x1 -ℤ pos 1; y1 = b.y1 -ℤ pos 1 }
+smaller b =
+    record { x0 = b.x0 +ℤ pos 1; y0 = b.y0 +ℤ pos 1; x1 = b.x1 -ℤ pos 1; y1 = b.y1 -ℤ pos 1 }
 
 -- What has a unit square of the window touches the other box.
 abbrev pub MeetsSquaresOf : (window met : Box2) → Type 0
@@ -132,12 +138,14 @@ MeetsSquaresOf window met = (b : Box2) (s : Square) → has_square window s ≡ 
 
 -- In the core's window, on the layers of the rules, the entries have exactly what the layout has, and the areas of shapes are their boxes.
 pub record AreThingsIn (l : Layout) (axis : Axis) (core : Box2) (things : List Thing) : Type 0 where
-  pub shows : AgreeIn l.layers.now (across core (l.distance + 1)) (seen_layout l axis) (seen_things l axis things)
+  pub shows : AgreeIn l.layers.now (across core (l.distance + 1)) (seen_layout l axis)
+      (seen_things l axis things)
   pub boxed : All (IsBoxed l.snapshot.now.shelf) things
 
 -- The keys are pieces of what the layout has in the core.
 abbrev pub AreLayoutPieces : Layout → Axis → Box2 → List Key → Type 0
-AreLayoutPieces l axis core keys = ArePieces l.snapshot.now.deck.rules axis (seen_layout l axis) core keys
+AreLayoutPieces l axis core keys =
+    ArePieces l.snapshot.now.deck.rules axis (seen_layout l axis) core keys
 
 abbrev pub AddsLayoutPieces : Layout → Axis → Box2 → (old new : List Key) → Type 0
 AddsLayoutPieces l axis core old new =
@@ -145,11 +153,13 @@ AddsLayoutPieces l axis core old new =
 
 -- The rectangles have there exactly the squares that the layout has.
 abbrev pub AreRectanglesIn : Layout → Axis → Box2 → List Rectangle → Type 0
-AreRectanglesIn l axis core rectangles = AgreeIn l.layers.now (across core (l.distance + 1)) (seen_layout l axis) (listed_on rectangles)
+AreRectanglesIn l axis core rectangles =
+    AgreeIn l.layers.now (across core (l.distance + 1)) (seen_layout l axis) (listed_on rectangles)
 
 -- A core that is held has the pieces of its entries.
 abbrev pub IsSolved : Layout → Axis → Solved → Type 0
-IsSolved l axis s = ArePieces l.snapshot.now.deck.rules axis (seen_things l axis s.things) s.core s.keys.items
+IsSolved l axis s =
+    ArePieces l.snapshot.now.deck.rules axis (seen_things l axis s.things) s.core s.keys.items
 
 -- The core of all columns of an axis.
 abbrev pub whole_core : Layout → Axis → Box2

@@ -19,4 +19,4 @@ line_place l =
 
 -- the line and the rows
 abbrev pub place_of : Key → Place
-place_of k = record { line = line_place (line_of_key k); y0 = k.y0; y1 = k.y1 }
+place_of k = record { line = line_place (line_of_key k); y0 = k.piece.y0; y1 = k.piece.y1 }

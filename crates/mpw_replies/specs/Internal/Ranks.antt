@@ -23,11 +23,11 @@ AreRanks cells shelf ranks =
 
 -- the marker is full and has a rule
 abbrev pub has_line : List Rule → List Bool → Marker → Bool
-has_line rules seen m = is_full seen m && is_some (slice_get rules m.rule)
+has_line rules seen m = is_full seen m && is_some (slice_get rules m.key.rule)
 
 -- what a marker adds to the count of the rule at that index
 abbrev pub masked_one : List Bool → Marker → ℕ → ℕ
-masked_one seen m place = if (m.rule == place) && is_masked seen m then 1 else 0
+masked_one seen m place = if (m.key.rule == place) && is_masked seen m then 1 else 0
 
 -- each is the count of the masked markers of the rule at its index
 abbrev pub AreNumbers : List Bool → List Marker → List ℕ → Type 0

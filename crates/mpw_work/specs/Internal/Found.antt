@@ -6,20 +6,24 @@ use Rattle.std.specs.declared.cmp.Ordering.TheVariants.{Less}
 use Rattle.mpw_geom.specs.declared.plane.Box2.{Box2}
 use Rattle.mpw_deck.specs.declared.rule.Rule.{Rule}
 use Rattle.mpw_edges.specs.declared.run.Piece.{Piece}
-use Rattle.mpw_edges.specs.Pieces.{piece_cmp, ComesBefore as IsPieceBefore}
+use Rattle.mpw_edges.specs.Pieces.{piece_cmp, box_of, ComesBefore as IsPieceBefore}
 use Rattle.mpw_tiles.specs.declared.listing.Rectangle.{Rectangle}
 use Rattle.mpw_markers.specs.declared.marker.Key.{Key}
 use Rattle.mpw_markers.specs.declared.marker.Marker.{Marker}
-use Rattle.mpw_markers.specs.Markers.{key_of}
 use Rattle.mpw_markers.specs.Met.{IsAscending}
 use Rattle.mpw_geom.specs.Meeting.{IsMet}
 use Rattle.mpw_job.specs.Layers.{Coverage}
 use Rattle.mpw_tiles.specs.Listing.{HasListed}
 use Rattle.mpw_job.specs.Answers.{TileJob, listed_on, IsFoundIn, key_at, TellsMet}
-use Rattle.mpw_job.specs.Internal.Keys.{run_at, key_box}
+
+abbrev pub key_of : Marker → Key
+key_of m = m.key
 
 abbrev pub met_of : Marker → List ℕ
 met_of m = m.met
+
+abbrev pub key_box : Key → Box2
+key_box k = box_of k.piece
 
 -- The rule's runs in the core were added to the keys, in order.
 pub record AddsRule (core : Box2) (on : Coverage) (place : ℕ) (rule : Rule) (old new : List Key) :
@@ -33,11 +37,11 @@ pub record AddsRule (core : Box2) (on : Coverage) (place : ℕ) (rule : Rule) (o
 pub record IsKey (job : TileJob) (k : Key) : Type 0 where
   pub rule : Rule
   pub at : slice_get job.rules k.rule ≡ Some rule
-  pub run : IsFoundIn job.core (listed_on job.window) rule (run_at k)
+  pub run : IsFoundIn job.core (listed_on job.window) rule k.piece
 
 -- Keys by the rule's index, then as their runs.
 abbrev pub key_cmp : Key → Key → Ordering
-key_cmp k l = ordering_then (nat_cmp k.rule l.rule) (piece_cmp (run_at k) (run_at l))
+key_cmp k l = ordering_then (nat_cmp k.rule l.rule) (piece_cmp k.piece l.piece)
 
 abbrev pub IsKeyBefore : Key → Key → Type 0
 IsKeyBefore k l = key_cmp k l ≡ Less

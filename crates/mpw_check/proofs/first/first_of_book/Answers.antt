@@ -21,7 +21,7 @@ add_one-requires-clause-there c =
 pub add_one-requires-clause-room : goal.add_one-requires-clause-room
 add_one-requires-clause-room c =
     let few = count_few c.args.most c.args.book.now c.loop-marker.marker-index
-    c.marker-item.result.rule c.loop-marker.first c.loop-marker-test.true
+    c.marker-item.result.key.rule c.loop-marker.first c.loop-marker-test.true
     c.loop-marker.invariant.2 (add_one-requires-clause-there c) in
     omega (arith, few, c.loop-marker-test.true, c.loop-marker.auto.marker-index-end)
 

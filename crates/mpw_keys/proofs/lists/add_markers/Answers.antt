@@ -7,8 +7,8 @@ use Rattle.mpw_keys.proofs.lists.add_markers.Goals as goal
 pub loop-key-preserved : goal.loop-key-preserved
 loop-key-preserved c =
     next_added c.args.markers.now.items c.loop-key.markers.items _ c.args.keys.now
-    c.loop-key.key-index _ c.marker.result c.loop-key-test.true c.loop-key.invariant
-    c.in_ok-push.ensures.items (c.marker.ensures c.in_ok-met.ensures)
+    c.loop-key.key-index _ _ c.loop-key-test.true c.loop-key.invariant
+    c.in_ok-push.ensures.items c.in_ok-met.ensures
 
 pub returns : goal.returns
 returns c =

@@ -1,16 +1,18 @@
 -- Answers to the goals of `first_run` in `src/stitching.rt`.
-use Rattle.std.proofs.Common.{◌<◌, ◌≤◌, sym, subst}
+use Rattle.std.proofs.Common.{◌<◌, ◌≤◌, Bor, sym, subst}
+use Rattle.mpw_markers.specs.declared.marker.Marker.{Marker}
 use Rattle.mpw_markers.specs.Internal.Runs.{IsFirstRun}
-use Rattle.mpw_markers.proofs.Grouped.{started, taken_in, stopped, all_reached}
+use Rattle.mpw_markers.proofs.Grouped.{Reaches, started, taken_in, stopped, all_reached}
 use Rattle.mpw_markers.proofs.Referred.{seen, many, at}
 use Rattle.mpw_markers.proofs.stitching.first_run.Goals as goal
 
 pub loop-count-init : goal.loop-count-init
 loop-count-init c =
     let ms = c.args.markers.now in
-    started (seen ms) c.index-markers-0.result.now c.key-run.result
-    (at ms 0 c.index-markers-0.result c.requires.some c.index-markers-0.is) c.key-run.ensures
-    (subst (λ n. 1 ≤ n) (sym (many ms)) c.requires.some) c.requires.filled c.requires.ordered
+    subst (λ (m : Bor Marker). Reaches (seen ms) 1 m.now.key) c.index-markers-0.is
+    (started (seen ms) c.index-markers-0.result.now
+    (at ms 0 c.index-markers-0.result c.requires.some c.index-markers-0.is)
+    (subst (λ n. 1 ≤ n) (sym (many ms)) c.requires.some) c.requires.filled c.requires.ordered)
 
 pub loop-count-preserved : goal.loop-count-preserved
 loop-count-preserved c =

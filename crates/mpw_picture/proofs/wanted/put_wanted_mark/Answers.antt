@@ -7,7 +7,7 @@ use Rattle.mpw_picture.proofs.wanted.put_wanted_mark.Goals as goal
 pub returns : goal.returns
 unfolding wanted_mark
 returns g c =
-    adds_same _ _ _ _ _ (rw (c.corners_of.ensures, c.key_box-area.ensures) refl)
+    adds_same _ _ _ _ _ (rw (c.corners_of.ensures, c.closed_box-area.ensures) refl)
     (adds_more _ _ _ _ _ _ _ _ c.in_ok-put.was
     (adds_more _ _ _ _ _ _ _ _ c.in_ok-put_outline.was
     (adds_more _ _ _ _ _ _ _ _ c.in_ok-put_wanted_head.was

@@ -9,7 +9,7 @@ pub loop-run-preserved : goal.loop-run-preserved
 loop-run-preserved c =
     rw c.in_ok-push.ensures.items
     (adds_one c.args.place c.args.runs.now c.loop-run.run-index _ c.args.keys.now.items
-    c.loop-run.keys.items c.key.result c.loop-run-test.true c.loop-run.invariant c.key.ensures)
+    c.loop-run.keys.items c.loop-run-test.true c.loop-run.invariant)
 
 pub returns : goal.returns
 returns c =

@@ -4,8 +4,7 @@ use Rattle.std.specs.Prelude.{All}
 use Rattle.mpw_geom.specs.Plane.{IsOrdered}
 use Rattle.mpw_tiles.specs.declared.listing.Rectangle.{Rectangle}
 use Rattle.mpw_markers.specs.declared.marker.Key.{Key}
-use Rattle.mpw_job.specs.Internal.Keys.{key_box}
-use Rattle.mpw_work.specs.Internal.Found.{MeetsSome, AreMarkersOfKeys}
+use Rattle.mpw_work.specs.Internal.Found.{key_box, MeetsSome, AreMarkersOfKeys}
 use Rattle.mpw_work.proofs.Adding.{boxes_ordered, answers_from}
 use Rattle.mpw_work.proofs.RunsMeet.{keys_meet}
 use Rattle.mpw_work.proofs.find.found.Goals as goal

@@ -1,7 +1,7 @@
 -- Answers to the goals of `closed_boxes` in `src/met.rt`.
 use Rattle.std.proofs.Common.{◌∙◌, ◌++◌, [], ◌∷◌, map, ap, sym}
 use Rattle.std.proofs.lemmas.List.{take_all, map_more}
-use Rattle.mpw_job.specs.Internal.Keys.{key_box}
+use Rattle.mpw_work.specs.Internal.Found.{key_box}
 use Rattle.mpw_work.proofs.met.closed_boxes.Goals as goal
 
 pub loop-key-preserved : goal.loop-key-preserved

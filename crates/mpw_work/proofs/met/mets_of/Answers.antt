@@ -6,7 +6,7 @@ use Rattle.mpw_geom.specs.declared.plane.Box2.{Box2}
 use Rattle.mpw_geom.specs.Plane.{IsOrdered}
 use Rattle.mpw_markers.specs.declared.search.Rectangle.{Rectangle as Located}
 use Rattle.mpw_markers.specs.Origins.{AreMetOrigins}
-use Rattle.mpw_job.specs.Internal.Keys.{key_box}
+use Rattle.mpw_work.specs.Internal.Found.{key_box}
 use Rattle.mpw_work.proofs.Meeting.{tell_met}
 use Rattle.mpw_work.proofs.met.mets_of.Goals as goal
 

@@ -1,8 +1,8 @@
 -- Answers to the goals of `with_mets` in `src/met.rt`.
 use Rattle.std.proofs.Common.{◌∙◌, ◌++◌, [], ◌∷◌, map, ap, sym, arith}
 use Rattle.std.proofs.lemmas.List.{take_all, take_more, map_push}
-use Rattle.mpw_markers.specs.Markers.{key_of}
 use Rattle.mpw_work.specs.Internal.Found.{met_of}
+use Rattle.mpw_work.proofs.Adding.{keyed_more}
 use Rattle.mpw_work.proofs.met.with_mets.Goals as goal
 
 pub loop-place-preserved : goal.loop-place-preserved
@@ -11,12 +11,11 @@ loop-place-preserved c =
     let place = c.loop-place.place in
     let added = c.in_ok-push.ensures.items in
     record {
-      keys = ap (map key_of) added ∙ map_push key_of old c.marker.result
-          ∙ (λ k. c.loop-place.invariant.keys k ++ c.marker.ensures.key k ∷ [])
-          ∙ sym (take_more c.args.keys.now place _ c.loop-place-test.true);
-      mets = ap (map met_of) added ∙ map_push met_of old c.marker.result
+      keys = keyed_more c.args.keys.now place _ _ old _ c.loop-place-test.true added
+          c.loop-place.invariant.keys;
+      mets = ap (map met_of) added ∙ map_push met_of old _
           ∙ (λ k. c.loop-place.invariant.mets k
-          ++ (c.marker.ensures.met ∙ c.in_ok-met.ensures.same ∙ c.index-mets-place.is) k ∷ [])
+          ++ (c.in_ok-met.ensures.same ∙ c.index-mets-place.is) k ∷ [])
           ∙ sym (take_more c.args.mets.now place c.index-mets-place.result
           (omega (arith, c.requires, c.loop-place-test.true)));
     }

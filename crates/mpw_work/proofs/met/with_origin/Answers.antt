@@ -3,7 +3,7 @@ use Rattle.std.proofs.Common.{◌≡◌, ◌∙◌, ◌++◌, [], ◌∷◌, map
 use Rattle.std.specs.Prelude.{All}
 use Rattle.std.proofs.lemmas.List.{take_all, take_more, map_push}
 use Rattle.std.proofs.lemmas.List.Elements.{All-push}
-use Rattle.mpw_markers.specs.Markers.{key_of}
+use Rattle.mpw_work.proofs.Adding.{keyed_more}
 use Rattle.mpw_markers.specs.declared.marker.Marker.{Marker}
 use Rattle.mpw_work.proofs.met.with_origin.Goals as goal
 
@@ -13,12 +13,11 @@ loop-key-preserved c =
     let added = c.in_ok-push.ensures.items in
     let Meets = λ (m : Marker). m.met ≡ c.args.origin ∷ [] in
     record {
-      keys = ap (map key_of) added ∙ map_push key_of old c.marker.result
-          ∙ (λ k. c.loop-key.invariant.keys k ++ c.marker.ensures.key k ∷ [])
-          ∙ sym (take_more c.args.keys.now c.loop-key.key-index _ c.loop-key-test.true);
+      keys = keyed_more c.args.keys.now c.loop-key.key-index _ _ old _ c.loop-key-test.true added
+          c.loop-key.invariant.keys;
       mets = subst (All Meets) (sym added)
-          (All-push Meets old c.marker.result c.loop-key.invariant.mets
-          (c.marker.ensures.met ∙ c.in_ok-met.ensures));
+          (All-push Meets old _ c.loop-key.invariant.mets
+          c.in_ok-met.ensures);
     }
 
 pub returns-clause-keys : goal.returns-clause-keys

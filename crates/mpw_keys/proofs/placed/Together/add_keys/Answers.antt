@@ -11,9 +11,9 @@ pub loop-key-preserved : goal.loop-key-preserved
 loop-key-preserved c = (
   c.loop-key.invariant.0,
   next_displaced _ c.args.self.now.markers.items c.loop-key.self.markers.items c.push.new.self.items
-      c.split_at.result.0.now c.loop-key.key-index _ c.marker.result c.loop-key-test.true
+      c.split_at.result.0.now c.loop-key.key-index _ _ c.loop-key-test.true
       c.loop-key.invariant.1 c.in_ok-push.ensures.items
-      (c.marker.ensures c.in_ok-met.ensures ∙ ap of_first c.displaced_key.ensures),
+      (λ i. record { key = c.displaced_key-key.ensures i; met = c.in_ok-met.ensures i }),
 )
 
 pub returns : goal.returns
