@@ -37,7 +37,7 @@ STEPS = {
     "read": (0, 1, "Read a request", ("A line, and its payload.",), "mpw_serve: serve_connection; mpw_wire: read_request"),
     "lock": (1, 1, "Take a turn, then the lock", ("The call is registered and counted.",), "mpw_desk: ask_in, event_in"),
     "prepare": (1, 2, "Prepare", ("The request's decision table decides.", "All that needs memory is made here."), "mpw_core: prepare, make_ready"),
-    "store": (1, 3, "Store", ("One row a change, in one transaction.",), "mpw_keeper: append; mpw_store: append"),
+    "store": (1, 3, "Store", ("One row a change, in one transaction.",), "mpw_store_keeper: append; mpw_store: append"),
     "file": (0, 3, "The store's file", ("It has the accepted changes.",), ""),
     "commit": (1, 4, "Commit", ("The changed tables move in.", "It takes no memory and can't fail."), "mpw_core: settle, commit"),
     "write": (0, 4, "Write the reply", ("Line by line, to the socket.",), "mpw_reply_text: write_reply"),

@@ -194,7 +194,7 @@ def is_form(form, word):
 
 def unlike_sentences(entries):
     """The sentences of `mpw check` that aren't those of the table."""
-    text = read("crates/mpw_told/src/sentences.rt")
+    text = read("crates/mpw_firm_messages/src/sentences.rt")
     told = re.findall(r'(?:Code|HierFault|DeckKind)::\w+ =>\s*(?:\{\s*)?"([^"]*)"', text)
     return [f"sentence: {sentence}" for sentence in told if not any(is_said(sentence, e) for e in entries)]
 

@@ -10,7 +10,7 @@ import sys
 
 
 TOP = os.path.dirname(os.path.dirname(os.path.abspath(__file__)))
-ASKED, SETTINGS, AUDITOR = "crates/mpw_asked/src", "crates/mpw_settings/src", "crates/mpw_auditor/src"
+ASKED, SETTINGS, AUDITOR = "crates/mpw_firm_options/src", "crates/mpw_settings/src", "crates/mpw_auditor/src"
 # The function that makes a command's form, after its file. It and the functions of its crate that it calls make the options.
 SOURCES = {
     "mpw check": (f"{ASKED}/options.rt", "command"),

@@ -18,8 +18,8 @@ TOP = os.path.dirname(os.path.dirname(os.path.abspath(__file__)))
 # What names the version of the file VERSION besides, each as the only match of a pattern: the programs, their contract, and the first section of the
 # changes.
 NAMED = {
-    "crates/mpw_asked/src/options.rt": r'^pub const VERSION: &str = "([^"]*)";$',
-    "crates/mpw_asked/specs/Commands.antt": r'^version_text command = command \+\+ codes " ([^"]*)\\n"$',
+    "crates/mpw_firm_options/src/options.rt": r'^pub const VERSION: &str = "([^"]*)";$',
+    "crates/mpw_firm_options/specs/Commands.antt": r'^version_text command = command \+\+ codes " ([^"]*)\\n"$',
     "CHANGELOG.md": r"\A.*?^## (\S+)$",
 }
 

@@ -6,8 +6,8 @@
 //! - `stitch N` stitches the parts under a deck of N rules, prints the book, a marker a line, or why there is none, and begins anew.
 use anyhow::{Result, bail};
 use gate_words::{Words, tell_marker};
+use mpw_firm_parts::{Part, is_older_part, read_part, stitch_parts, write_part};
 use mpw_markers::Marker;
-use mpw_parts::{Part, is_older_part, read_part, stitch_parts, write_part};
 use std::alloc::Global;
 use std::{io, mem};
 

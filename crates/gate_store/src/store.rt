@@ -21,7 +21,7 @@ use gate_events::{Transcript, read_transcript};
 use mpw_geom::Name;
 use mpw_requests::digest_of;
 use mpw_settings::Officer;
-use mpw_stored_rows::{Kind, StoredRow};
+use mpw_store_rows::{Kind, StoredRow};
 use serving::{end_word, serve, serve_again};
 use sqlite::{Connection, MemStore};
 use std::alloc::Global;

@@ -13,7 +13,9 @@ mod given;
 use anyhow::{Context, Result};
 use gate_words::Words;
 use given::Given;
-use mpw_picture::{Picture, View, draw, draw_view, marker_window, whole_window, write_picture};
+use mpw_firm_picture::{
+    Picture, View, draw, draw_view, marker_window, whole_window, write_picture,
+};
 use mpw_tiles::Snapshot;
 use std::io::BufWriter;
 

@@ -8,7 +8,7 @@ mod given;
 
 use anyhow::{Context, Result};
 use given::Given;
-use mpw_report::{Report, write_full_report, write_report};
+use mpw_firm_report::{Report, write_full_report, write_report};
 use std::io::BufWriter;
 
 /// Writes the report of all markers.

@@ -9,7 +9,7 @@ use anyhow::{Context, Result, bail};
 use mpw_geom::Name;
 use mpw_permissions::{Grant, Object, Operation};
 use mpw_requests::{PolicyRequest, Request, SharedRequest};
-use mpw_stored_text::{read_stored, stored_line, stored_payload};
+use mpw_store_text::{read_stored, stored_line, stored_payload};
 use mpw_wire::{LineAsk, parse_line};
 use std::alloc::{AllocError, Global};
 

@@ -5,12 +5,12 @@ use Rattle.sqlite.specs.declared.error.Error.TheVariants.{SqliteFailure}
 use Rattle.sqlite.specs.declared.error.ErrorCode.TheVariants.{TransactionState}
 use Rattle.sqlite.specs.State.{State}
 use Rattle.sqlite.specs.Store.{Ghosts}
-use Rattle.mpw_stored_rows.specs.Rows.{Entry}
+use Rattle.mpw_store_rows.specs.Rows.{Entry}
 use Rattle.mpw_store.specs.Changes.{IsOther, IsReady}
 use Rattle.mpw_store.specs.declared.fault.StoreFault.{StoreFault}
 use Rattle.mpw_store.specs.declared.fault.StoreFault.TheVariants as store
-use Rattle.mpw_replay.specs.Replaying.{IsReplayed, IsUnreplayed}
-use Rattle.mpw_replay.specs.declared.replayed.Replayed.{Replayed}
+use Rattle.mpw_store_replay.specs.Replaying.{IsReplayed, IsUnreplayed}
+use Rattle.mpw_store_replay.specs.declared.replayed.Replayed.{Replayed}
 use Rattle.mpw_store_listing.specs.Failing.{IsUnlisted}
 use Rattle.mpw_store_listing.specs.declared.fault.ListingFault.{ListingFault}
 use Rattle.mpw_store_listing.specs.declared.fault.ListingFault.TheVariants as listing

@@ -9,14 +9,14 @@ use Rattle.sqlite.specs.declared.error.ErrorCode.{ErrorCode}
 use Rattle.sqlite.specs.declared.error.ErrorCode.TheVariants.{NotADatabase, DatabaseCorrupt, TransactionState}
 use Rattle.sqlite.specs.State.{State}
 use Rattle.sqlite.specs.Store.{Ghosts}
-use Rattle.mpw_replay.specs.Replaying.{IsReplayed, IsUnreplayed}
-use Rattle.mpw_replay.specs.declared.replayed.Replayed.{Replayed}
+use Rattle.mpw_store_replay.specs.Replaying.{IsReplayed, IsUnreplayed}
+use Rattle.mpw_store_replay.specs.declared.replayed.Replayed.{Replayed}
 use Rattle.mpw_store.specs.Changes.{IsOther, IsReady, no_schema}
 use Rattle.mpw_store.specs.declared.fault.StoreFault.{StoreFault}
 use Rattle.mpw_store.specs.declared.fault.StoreFault.TheVariants as store
-use Rattle.mpw_store_file.specs.declared.fault.FileFault.{FileFault}
-use Rattle.mpw_store_file.specs.declared.fault.FileFault.TheVariants as file
-use Rattle.mpw_stored_rows.specs.Rows.{Entry}
+use Rattle.mpw_store.specs.declared.file_fault.FileFault.{FileFault}
+use Rattle.mpw_store.specs.declared.file_fault.FileFault.TheVariants as file
+use Rattle.mpw_store_rows.specs.Rows.{Entry}
 use Rattle.mpw_store_listing.specs.Failing.{AcceptsAll, IsUnread}
 use Rattle.mpw_store_listing.specs.Listing.{ListsStore, head_text}
 use Rattle.mpw_store_listing.specs.Payload.{HasPayload}

@@ -2,7 +2,7 @@
 use Rattle.std.specs.Prelude.{ℕ, List, [], ◌++◌, codes, Option, None, Some}
 use Rattle.std.specs.Fmt.{decimal}
 use Rattle.mpw_roles.specs.Hierarchy.{Name}
-use Rattle.mpw_replay.specs.declared.replayed.Replayed.{Replayed}
+use Rattle.mpw_store_replay.specs.declared.replayed.Replayed.{Replayed}
 use Rattle.mpw_store_log.specs.declared.ending.LogEnd.{LogEnd}
 
 -- words and a value

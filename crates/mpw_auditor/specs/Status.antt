@@ -4,8 +4,8 @@ use Rattle.mpw_wire.specs.declared.fault.WireFault.{WireFault}
 use Rattle.mpw_wire.specs.declared.fault.WireFault.TheVariants as wire
 use Rattle.mpw_store_listing.specs.declared.fault.ListingFault.{ListingFault}
 use Rattle.mpw_store_listing.specs.declared.fault.ListingFault.TheVariants as listing
-use Rattle.mpw_store_file.specs.Status.{status_of_store}
-use Rattle.mpw_store_file.specs.Status as file
+use Rattle.mpw_store.specs.Status.{status_of_store}
+use Rattle.mpw_store.specs.Status as file
 use Rattle.mpw_auditor.specs.declared.fault.AuditFault.{AuditFault}
 use Rattle.mpw_auditor.specs.declared.fault.AuditFault.TheVariants as audit
 

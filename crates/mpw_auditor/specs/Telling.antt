@@ -1,6 +1,6 @@
 -- How a file that can't be opened is reported, by what the command asks of it, and how a log is.
 use Rattle.std.specs.Prelude.{Result, Ok, Err, if◌then◌else◌}
-use Rattle.mpw_store_file.specs.declared.fault.FileFault.{FileFault}
+use Rattle.mpw_store.specs.declared.file_fault.FileFault.{FileFault}
 use Rattle.mpw_auditor.specs.Answering.{unopened}
 use Rattle.mpw_auditor.specs.declared.fault.AuditFault.{AuditFault}
 use Rattle.mpw_auditor.specs.declared.fault.AuditFault.TheVariants as audit

@@ -3,8 +3,7 @@ ghost use Rattle.std.specs.Prelude.{◌≡◌};
 ghost use Rattle.mpw_auditor.specs.Status.{exit_of, status_of};
 ghost use Rattle.mpw_auditor.specs.declared.fault.AuditFault.TheVariants as told;
 
-use mpw_store::StoreFault;
-use mpw_store_file::{FileFault, status_of_store};
+use mpw_store::{FileFault, StoreFault, status_of_store};
 use mpw_store_listing::ListingFault;
 use mpw_wire::WireFault;
 use std::alloc::AllocError;

@@ -4,8 +4,8 @@ ghost use Rattle.mpw_auditor.specs.Reporting.{line_text, log_text, officer_text,
 
 use itoa::Buffer;
 use mpw_geom::Name;
-use mpw_replay::Replayed;
 use mpw_store_log::LogEnd;
+use mpw_store_replay::Replayed;
 use std::alloc::{AllocError, Global};
 
 /// Adds a line of words and a value.

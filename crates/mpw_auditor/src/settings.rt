@@ -8,7 +8,7 @@ ghost use Rattle.mpw_auditor.specs.Settings.{AreGiven, AreOf, AsksNoPlace, AsksN
 use crate::fault::AuditFault;
 use clap::error::ErrorKind;
 use clap::{Arg, ArgAction, ArgMatches, Command, Error};
-use mpw_stored_rows::MAX_ROWS;
+use mpw_store_rows::MAX_ROWS;
 use mpw_text::read_number;
 use std::alloc::{AllocError, Global};
 

@@ -15,7 +15,7 @@ use Rattle.mpw_job.specs.Layout.{AreLayoutMarkers}
 use Rattle.mpw_tiles.specs.Snapshots.{Snapshot}
 use Rattle.mpw_columns.specs.First.{IsFirstOfLayout}
 use Rattle.mpw_columns.specs.declared.first.FirstMarkers.{FirstMarkers}
-use Rattle.mpw_keys.specs.Firsts.{of_rule, capped, AreFirstOf}
+use Rattle.mpw_columns_keys.specs.Firsts.{of_rule, capped, AreFirstOf}
 use Rattle.mpw_check.specs.Internal.First.{AddsOne, AreFirstSeen}
 
 -- ---- one element more

@@ -11,13 +11,13 @@ use Rattle.std.proofs.Math.Seq.{take-nil}
 use Rattle.mpw_deck.specs.declared.rule.Rule.{Rule}
 use Rattle.mpw_tiles.specs.Snapshots.{Snapshot}
 use Rattle.mpw_markers.specs.declared.marker.Marker.{Marker}
-use Rattle.mpw_keys.specs.Firsts.{capped, of_rule}
+use Rattle.mpw_columns_keys.specs.Firsts.{capped, of_rule}
 use Rattle.mpw_columns.specs.First.{IsFirstOfLayout}
 use Rattle.mpw_columns.specs.declared.first.FirstMarkers.{FirstMarkers}
-use Rattle.mpw_groups.specs.declared.group.Group.{Group}
-use Rattle.mpw_groups.specs.declared.joining.Owner.{Owner}
-use Rattle.mpw_groups.specs.Parts.{AreRulesAt}
-use Rattle.mpw_groups.specs.Joined.{joined_from, taken, taken_at, with_rule, AreGroupMarkers, AreOwners, GroupsMakeTheLayout}
+use Rattle.mpw_check_groups.specs.declared.group.Group.{Group}
+use Rattle.mpw_check_groups.specs.declared.joining.Owner.{Owner}
+use Rattle.mpw_check_groups.specs.Parts.{AreRulesAt}
+use Rattle.mpw_check_groups.specs.Joined.{joined_from, taken, taken_at, with_rule, AreGroupMarkers, AreOwners, GroupsMakeTheLayout}
 use Rattle.mpw_check.proofs.GroupOwn.{of_joined, past_joined}
 use Rattle.mpw_check.specs.Internal.Groups.{count_at, count_in, markers_of, AddsRule, AreGroupFirsts, AreJoinedFirsts}
 

@@ -5,9 +5,9 @@ use Rattle.std.proofs.lemmas.List.{take_all, take_more}
 use Rattle.mpw_tiles.specs.Snapshots.{Snapshot, IsSnapshot}
 use Rattle.mpw_markers.specs.declared.marker.Marker.{Marker}
 use Rattle.mpw_job.specs.Layout.{AreLayoutMarkers}
-use Rattle.mpw_groups.specs.declared.group.Group.{Group}
-use Rattle.mpw_groups.specs.declared.joining.Owner.{Owner}
-use Rattle.mpw_groups.specs.Joined.{joined_from, AreGroupMarkers, AreOwners, GroupsMakeTheLayout}
+use Rattle.mpw_check_groups.specs.declared.group.Group.{Group}
+use Rattle.mpw_check_groups.specs.declared.joining.Owner.{Owner}
+use Rattle.mpw_check_groups.specs.Joined.{joined_from, AreGroupMarkers, AreOwners, GroupsMakeTheLayout}
 use Rattle.mpw_columns.proofs.Zipped.{zip_append}
 
 pub group_more : {X Y : Type 0} (P : X → Y → Type 0) (xs : List X) (i : ℕ) (x : X)

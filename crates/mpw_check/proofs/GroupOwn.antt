@@ -4,9 +4,9 @@ use Rattle.std.specs.Prelude.{All, filter, slice_get, slice_index_or}
 use Rattle.std.proofs.lemmas.Bool.{eq-eqb, eqb-true}
 use Rattle.std.proofs.lemmas.List.Elements.{All-map, filter-append}
 use Rattle.mpw_markers.specs.declared.marker.Marker.{Marker}
-use Rattle.mpw_keys.specs.Firsts.{of_rule}
-use Rattle.mpw_groups.specs.declared.joining.Owner.{Owner}
-use Rattle.mpw_groups.specs.Joined.{joined_from, taken, taken_at, with_rule}
+use Rattle.mpw_columns_keys.specs.Firsts.{of_rule}
+use Rattle.mpw_check_groups.specs.declared.joining.Owner.{Owner}
+use Rattle.mpw_check_groups.specs.Joined.{joined_from, taken, taken_at, with_rule}
 use Rattle.mpw_job.proofs.Tests.{is_false}
 
 taken_rule : (place rule : ℕ) (ms : List Marker)

@@ -11,7 +11,7 @@ ghost use Rattle.mpw_check.specs.Internal.Tiled.{IsCut, jobs_of, markers_in, IsA
 use crate::groups::check_by_columns;
 use crate::laws::tiles_make_the_layout;
 use mpw_columns::Progress;
-use mpw_cuts::{is_placed, repeats};
+use mpw_columns_cuts::{is_placed, repeats};
 use mpw_job::{Answer, Job, tile_job};
 use mpw_markers::{Book, TileMarkers, stitch};
 use mpw_tiles::{Plan, Snapshot, Windows, cut};

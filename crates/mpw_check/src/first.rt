@@ -5,7 +5,7 @@
 
 ghost use Rattle.std.specs.Prelude.{◌≡◌, ◌<◌, ◌+◌, ◌^◌, [], Some, length, replicate, slice_index, All, IfOk, OnOk};
 ghost use Rattle.mpw_columns.specs.First.{IsFirstOfLayout};
-ghost use Rattle.mpw_keys.specs.Firsts.{AreFirstOf};
+ghost use Rattle.mpw_columns_keys.specs.Firsts.{AreFirstOf};
 ghost use Rattle.mpw_check.specs.Lists.{tile_count};
 ghost use Rattle.mpw_check.specs.Internal.First.{AddsOne};
 

@@ -6,11 +6,11 @@ ghost use Rattle.mpw_columns.specs.First.{IsFirstOfLayout};
 ghost use Rattle.mpw_check.specs.Internal.Groups.{count_at, AddsRule, AreGroupFirsts, AreJoinedFirsts};
 
 use crate::following::Following;
-use mpw_columns::{Bounds, FirstMarkers, MAX_SHOWN, Progress, first_of_columns};
-use mpw_cuts::is_placed;
-use mpw_groups::{
+use mpw_check_groups::{
     Group, Owner, add_rule, are_worthwhile, groups_make_the_layout, groups_of, owners_of,
 };
+use mpw_columns::{Bounds, FirstMarkers, MAX_SHOWN, Progress, first_of_columns};
+use mpw_columns_cuts::is_placed;
 use mpw_tiles::Snapshot;
 use std::alloc::{AllocError, Global};
 use std::thread::Threads;

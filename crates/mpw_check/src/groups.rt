@@ -5,13 +5,15 @@
 
 ghost use Rattle.std.specs.Prelude.{◌≡◌, length, IfOk, IfSome};
 ghost use Rattle.std.specs.List.{AllZip};
-ghost use Rattle.mpw_groups.specs.Joined.{AreGroupMarkers};
+ghost use Rattle.mpw_check_groups.specs.Joined.{AreGroupMarkers};
 ghost use Rattle.mpw_job.specs.Layout.{AreLayoutMarkers};
 
 use crate::following::Following;
+use mpw_check_groups::{
+    Group, are_worthwhile, groups_make_the_layout, groups_of, joined, owners_of,
+};
 use mpw_columns::{MAX_SHOWN, Progress, check_columns};
-use mpw_cuts::is_placed;
-use mpw_groups::{Group, are_worthwhile, groups_make_the_layout, groups_of, joined, owners_of};
+use mpw_columns_cuts::is_placed;
 use mpw_markers::Book;
 use mpw_tiles::Snapshot;
 use std::alloc::{AllocError, Global};

@@ -18,7 +18,7 @@ use Rattle.mpw_edges.proofs.Window.{SameAlong, pair_same}
 use Rattle.mpw_markers.specs.declared.marker.Key.{Key}
 use Rattle.mpw_job.specs.Layers.{Coverage, first_squares, second_squares}
 use Rattle.mpw_job.proofs.Tests.{get_contains}
-use Rattle.mpw_keys.specs.Columns.{across, widened_along}
+use Rattle.mpw_columns_keys.specs.Columns.{across, widened_along}
 use Rattle.mpw_columns.specs.Laws.{WindowDecidesAlong}
 use Rattle.mpw_columns.specs.Found.{IsRun, HasStepAt, IsFound, HasLayers}
 use Rattle.mpw_columns.specs.Internal.Found.{IsLook, AgreeIn}

@@ -9,14 +9,14 @@ use Rattle.mpw_geom.proofs.Boxes.{same_box}
 use Rattle.mpw_edges.specs.declared.run.Axis.{Axis}
 use Rattle.mpw_hier.specs.declared.submission.Submission.{Submission}
 use Rattle.mpw_hier.specs.Values.{flat}
-use Rattle.mpw_contents.specs.declared.thing.Thing.{Thing}
-use Rattle.mpw_contents.specs.Contents.{AreWhole, AreSound}
-use Rattle.mpw_contents.specs.Displaced.{moved}
-use Rattle.mpw_contents.specs.Things.{things_items}
+use Rattle.mpw_columns_contents.specs.declared.thing.Thing.{Thing}
+use Rattle.mpw_columns_contents.specs.Contents.{AreWhole, AreSound}
+use Rattle.mpw_columns_contents.specs.Displaced.{moved}
+use Rattle.mpw_columns_contents.specs.Things.{things_items}
 use Rattle.mpw_hier.specs.Items.{Item}
 use Rattle.mpw_tiles.specs.Snapshots.{shown}
-use Rattle.mpw_keys.specs.declared.column.Column.{Column}
-use Rattle.mpw_keys.specs.Columns.{seen_box, upright, across}
+use Rattle.mpw_columns_keys.specs.declared.column.Column.{Column}
+use Rattle.mpw_columns_keys.specs.Columns.{seen_box, upright, across}
 use Rattle.mpw_columns.specs.declared.layout.Layout.{Layout}
 use Rattle.mpw_columns.specs.declared.earlier.Kept.{Kept}
 use Rattle.mpw_columns.specs.Displaced.{displaced, across_edges, IsDisplaced, ShowsDisplaced}

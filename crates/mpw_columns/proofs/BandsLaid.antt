@@ -17,7 +17,7 @@ use Rattle.mpw_markers.specs.declared.marker.Key.{Key}
 use Rattle.mpw_geom.specs.Layers.{same_layer}
 use Rattle.mpw_job.specs.Layers.{Coverage}
 use Rattle.mpw_job.proofs.Tests.{same_from, same_as}
-use Rattle.mpw_keys.specs.Columns.{across}
+use Rattle.mpw_columns_keys.specs.Columns.{across}
 use Rattle.mpw_columns.specs.declared.leaf.Banded.{Banded}
 use Rattle.mpw_columns.specs.Internal.Bands.{banded_on, IsBanded, layer_of, HasSquaresOf, AreBandsOf}
 use Rattle.mpw_columns.specs.Internal.Found.{AddsFirst, AddsFound, IsLook, AgreeIn}

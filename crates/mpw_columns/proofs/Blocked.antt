@@ -9,8 +9,8 @@ use Rattle.mpw_geom.specs.declared.plane.Box2.{Box2}
 use Rattle.mpw_edges.specs.declared.run.Axis.{Axis}
 use Rattle.mpw_tiles.specs.Snapshots.{shown}
 use Rattle.mpw_job.specs.Computed.{shown_on}
-use Rattle.mpw_keys.specs.declared.column.Column.{Column}
-use Rattle.mpw_keys.specs.Columns.{seen_box, upright, across}
+use Rattle.mpw_columns_keys.specs.declared.column.Column.{Column}
+use Rattle.mpw_columns_keys.specs.Columns.{seen_box, upright, across}
 use Rattle.mpw_columns.specs.declared.layout.Layout.{Layout}
 use Rattle.mpw_columns.specs.Seen.{seen_on}
 use Rattle.mpw_columns.specs.Displaced.{IsDisplaced, ShowsDisplaced, AreDisplacedOn}

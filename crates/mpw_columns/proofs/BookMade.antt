@@ -22,9 +22,9 @@ use Rattle.mpw_job.specs.Computed.{steps_of, shown_on}
 use Rattle.mpw_job.specs.Layout.{AreLayoutMarkers}
 use Rattle.mpw_tiles.specs.Shown.{HasShown}
 use Rattle.mpw_job.proofs.Flat.{flat_from}
-use Rattle.mpw_keys.specs.declared.column.Column.{Column}
-use Rattle.mpw_keys.specs.Columns.{seen_box, AreColumnsOf}
-use Rattle.mpw_keys.specs.Keys.{list_number, key_cmp, is_of_list, list_of, lists_of_sides, lists_of_rule, together, of_first}
+use Rattle.mpw_columns_keys.specs.declared.column.Column.{Column}
+use Rattle.mpw_columns_keys.specs.Columns.{seen_box, AreColumnsOf}
+use Rattle.mpw_columns_keys.specs.Keys.{list_number, key_cmp, is_of_list, list_of, lists_of_sides, lists_of_rule, together, of_first}
 use Rattle.mpw_columns.specs.FollowingOn.{ComesFirst, IsListFor}
 use Rattle.mpw_columns.specs.Laws.{ColumnsMakeTheLayout}
 use Rattle.mpw_columns.specs.Runs.{IsRunOf}

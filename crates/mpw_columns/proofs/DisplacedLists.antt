@@ -18,10 +18,10 @@ use Rattle.mpw_markers.specs.Markers.{line_of_key}
 use Rattle.mpw_job.specs.Computed.{shown_on}
 use Rattle.mpw_job.specs.Layers.{Coverage}
 use Rattle.mpw_job.proofs.Tests.{get_contains, rule_of}
-use Rattle.mpw_keys.specs.declared.column.Column.{Column}
-use Rattle.mpw_keys.specs.Columns.{seen_box, upright}
-use Rattle.mpw_keys.specs.Keys.{displaced_key, HasNearEdges}
-use Rattle.mpw_keys.proofs.KeyOrder.{order_kept}
+use Rattle.mpw_columns_keys.specs.declared.column.Column.{Column}
+use Rattle.mpw_columns_keys.specs.Columns.{seen_box, upright}
+use Rattle.mpw_columns_keys.specs.Keys.{displaced_key, HasNearEdges}
+use Rattle.mpw_columns_keys.proofs.KeyOrder.{order_kept}
 use Rattle.mpw_columns.specs.Seen.{seen_on}
 use Rattle.mpw_columns.specs.Displaced.{displaced, IsDisplaced}
 use Rattle.mpw_columns.specs.Found.{IsFound}

@@ -13,8 +13,8 @@ use Rattle.mpw_edges.specs.Steps.{IsPair}
 use Rattle.mpw_edges.specs.Pieces.{HasVerticalStep}
 use Rattle.mpw_markers.specs.declared.marker.Key.{Key}
 use Rattle.mpw_job.specs.Layers.{Coverage, first_squares, second_squares}
-use Rattle.mpw_keys.specs.Columns.{across}
-use Rattle.mpw_keys.specs.Keys.{displaced_key}
+use Rattle.mpw_columns_keys.specs.Columns.{across}
+use Rattle.mpw_columns_keys.specs.Keys.{displaced_key}
 use Rattle.mpw_columns.specs.Displaced.{displaced, AreDisplacedOn}
 use Rattle.mpw_columns.specs.Found.{HasStepAt, IsFound}
 use Rattle.mpw_columns.specs.Laws.{DisplacedColumnsFindDisplacedRuns}

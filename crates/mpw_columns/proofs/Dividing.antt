@@ -9,7 +9,7 @@ use Rattle.mpw_tiles.specs.declared.listing.Rectangle.{Rectangle}
 use Rattle.mpw_markers.specs.declared.marker.Key.{Key}
 use Rattle.mpw_job.specs.Layers.{Coverage}
 use Rattle.mpw_job.specs.Answers.{listed_on}
-use Rattle.mpw_keys.specs.Columns.{across}
+use Rattle.mpw_columns_keys.specs.Columns.{across}
 use Rattle.mpw_columns.specs.Found.{HasStepAt, IsFound}
 use Rattle.mpw_columns.specs.Internal.Found.{AddsFound, IsLook, AgreeIn, AgreeAll, left_of, right_of, IsUpright}
 use Rattle.mpw_columns.proofs.Agreeing.{run_same, found_agree, agree_back}

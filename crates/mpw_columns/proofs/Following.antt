@@ -11,7 +11,7 @@ use Rattle.std.proofs.lemmas.List.Kept.{AllPairs-cons}
 use Rattle.mpw_edges.specs.declared.run.Axis.{Axis}
 use Rattle.mpw_tiles.specs.Snapshots.{Snapshot}
 use Rattle.mpw_markers.specs.declared.marker.Key.{Key}
-use Rattle.mpw_keys.specs.declared.column.Column.{Column}
+use Rattle.mpw_columns_keys.specs.declared.column.Column.{Column}
 use Rattle.mpw_columns.specs.Runs.{IsRunWithin}
 use Rattle.mpw_columns.specs.FollowingOn.{ComesFirst, IsListFor, ColumnsFollowOn}
 use Rattle.mpw_columns.proofs.Covering.{forwards}

@@ -2,7 +2,7 @@
 use Rattle.std.proofs.Common.{◌≡◌, ℤ, pos, neg_ℤ, ◌+ℤ◌, arith}
 use Rattle.std.proofs.lemmas.Int.{ints}
 use Rattle.mpw_markers.specs.declared.marker.Key.{Key}
-use Rattle.mpw_keys.specs.Keys.{displaced_key}
+use Rattle.mpw_columns_keys.specs.Keys.{displaced_key}
 
 abbrev with_lines : (ℤ → ℤ) → Key → Key
 with_lines f k = record k { piece = record k.piece { x1 = f k.piece.x1; x2 = f k.piece.x2 } }

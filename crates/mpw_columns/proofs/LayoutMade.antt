@@ -11,8 +11,8 @@ use Rattle.mpw_tiles.specs.Snapshots.{Snapshot, shown, shown_extent}
 use Rattle.mpw_markers.specs.declared.marker.Key.{Key}
 use Rattle.mpw_job.specs.Laws.{NoShapesNoMarkers}
 use Rattle.mpw_job.specs.Layout.{AreLayoutMarkers}
-use Rattle.mpw_keys.specs.declared.column.Column.{Column}
-use Rattle.mpw_keys.specs.Keys.{together, of_first}
+use Rattle.mpw_columns_keys.specs.declared.column.Column.{Column}
+use Rattle.mpw_columns_keys.specs.Keys.{together, of_first}
 use Rattle.mpw_columns.specs.Plan.{Cover}
 use Rattle.mpw_columns.specs.Lists.{IsColumnList}
 use Rattle.mpw_columns.specs.Laws.{ColumnsMakeTheLayout, ListsMakeTheLayout}

@@ -12,12 +12,12 @@ use Rattle.mpw_edges.specs.Computed.{TestDecidesPairSteps}
 use Rattle.mpw_tiles.specs.Snapshots.{Snapshot, shown_extent}
 use Rattle.mpw_markers.specs.declared.marker.Key.{Key}
 use Rattle.mpw_markers.specs.declared.marker.Marker.{Marker}
-use Rattle.mpw_keys.specs.declared.column.Column.{Column}
-use Rattle.mpw_keys.specs.declared.first.Firsts.{Firsts}
-use Rattle.mpw_keys.specs.declared.placed.Placed.{Placed}
-use Rattle.mpw_keys.specs.Columns.{seen_box, upright}
-use Rattle.mpw_keys.specs.Firsts.{AreFirstOf, AreFirsts, AreNear, HasSide, IsListed}
-use Rattle.mpw_keys.specs.Keys.{displaced_key, is_of_list, HasNearEdges, IsNear}
+use Rattle.mpw_columns_keys.specs.declared.column.Column.{Column}
+use Rattle.mpw_columns_keys.specs.declared.first.Firsts.{Firsts}
+use Rattle.mpw_columns_keys.specs.declared.placed.Placed.{Placed}
+use Rattle.mpw_columns_keys.specs.Columns.{seen_box, upright}
+use Rattle.mpw_columns_keys.specs.Firsts.{AreFirstOf, AreFirsts, AreNear, HasSide, IsListed}
+use Rattle.mpw_columns_keys.specs.Keys.{displaced_key, is_of_list, HasNearEdges, IsNear}
 use Rattle.mpw_columns.specs.declared.layout.Layout.{Layout}
 use Rattle.mpw_columns.specs.declared.first.Listing.{Listing}
 use Rattle.mpw_columns.specs.Plan.{IsColumnWithin}

@@ -24,8 +24,8 @@ use Rattle.mpw_markers.specs.declared.marker.Key.{Key}
 use Rattle.mpw_job.specs.Layers.{Coverage}
 use Rattle.mpw_job.specs.Answers.{listed_on}
 use Rattle.mpw_job.specs.Computed.{shown_on}
-use Rattle.mpw_keys.specs.declared.column.Column.{Column}
-use Rattle.mpw_keys.specs.Columns.{seen_box, across, upright}
+use Rattle.mpw_columns_keys.specs.declared.column.Column.{Column}
+use Rattle.mpw_columns_keys.specs.Columns.{seen_box, across, upright}
 use Rattle.mpw_columns.specs.Seen.{seen_on}
 use Rattle.mpw_columns.specs.Plan.{IsColumnWithin}
 use Rattle.mpw_columns.specs.Found.{IsFound, HasLayers}

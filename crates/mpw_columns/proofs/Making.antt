@@ -16,8 +16,8 @@ use Rattle.mpw_markers.specs.Whole.{IsMaximal}
 use Rattle.mpw_job.specs.Computed.{steps_of, shown_on}
 use Rattle.mpw_job.proofs.Tests.{is_false, rule_of}
 use Rattle.mpw_job.proofs.Shapes.{tests_tell}
-use Rattle.mpw_keys.specs.declared.column.Column.{Column}
-use Rattle.mpw_keys.specs.Columns.{seen_box, upright}
+use Rattle.mpw_columns_keys.specs.declared.column.Column.{Column}
+use Rattle.mpw_columns_keys.specs.Columns.{seen_box, upright}
 use Rattle.mpw_columns.specs.Within.{is_in_column}
 use Rattle.mpw_columns.specs.Laws.{ColumnsHaveWholeRuns}
 use Rattle.mpw_columns.specs.Runs.{IsRunWithin}

@@ -15,9 +15,9 @@ use Rattle.mpw_walk.specs.Window.{is_met}
 use Rattle.mpw_tiles.specs.Laws.{SquaresLieInBoxes, IsInBox}
 use Rattle.mpw_job.specs.Computed.{square_before, item_has, is_layer, shown_on}
 use Rattle.mpw_job.proofs.Shapes.{tests_tell}
-use Rattle.mpw_keys.specs.Columns.{seen_box}
-use Rattle.mpw_contents.specs.Contents.{AreWhole, AreSound}
-use Rattle.mpw_contents.specs.Displaced.{moved}
+use Rattle.mpw_columns_keys.specs.Columns.{seen_box}
+use Rattle.mpw_columns_contents.specs.Contents.{AreWhole, AreSound}
+use Rattle.mpw_columns_contents.specs.Displaced.{moved}
 use Rattle.mpw_columns.specs.Displaced.{displaced, across_edges}
 use Rattle.mpw_columns.specs.Laws.{MovedItemsShowDisplaced}
 use Rattle.mpw_columns.proofs.Windowed.{is_met_at}

@@ -25,8 +25,8 @@ use Rattle.mpw_markers.specs.Order.{line_cmp}
 use Rattle.mpw_markers.specs.Whole.{IsMaximal}
 use Rattle.mpw_job.specs.Computed.{shown_on}
 use Rattle.mpw_job.proofs.Tests.{rule_of}
-use Rattle.mpw_keys.specs.Keys.{list_number, key_cmp}
-use Rattle.mpw_keys.proofs.SameKey.{same_line}
+use Rattle.mpw_columns_keys.specs.Keys.{list_number, key_cmp}
+use Rattle.mpw_columns_keys.proofs.SameKey.{same_line}
 use Rattle.mpw_columns.specs.FollowingOn.{ComesFirst}
 use Rattle.mpw_columns.specs.Runs.{IsRunOf}
 use Rattle.mpw_columns.proofs.SeenSteps.{step_on_seen}

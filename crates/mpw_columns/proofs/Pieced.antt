@@ -18,8 +18,8 @@ use Rattle.mpw_markers.specs.declared.marker.Line.{Line}
 use Rattle.mpw_markers.specs.Markers.{line_of_key}
 use Rattle.mpw_job.specs.Layers.{Coverage, first_squares, second_squares}
 use Rattle.mpw_job.proofs.Tests.{get_contains}
-use Rattle.mpw_keys.specs.Columns.{across}
-use Rattle.mpw_pieces.specs.Pieces.{IsRowOf, IsRunOfPieces}
+use Rattle.mpw_columns_keys.specs.Columns.{across}
+use Rattle.mpw_columns_keys.specs.Pieces.{IsRowOf, IsRunOfPieces}
 use Rattle.mpw_columns.specs.Found.{HasStepAt, IsFound, HasLayers}
 use Rattle.mpw_columns.specs.Internal.Found.{IsLook, AgreeIn, left_of, right_of}
 use Rattle.mpw_columns.specs.Internal.Pieces.{IsStepIn, ArePieces, AddsPieces, below_of, above_of}

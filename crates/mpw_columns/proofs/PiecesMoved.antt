@@ -17,7 +17,7 @@ use Rattle.mpw_markers.specs.declared.marker.Key.{Key}
 use Rattle.mpw_markers.specs.declared.marker.Line.{Line}
 use Rattle.mpw_markers.specs.Markers.{line_of_key}
 use Rattle.mpw_job.specs.Layers.{Coverage, first_squares, second_squares}
-use Rattle.mpw_pieces.specs.Pieces.{IsRowOf}
+use Rattle.mpw_columns_keys.specs.Pieces.{IsRowOf}
 use Rattle.mpw_columns.specs.Displaced.{displaced}
 use Rattle.mpw_columns.specs.Internal.Found.{IsLook}
 use Rattle.mpw_columns.specs.Internal.Pieces.{IsStepIn, ArePieces, moved_box, moved_key}

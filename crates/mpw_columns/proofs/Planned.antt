@@ -8,8 +8,8 @@ use Rattle.mpw_edges.specs.declared.run.Axis.{Axis}
 use Rattle.mpw_edges.specs.declared.run.Axis.TheVariants.{V, H}
 use Rattle.mpw_tiles.specs.Snapshots.{Snapshot, shown_extent}
 use Rattle.mpw_markers.specs.declared.marker.Key.{Key}
-use Rattle.mpw_keys.specs.declared.column.Column.{Column}
-use Rattle.mpw_keys.specs.Columns.{seen_box, AreColumnsOf}
+use Rattle.mpw_columns_keys.specs.declared.column.Column.{Column}
+use Rattle.mpw_columns_keys.specs.Columns.{seen_box, AreColumnsOf}
 use Rattle.mpw_columns.specs.Plan.{Cover, IsColumnWithin}
 use Rattle.mpw_columns.specs.Lists.{IsColumnList}
 use Rattle.mpw_columns.specs.Laws.{ColumnsLieWithin}

@@ -21,8 +21,8 @@ use Rattle.mpw_markers.specs.Whole.{IsMaximal}
 use Rattle.mpw_job.specs.Computed.{has_step_on, has_step_of, steps_of}
 use Rattle.mpw_job.specs.Layers.{Coverage, first_squares, second_squares}
 use Rattle.mpw_job.proofs.Tests.{is_false, rule_of}
-use Rattle.mpw_keys.specs.declared.column.Column.{Column}
-use Rattle.mpw_keys.specs.Columns.{seen_box, upright}
+use Rattle.mpw_columns_keys.specs.declared.column.Column.{Column}
+use Rattle.mpw_columns_keys.specs.Columns.{seen_box, upright}
 use Rattle.mpw_columns.specs.Seen.{seen, seen_on}
 use Rattle.mpw_columns.specs.Within.{is_in_column}
 use Rattle.mpw_columns.specs.Found.{HasStepAt, IsFound}

@@ -20,7 +20,7 @@ use Rattle.mpw_tiles.specs.Placed.{IsShapeOf, IsRectangleOf}
 use Rattle.mpw_tiles.specs.Shown.{ShowsSquare}
 use Rattle.mpw_tiles.proofs.Added.{none_more, next_more, same_more}
 use Rattle.mpw_tiles.proofs.Showing.{no_boxes, boxes_at, boxes_show, shown_more}
-use Rattle.mpw_keys.specs.Columns.{seen_box}
+use Rattle.mpw_columns_keys.specs.Columns.{seen_box}
 use Rattle.mpw_columns.specs.Seen.{seen_square}
 use Rattle.mpw_columns.specs.Internal.Listed.{seen_rectangle, AddsSeen, AddsShown, ShowSeen}
 

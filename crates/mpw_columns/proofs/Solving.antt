@@ -8,12 +8,12 @@ use Rattle.mpw_geom.specs.declared.plane.Point.{Point}
 use Rattle.mpw_geom.proofs.Boxes.{same_box}
 use Rattle.mpw_deck.specs.declared.rule.Rule.{Rule}
 use Rattle.mpw_edges.specs.declared.run.Axis.{Axis}
-use Rattle.mpw_contents.specs.declared.thing.Thing.{Thing}
-use Rattle.mpw_contents.specs.Displaced.{moved}
-use Rattle.mpw_contents.specs.Things.{things_items}
+use Rattle.mpw_columns_contents.specs.declared.thing.Thing.{Thing}
+use Rattle.mpw_columns_contents.specs.Displaced.{moved}
+use Rattle.mpw_columns_contents.specs.Things.{things_items}
 use Rattle.mpw_markers.specs.declared.marker.Key.{Key}
 use Rattle.mpw_job.specs.Layers.{Coverage}
-use Rattle.mpw_keys.specs.Columns.{across}
+use Rattle.mpw_columns_keys.specs.Columns.{across}
 use Rattle.mpw_columns.specs.declared.layout.Layout.{Layout}
 use Rattle.mpw_columns.specs.declared.kept.Solved.{Solved}
 use Rattle.mpw_columns.specs.Internal.Checked.{IsLayout}

@@ -20,11 +20,11 @@ use Rattle.mpw_tiles.specs.Shown.{HasShown}
 use Rattle.mpw_job.proofs.Edges.{some_met, TellsSeen}
 use Rattle.mpw_job.proofs.Shapes.{tests_tell}
 use Rattle.mpw_job.proofs.Tests.{rule_of, step_on}
-use Rattle.mpw_keys.specs.declared.column.Column.{Column}
-use Rattle.mpw_keys.specs.Columns.{seen_box, upright}
-use Rattle.mpw_keys.specs.Keys.{key_cmp, of_first}
+use Rattle.mpw_columns_keys.specs.declared.column.Column.{Column}
+use Rattle.mpw_columns_keys.specs.Columns.{seen_box, upright}
+use Rattle.mpw_columns_keys.specs.Keys.{key_cmp, of_first}
 use Rattle.mpw_markers.proofs.Marked.{same_key}
-use Rattle.mpw_keys.proofs.SameKey.{same_line}
+use Rattle.mpw_columns_keys.proofs.SameKey.{same_line}
 use Rattle.mpw_columns.specs.Seen.{seen_on}
 use Rattle.mpw_columns.specs.Laws.{ColumnsHaveWholeRuns}
 use Rattle.mpw_columns.specs.Runs.{IsRunOf, IsRunWithin}

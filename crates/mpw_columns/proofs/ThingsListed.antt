@@ -14,11 +14,11 @@ use Rattle.mpw_edges.specs.declared.run.Axis.TheVariants.{V, H}
 use Rattle.mpw_structures.specs.declared.element.Element.{Element}
 use Rattle.mpw_hier.specs.declared.submission.Submission.{Submission}
 use Rattle.mpw_hier.specs.Items.{Item}
-use Rattle.mpw_contents.specs.declared.thing.Thing.{Thing}
-use Rattle.mpw_contents.specs.Contents.{AreWhole, AreSound, IsBoxed, IsOn}
-use Rattle.mpw_contents.specs.declared.thing.Shape.{Shape}
-use Rattle.mpw_contents.specs.declared.thing.Thing.TheVariants as variants
-use Rattle.mpw_contents.specs.Things.{drawn, element_in, thing_items, things_items}
+use Rattle.mpw_columns_contents.specs.declared.thing.Thing.{Thing}
+use Rattle.mpw_columns_contents.specs.Contents.{AreWhole, AreSound, IsBoxed, IsOn}
+use Rattle.mpw_columns_contents.specs.declared.thing.Shape.{Shape}
+use Rattle.mpw_columns_contents.specs.declared.thing.Thing.TheVariants as variants
+use Rattle.mpw_columns_contents.specs.Things.{drawn, element_in, thing_items, things_items}
 use Rattle.mpw_tiles.specs.declared.listing.Rectangle.{Rectangle}
 use Rattle.mpw_tiles.specs.Snapshots.{shown}
 use Rattle.mpw_tiles.specs.Laws.{SquaresLieInBoxes}
@@ -28,7 +28,7 @@ use Rattle.mpw_job.specs.Answers.{listed_on}
 use Rattle.mpw_job.specs.Computed.{shown_on}
 use Rattle.mpw_job.specs.Layers.{Coverage}
 use Rattle.mpw_job.proofs.Shapes.{tests_tell, tests_tell_listed}
-use Rattle.mpw_keys.specs.Columns.{seen_box, across}
+use Rattle.mpw_columns_keys.specs.Columns.{seen_box, across}
 use Rattle.mpw_columns.specs.Seen.{seen_on, seen_square}
 use Rattle.mpw_columns.specs.declared.layout.Layout.{Layout}
 use Rattle.mpw_columns.specs.Internal.Found.{AgreeIn, AgreeAll, IsUpright}

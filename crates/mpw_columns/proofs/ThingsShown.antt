@@ -16,12 +16,12 @@ use Rattle.mpw_tiles.specs.Shown.{layer_of}
 use Rattle.mpw_tiles.specs.Laws.{SquaresLieInBoxes}
 use Rattle.mpw_job.specs.Computed.{shown_on}
 use Rattle.mpw_job.proofs.Shapes.{tests_tell}
-use Rattle.mpw_keys.specs.declared.column.Column.{Column}
-use Rattle.mpw_keys.specs.Columns.{seen_box, across, upright}
-use Rattle.mpw_contents.specs.declared.thing.Thing.{Thing}
-use Rattle.mpw_contents.specs.Contents.{AreWhole, AreSound, IsBoxed, IsOn}
-use Rattle.mpw_contents.specs.Displaced.{moved}
-use Rattle.mpw_contents.specs.Things.{things_items}
+use Rattle.mpw_columns_keys.specs.declared.column.Column.{Column}
+use Rattle.mpw_columns_keys.specs.Columns.{seen_box, across, upright}
+use Rattle.mpw_columns_contents.specs.declared.thing.Thing.{Thing}
+use Rattle.mpw_columns_contents.specs.Contents.{AreWhole, AreSound, IsBoxed, IsOn}
+use Rattle.mpw_columns_contents.specs.Displaced.{moved}
+use Rattle.mpw_columns_contents.specs.Things.{things_items}
 use Rattle.mpw_columns.specs.Seen.{seen_on}
 use Rattle.mpw_columns.specs.declared.batch.Listed.{Listed}
 use Rattle.mpw_columns.specs.declared.layout.Layout.{Layout}

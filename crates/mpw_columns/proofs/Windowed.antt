@@ -21,7 +21,7 @@ use Rattle.mpw_tiles.specs.Shown.{IsShown}
 use Rattle.mpw_job.specs.Answers.{listed_on}
 use Rattle.mpw_job.specs.Computed.{shown_on}
 use Rattle.mpw_job.proofs.Shapes.{tests_tell, tests_tell_listed}
-use Rattle.mpw_keys.specs.Columns.{seen_box}
+use Rattle.mpw_columns_keys.specs.Columns.{seen_box}
 use Rattle.mpw_columns.specs.Seen.{seen_square, seen_on}
 use Rattle.mpw_columns.specs.Internal.Found.{AgreeIn}
 use Rattle.mpw_columns.specs.Internal.Listed.{ShowSeen}

@@ -10,8 +10,8 @@ use Rattle.mpw_edges.specs.Edges.{Squares}
 use Rattle.mpw_edges.specs.Laws.{AreSameIn}
 use Rattle.mpw_edges.specs.Pieces.{HasStep}
 use Rattle.mpw_hier.specs.Items.{Item}
-use Rattle.mpw_contents.specs.Contents.{AreWhole, AreSound}
-use Rattle.mpw_contents.specs.Displaced.{moved}
+use Rattle.mpw_columns_contents.specs.Contents.{AreWhole, AreSound}
+use Rattle.mpw_columns_contents.specs.Displaced.{moved}
 use Rattle.mpw_tiles.specs.Snapshots.{Snapshot, shown, shown_extent}
 use Rattle.mpw_markers.specs.declared.marker.Key.{Key}
 use Rattle.mpw_markers.specs.declared.marker.Marker.{Marker}
@@ -20,9 +20,9 @@ use Rattle.mpw_markers.specs.Whole.{IsMaximal}
 use Rattle.mpw_job.specs.Computed.{steps_of, shown_on}
 use Rattle.mpw_job.specs.Layers.{Coverage}
 use Rattle.mpw_job.specs.Layout.{AreLayoutMarkers}
-use Rattle.mpw_keys.specs.declared.column.Column.{Column}
-use Rattle.mpw_keys.specs.Columns.{across, widened_along, AreColumnsOf, seen_box}
-use Rattle.mpw_keys.specs.Keys.{displaced_key, together, of_first}
+use Rattle.mpw_columns_keys.specs.declared.column.Column.{Column}
+use Rattle.mpw_columns_keys.specs.Columns.{across, widened_along, AreColumnsOf, seen_box}
+use Rattle.mpw_columns_keys.specs.Keys.{displaced_key, together, of_first}
 use Rattle.mpw_columns.specs.Displaced.{displaced, across_edges, IsDisplaced, AreDisplacedIn, AreDisplacedOn, ShowsDisplaced}
 use Rattle.mpw_columns.specs.Found.{IsFound, HasLayers}
 use Rattle.mpw_columns.specs.Plan.{CoverLayout, AreColumnsOfLayout, IsColumnWithin}

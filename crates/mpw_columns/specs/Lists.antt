@@ -7,8 +7,8 @@ use Rattle.mpw_markers.specs.declared.marker.Key.{Key}
 use Rattle.mpw_markers.specs.declared.marker.Marker.{Marker}
 use Rattle.mpw_edges.specs.Pieces.{box_of}
 use Rattle.mpw_markers.specs.Met.{IsAscending}
-use Rattle.mpw_keys.specs.declared.column.Column.{Column}
-use Rattle.mpw_keys.specs.Keys.{AreInOrder}
+use Rattle.mpw_columns_keys.specs.declared.column.Column.{Column}
+use Rattle.mpw_columns_keys.specs.Keys.{AreInOrder}
 use Rattle.mpw_columns.specs.Runs.{IsRunWithin}
 
 -- The keys are those of the whole layout's runs on the column's axis whose x1 lies in the column, in order.

@@ -2,8 +2,8 @@
 use Rattle.std.specs.Prelude.{◌≡◌, pos, ◌+ℤ◌, ◌≤ℤ◌, ◌<ℤ◌, List, [], ◌++◌, Option, Some, None}
 use Rattle.mpw_geom.specs.declared.plane.Box2.{Box2}
 use Rattle.mpw_edges.specs.declared.run.Axis.TheVariants.{V, H}
-use Rattle.mpw_keys.specs.declared.column.Column.{Column}
-use Rattle.mpw_keys.specs.Columns.{seen_box, AreColumnsOf}
+use Rattle.mpw_columns_keys.specs.declared.column.Column.{Column}
+use Rattle.mpw_columns_keys.specs.Columns.{seen_box, AreColumnsOf}
 use Rattle.mpw_tiles.specs.Snapshots.{Snapshot, shown_extent}
 
 -- Columns of axis V and columns of axis H that cover an extent; none if there is no extent.

@@ -4,7 +4,7 @@ use Rattle.mpw_tiles.specs.Snapshots.{Snapshot, shown}
 use Rattle.mpw_markers.specs.declared.marker.Key.{Key}
 use Rattle.mpw_markers.specs.Whole.{IsMaximal}
 use Rattle.mpw_job.specs.Computed.{steps_of, shown_on}
-use Rattle.mpw_keys.specs.declared.column.Column.{Column}
+use Rattle.mpw_columns_keys.specs.declared.column.Column.{Column}
 
 -- The run of the key is one of the whole layout.
 abbrev pub IsRunOf : Snapshot → Key → Type 0

@@ -4,7 +4,7 @@
 
 ghost use Rattle.std.specs.Prelude.{◌≡◌, ◌+◌, ◌≤◌, ◌<◌, ◌↔◌, length, Contains, IfOk, IfSome};
 ghost use Rattle.mpw_markers.specs.declared.marker.Key.{Key as KeyValue};
-ghost use Rattle.mpw_keys.specs.Columns.{seen_box, upright};
+ghost use Rattle.mpw_columns_keys.specs.Columns.{seen_box, upright};
 ghost use Rattle.mpw_columns.specs.Found.{IsFound};
 ghost use Rattle.mpw_columns.specs.Internal.Blocks.{IsUprightIn, AreUprightIn};
 ghost use Rattle.mpw_columns.specs.Internal.Checked.{IsLayout, IsShared, IsTop, IsBatch, HasThings};
@@ -18,11 +18,11 @@ use crate::layout::Layout;
 use crate::shared::{Shared, rectangles_of, shared_of};
 use crate::solve::runs_in;
 use crate::things::{Task, all_things, is_inside, things_in, whole_core};
-use mpw_contents::Contents;
-use mpw_cuts::is_placed;
+use mpw_columns_contents::Contents;
+use mpw_columns_cuts::is_placed;
+use mpw_columns_keys::Column;
 use mpw_edges::Axis;
 use mpw_geom::Box2;
-use mpw_keys::Column;
 use mpw_markers::Key;
 use std::alloc::{AllocError, Global};
 

@@ -9,10 +9,10 @@ ghost use Rattle.mpw_columns.specs.Internal.Like.{AreContentsOf, AreAlike};
 
 use crate::equal::{distance, is_displaced, is_like, is_same, is_same_axis};
 use crate::layout::Layout;
-use mpw_contents::Contents;
-use mpw_cuts::{Lattice, line_between};
+use mpw_columns_contents::Contents;
+use mpw_columns_cuts::{Lattice, line_between};
+use mpw_columns_keys::Column;
 use mpw_edges::Axis;
-use mpw_keys::Column;
 
 /// Adjacent columns: the index of the first, their number, and the column that contains them all.
 #[derive(Clone, Copy)]

@@ -3,11 +3,11 @@
 ghost use Rattle.std.specs.Prelude.{◌≡◌, ◌+◌, ◌≤◌, ◌<◌, length, take, drop, All, IfOk};
 ghost use Rattle.std.specs.List.{AllZip};
 ghost use Rattle.mpw_job.specs.Layout.{AreLayoutMarkers};
-ghost use Rattle.mpw_keys.specs.Columns.{seen_box, upright};
+ghost use Rattle.mpw_columns_keys.specs.Columns.{seen_box, upright};
 ghost use Rattle.mpw_columns.specs.Plan.{IsColumnWithin};
 ghost use Rattle.mpw_columns.specs.Lists.{IsColumnList};
 ghost use Rattle.mpw_columns.specs.Internal.Found.{IsUpright};
-ghost use Rattle.mpw_keys.specs.Firsts.{capped};
+ghost use Rattle.mpw_columns_keys.specs.Firsts.{capped};
 ghost use Rattle.mpw_columns.specs.Internal.Counted.{keys_at, keys_shared, share_at};
 ghost use Rattle.mpw_columns.specs.Internal.Checked.{AreBatches, AreNext, IsLayout, HaveLists, IsTop, IsBatch};
 
@@ -18,9 +18,9 @@ use crate::layout::{Layout, Ready};
 use crate::like::{lists_with, own_columns, shares_of};
 use crate::plan::counted_columns;
 use crate::progress::Progress;
+use mpw_columns_keys::{Column, ColumnKeys, together};
 use mpw_deck::Rule;
 use mpw_edges::test_decides_pair_steps;
-use mpw_keys::{Column, ColumnKeys, together};
 use mpw_markers::{Book, Marker};
 use mpw_tiles::Snapshot;
 use rayon::current_num_threads;

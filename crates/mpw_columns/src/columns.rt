@@ -7,15 +7,17 @@ ghost use Rattle.std.specs.Prelude.{◌≡◌, ◌+◌, ◌≤◌, ◌^◌, leng
 ghost use Rattle.mpw_walk.specs.Turns.{given};
 ghost use Rattle.mpw_walk.specs.Window.{items_met};
 ghost use Rattle.mpw_tiles.specs.Snapshots.{shown};
-ghost use Rattle.mpw_keys.specs.Columns.{seen_box, upright, across, AreColumns};
+ghost use Rattle.mpw_columns_keys.specs.Columns.{seen_box, upright, across, AreColumns};
 ghost use Rattle.mpw_columns.specs.Internal.Found.{IsUpright, IsStretch, IsWide, AreHalvesOf, AreFew};
 
 use crate::list::seen_box;
 use crate::part::window_of;
-use mpw_cuts::{Counts, Lattice, is_within_cell, line_between, shown_by_cells, width_of_cells};
+use mpw_columns_cuts::{
+    Counts, Lattice, is_within_cell, line_between, shown_by_cells, width_of_cells,
+};
+use mpw_columns_keys::Column;
 use mpw_edges::Axis;
 use mpw_geom::{Box2, Point};
-use mpw_keys::Column;
 use mpw_tiles::Snapshot;
 use mpw_walk::Walk;
 use std::alloc::{AllocError, Global};

@@ -1,7 +1,7 @@
 //! Makes the list of a column from the list of an earlier column that it repeats.
 
 ghost use Rattle.std.specs.Prelude.{◌-ℤ◌, IfOk};
-ghost use Rattle.mpw_keys.specs.Columns.{seen_box, upright};
+ghost use Rattle.mpw_columns_keys.specs.Columns.{seen_box, upright};
 ghost use Rattle.mpw_columns.specs.Displaced.{IsDisplaced, ShowsDisplaced};
 ghost use Rattle.mpw_columns.specs.Lists.{IsColumnList};
 ghost use Rattle.mpw_columns.specs.Internal.Checked.{IsLayout};
@@ -9,8 +9,8 @@ ghost use Rattle.mpw_columns.specs.Internal.Found.{IsUpright};
 
 use crate::laws::displaced_columns_have_displaced_lists;
 use crate::layout::Layout;
+use mpw_columns_keys::{Column, ColumnKeys};
 use mpw_edges::test_decides_pair_steps;
-use mpw_keys::{Column, ColumnKeys};
 use std::alloc::{AllocError, Global};
 
 /// The keys of a column, from those of an earlier column that it repeats: the column and the content of its window are those of the earlier one,

@@ -12,10 +12,10 @@ ghost use Rattle.mpw_columns.specs.Internal.Like.{places_from, AreLikes, AreCont
 use crate::block::{Block, Columns};
 use crate::equal::{contents_of, is_first_alone};
 use crate::layout::Layout;
-use mpw_contents::{Contents, code};
-use mpw_cuts::lattices_of;
+use mpw_columns_contents::{Contents, code};
+use mpw_columns_cuts::lattices_of;
+use mpw_columns_keys::Column;
 use mpw_edges::Axis;
-use mpw_keys::Column;
 use std::alloc::{AllocError, Global};
 use std::collections::BTreeMap;
 

@@ -5,7 +5,7 @@
 
 ghost use Rattle.std.specs.Prelude.{◌≡◌, ◌∷◌, [], ◌-ℤ◌, ◌↔◌, IsTrue, IfOk, IfSome};
 ghost use Rattle.mpw_walk.specs.Roots.{root_at_origin};
-ghost use Rattle.mpw_keys.specs.Columns.{seen_box, upright};
+ghost use Rattle.mpw_columns_keys.specs.Columns.{seen_box, upright};
 ghost use Rattle.mpw_columns.specs.Displaced.{across_edges, IsDisplaced};
 ghost use Rattle.mpw_columns.specs.Internal.Checked.{IsLayout};
 ghost use Rattle.mpw_columns.specs.Internal.Found.{IsUpright};
@@ -16,10 +16,10 @@ use crate::laws::moved_items_show_displaced;
 use crate::layout::Layout;
 use crate::list::seen_box;
 use crate::part::window_of;
-use mpw_contents::{Contents, Wanted, contents_in, displacement};
+use mpw_columns_contents::{Contents, Wanted, contents_in, displacement};
+use mpw_columns_keys::Column;
 use mpw_edges::Axis;
 use mpw_geom::{Orient, Point};
-use mpw_keys::Column;
 use mpw_tiles::Snapshot;
 use mpw_walk::{Root, roots_at_origin_show_their_submission};
 use std::alloc::{AllocError, Global};

@@ -5,8 +5,8 @@
 
 ghost use Rattle.std.specs.Prelude.{◌≡◌, ◌*◌, ◌+ℤ◌, ◌-ℤ◌, length, All, IfOk, OnOk};
 ghost use Rattle.std.specs.List.{AllZip};
-ghost use Rattle.mpw_keys.specs.Columns.{seen_box, upright};
-ghost use Rattle.mpw_keys.specs.Keys.{IsNear};
+ghost use Rattle.mpw_columns_keys.specs.Columns.{seen_box, upright};
+ghost use Rattle.mpw_columns_keys.specs.Keys.{IsNear};
 ghost use Rattle.mpw_columns.specs.First.{IsFirstOfLayout};
 ghost use Rattle.mpw_columns.specs.Plan.{IsColumnWithin};
 ghost use Rattle.mpw_columns.specs.Internal.Checked.{AreBatches, IsLayout};
@@ -25,8 +25,10 @@ use crate::layout::{Layout, Ready};
 use crate::like::{own_columns, shares_of};
 use crate::plan::counted_columns;
 use crate::progress::Progress;
+use mpw_columns_keys::{
+    Column, ColumnKeys, First, Firsts, Placed, Shared, shared_lists_have_the_first,
+};
 use mpw_edges::test_decides_pair_steps;
-use mpw_keys::{Column, ColumnKeys, First, Firsts, Placed, Shared, shared_lists_have_the_first};
 use mpw_markers::Marker;
 use mpw_tiles::Snapshot;
 use std::alloc::{AllocError, Global};

@@ -5,7 +5,7 @@ ghost use Rattle.mpw_columns.specs.Internal.Checked.{IsLayout};
 ghost use Rattle.mpw_columns.specs.Internal.Pieces.{AreLayoutPieces, AreThingsIn, IsMovedCore, IsSolved, IsSum, moved_key, seen_way};
 
 use crate::things::Task;
-use mpw_contents::{Contents, Thing, code, displacement};
+use mpw_columns_contents::{Contents, Thing, code, displacement};
 use mpw_edges::{Axis, Piece};
 use mpw_geom::{Box2, Point};
 use mpw_markers::Key;

@@ -5,7 +5,7 @@ ghost use Rattle.mpw_tiles.specs.Snapshots.{shown_extent};
 ghost use Rattle.mpw_columns.specs.Internal.Checked.{IsLayout, IsReady};
 
 use crate::look::layers_of;
-use mpw_contents::Boxes;
+use mpw_columns_contents::Boxes;
 use mpw_geom::{Box2, Layer};
 use mpw_tiles::{Snapshot, greatest_distance};
 use std::alloc::{AllocError, Global};

@@ -6,7 +6,7 @@
 //!
 //! - [`columns_of`] cuts the layout of a snapshot into columns.
 //! - [`lists_of_columns`] finds the keys of each column, or of a share of the columns ([`columns_lie_within`]).
-//! - [`mpw_keys::together`] joins the lists of all columns into the flat layout's book ([`lists_make_the_layout`]). A column's list continues the list of the
+//! - [`mpw_columns_keys::together`] joins the lists of all columns into the flat layout's book ([`lists_make_the_layout`]). A column's list continues the list of the
 //!   column before ([`columns_follow_on`]), so nothing is sorted as a whole.
 //! - [`check_columns`] does all three.
 //! - [`first_of_columns`] returns the first markers of each rule and their numbers alone, and holds no more of a column (`first`).

@@ -2,7 +2,7 @@
 
 ghost use Rattle.std.specs.Prelude.{◌≡◌, length, All, IfOk};
 ghost use Rattle.std.specs.List.{AllZip};
-ghost use Rattle.mpw_keys.specs.Columns.{seen_box, upright};
+ghost use Rattle.mpw_columns_keys.specs.Columns.{seen_box, upright};
 ghost use Rattle.mpw_columns.specs.Lists.{IsColumnList};
 ghost use Rattle.mpw_columns.specs.Internal.Checked.{IsLayout};
 ghost use Rattle.mpw_columns.specs.Internal.Found.{IsUpright};
@@ -10,7 +10,7 @@ ghost use Rattle.mpw_columns.specs.Internal.Like.{AreLikes, own_columns};
 
 use crate::displaced::list_from;
 use crate::layout::Layout;
-use mpw_keys::{Column, ColumnKeys};
+use mpw_columns_keys::{Column, ColumnKeys};
 use std::alloc::{AllocError, Global};
 
 /// The columns that repeat no earlier one, in their order. One pass. The only error is out of memory.

@@ -7,7 +7,7 @@ ghost use Rattle.mpw_walk.specs.Turns.{given};
 ghost use Rattle.mpw_walk.specs.Way.{item_of};
 ghost use Rattle.mpw_tiles.specs.Internal.Listing.{HasPlacedSquare};
 ghost use Rattle.mpw_tiles.specs.Shown.{ShowsSquare};
-ghost use Rattle.mpw_keys.specs.Columns.{seen_box};
+ghost use Rattle.mpw_columns_keys.specs.Columns.{seen_box};
 ghost use Rattle.mpw_columns.specs.Internal.Listed.{seen_rectangle, AddsSeen, AddsShown, ShowSeen};
 
 use crate::look::has_layer;

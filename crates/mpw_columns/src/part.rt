@@ -2,7 +2,7 @@
 
 ghost use Rattle.std.specs.Prelude.{◌≡◌, ◌+◌, IfOk};
 ghost use Rattle.mpw_job.specs.Answers.{listed_on};
-ghost use Rattle.mpw_keys.specs.Columns.{across};
+ghost use Rattle.mpw_columns_keys.specs.Columns.{across};
 ghost use Rattle.mpw_columns.specs.Internal.Found.{AgreeAll, IsUpright};
 
 use mpw_geom::Box2;

@@ -4,16 +4,16 @@ ghost use Rattle.std.specs.Prelude.{◌≡◌, ◌+◌, ◌≤◌, ◌^◌, true
 ghost use Rattle.mpw_geom.specs.Plane.{IsOrdered};
 ghost use Rattle.mpw_hier.specs.Boxes.{is_box_near};
 ghost use Rattle.mpw_tiles.specs.Snapshots.{shown_extent};
-ghost use Rattle.mpw_keys.specs.Columns.{AreColumnsOf};
+ghost use Rattle.mpw_columns_keys.specs.Columns.{AreColumnsOf};
 ghost use Rattle.mpw_columns.specs.Plan.{AreColumnsOfLayout};
 ghost use Rattle.mpw_columns.specs.Internal.Checked.{IsCounted};
 
 use crate::columns::{View, columns_in};
 use crate::list::seen_box;
-use mpw_cuts::{Counts, is_placed, lattices_of};
+use mpw_columns_cuts::{Counts, is_placed, lattices_of};
+use mpw_columns_keys::Column;
 use mpw_edges::Axis;
 use mpw_geom::Box2;
-use mpw_keys::Column;
 use mpw_tiles::{Snapshot, greatest_distance};
 use std::alloc::{AllocError, Global};
 

@@ -1,7 +1,7 @@
 //! What adjacent columns share: one list of the rectangles in the window that contains all of theirs.
 
 ghost use Rattle.std.specs.Prelude.{◌≡◌, IfOk, IfSome, IsTrue};
-ghost use Rattle.mpw_keys.specs.Columns.{seen_box, upright};
+ghost use Rattle.mpw_columns_keys.specs.Columns.{seen_box, upright};
 ghost use Rattle.mpw_columns.specs.Internal.Blocks.{IsUprightIn, AreUprightIn};
 ghost use Rattle.mpw_columns.specs.Internal.Checked.{IsLayout, AgreeInColumn, IsShared};
 
@@ -9,7 +9,7 @@ use crate::block::{is_part, whole_of};
 use crate::cores::{core_of, rectangles_in};
 use crate::layout::Layout;
 use crate::part::{parts_in, window_of};
-use mpw_keys::Column;
+use mpw_columns_keys::Column;
 use mpw_tiles::Rectangle;
 use std::alloc::{AllocError, Global};
 

@@ -11,12 +11,12 @@ ghost use Rattle.mpw_columns.specs.Internal.Pieces.{AddsLayoutPieces, AreLayoutP
 use crate::cores::{keys_in, rectangles_in};
 use crate::kept::Kept;
 use crate::things::{Task, rectangles_of_things, things_in};
-use mpw_contents::Contents;
-use mpw_cuts::{Core, Cuts, cuts_of, shown_by};
+use mpw_columns_contents::Contents;
+use mpw_columns_cuts::{Core, Cuts, cuts_of, shown_by};
+use mpw_columns_keys::joined;
 use mpw_edges::test_decides_pair_steps;
 use mpw_geom::Box2;
 use mpw_markers::Key;
-use mpw_pieces::joined;
 use mpw_tiles::Rectangle;
 use std::alloc::{AllocError, Global};
 

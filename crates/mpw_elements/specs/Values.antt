@@ -14,7 +14,7 @@ use Rattle.mpw_structures.specs.Element.{same_point, is_manhattan_step, each_ste
 use Rattle.mpw_records.specs.declared.fault.Code.TheVariants.{BadName, BadSize, Magnification, Angle, NotManhattan, RoundPath, OddWidth, PointPath, Columns, Pitch, Absolute}
 use Rattle.mpw_records.specs.declared.fault.ReadFault.{ReadFault}
 use Rattle.mpw_records.specs.Records.{RawRecord}
-use Rattle.mpw_records.specs.Real.{real_value, is_whole}
+use Rattle.mpw_real8.specs.Real.{real_value, is_whole}
 use Rattle.mpw_elements.specs.declared.values.Grid.{Grid}
 use Rattle.mpw_elements.specs.Reading.{fault_at}
 

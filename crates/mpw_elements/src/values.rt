@@ -14,7 +14,8 @@ use crate::reading::fault_of;
 use crate::shape::point;
 use byteorder::{BigEndian, ByteOrder};
 use mpw_geom::{Name, NameFault, Orient, Point};
-use mpw_records::{Code, ReadFault, Real8, Record};
+use mpw_real8::Real8;
+use mpw_records::{Code, ReadFault, Record};
 use mpw_structures::scale;
 use std::alloc::Global;
 

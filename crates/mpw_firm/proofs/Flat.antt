@@ -2,17 +2,17 @@
 use Rattle.std.proofs.Common.{◌≡◌, ◌∙◌, ℕ, false, List, [], Option, None, Some, ap, subst, refl}
 use Rattle.mpw_check.specs.Drawn.{drawn_shelf, IsDrawnFrom}
 use Rattle.mpw_check.specs.Tiled.{MarkersAreTheLibrarys}
-use Rattle.mpw_choices.specs.Sides.{with_side}
+use Rattle.mpw_firm_choices.specs.Sides.{with_side}
 use Rattle.mpw_deck.specs.Decks.{Deck}
 use Rattle.mpw_deck.specs.declared.rule.Rule.{Rule}
 use Rattle.mpw_hier.specs.Values.{flat}
 use Rattle.mpw_job.specs.Layout.{AreFlatMarkers, AreLayoutMarkers}
 use Rattle.mpw_firm.specs.Drawings.{AreFlatByEachSide, AreFlatOf, IsDeckOf, IsDrawnBy, IsDrawnOf, IsReadBy, IsReadFrom, IsTopOf}
 use Rattle.mpw_firm.specs.Grids.{deck_for, rules_for}
-use Rattle.mpw_sources.specs.Sources.{Source, IsSourceOf, kept_text}
+use Rattle.mpw_firm_sources.specs.Sources.{Source, IsSourceOf, kept_text}
 use Rattle.mpw_firm.specs.declared.checked.Drawn.{Drawn}
-use Rattle.mpw_grid.specs.Texts.{grid_parts}
-use Rattle.mpw_asked.specs.declared.choices.Choices.{Choices}
+use Rattle.mpw_firm_grid.specs.Texts.{grid_parts}
+use Rattle.mpw_firm_options.specs.declared.choices.Choices.{Choices}
 use Rattle.mpw_markers.specs.declared.marker.Marker.{Marker}
 use Rattle.mpw_tiles.specs.Snapshots.{Snapshot}
 

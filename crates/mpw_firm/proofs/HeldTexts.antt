@@ -1,6 +1,6 @@
 -- What is printed about the markers that are held is what is printed about all, if those are enough.
 use Rattle.std.proofs.Common.{◌≡◌, ◌∙◌, ℕ, Bool, true, false, List, [], ◌∷◌, Option, None, Some, length, refl, ap, subst}
-use Rattle.mpw_asked.specs.declared.picture_options.Wanted.{Wanted}
+use Rattle.mpw_firm_options.specs.declared.picture_options.Wanted.{Wanted}
 use Rattle.mpw_firm.specs.Came.{listing_texts, report_texts}
 use Rattle.mpw_firm.specs.Held.{AreHeld, IsFoundOf, IsOfBook, enough_listed, enough_with}
 use Rattle.mpw_firm.specs.Shown.{content_of, content_with, held_listing, held_printed, held_report, limited_of, listing_by, listing_text, markers_of, printed_text, shown_of}
@@ -8,12 +8,12 @@ use Rattle.mpw_firm.specs.declared.checked.Checked.{Checked}
 use Rattle.mpw_firm.specs.declared.found.Findings.{Findings}
 use Rattle.mpw_firm.specs.declared.found.Held.{Held}
 use Rattle.mpw_firm.specs.declared.found.Held.TheVariants as held
-use Rattle.mpw_listing.specs.Limited.{FirstMarkersAreListed, limited_text}
-use Rattle.mpw_listing.specs.Listing.{listing_text as all_text}
+use Rattle.mpw_firm_listing.specs.Limited.{FirstMarkersAreListed, limited_text}
+use Rattle.mpw_firm_listing.specs.Listing.{listing_text as all_text}
 use Rattle.mpw_markers.specs.declared.marker.Marker.{Marker}
-use Rattle.mpw_outputs.specs.Counted.{counts_text, rule_counts}
-use Rattle.mpw_outputs.specs.Outputs.{in_file, on_output}
-use Rattle.mpw_report.specs.Report.{FirstMarkersHaveTheItems, full_text}
+use Rattle.mpw_firm_outputs.specs.Counted.{counts_text, rule_counts}
+use Rattle.mpw_firm_outputs.specs.Outputs.{in_file, on_output}
+use Rattle.mpw_firm_report.specs.Report.{FirstMarkersHaveTheItems, full_text}
 
 -- If all are wanted, all are held.
 all_held : (h : Held) (book : List Marker) → AreHeld None h book → markers_of h ≡ book

@@ -4,13 +4,13 @@ use Rattle.std.specs.Prelude.{IfOk}
 use Rattle.mpw_deck.specs.Decks.{Deck}
 use Rattle.mpw_deck.specs.Reading.{deck_of}
 use Rattle.mpw_job.specs.Laws.{LayoutDeterminesMarkers}
-use Rattle.mpw_listing.specs.Listing.{listing_text}
-use Rattle.mpw_parts.specs.Parts.{Checked, Found}
-use Rattle.mpw_parts.specs.Stitching.{IsBookOf}
-use Rattle.mpw_spread.specs.Spread.{PartsMakeTheLayout}
+use Rattle.mpw_firm_listing.specs.Listing.{listing_text}
+use Rattle.mpw_firm_parts.specs.Parts.{Checked, Found}
+use Rattle.mpw_firm_parts.specs.Stitching.{IsBookOf}
+use Rattle.mpw_firm_spread.specs.Spread.{PartsMakeTheLayout}
 use Rattle.mpw_tiles.specs.Snapshots.{Snapshot}
 use Rattle.mpw_firm.specs.Stitched.{IsWholeOf, IsListedAsCheck, WholesAreListedAsChecks}
-use Rattle.mpw_told.specs.declared.fault.FirmFault.{FirmFault}
+use Rattle.mpw_firm_messages.specs.declared.fault.FirmFault.{FirmFault}
 use Rattle.mpw_firm.specs.declared.whole.Whole.{Whole}
 
 read_once : {A E : Type 0} (r s : Result A E) (x y : A) → r ≡ s → r ≡ Ok x → s ≡ Ok y → x ≡ y

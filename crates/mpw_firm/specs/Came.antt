@@ -1,45 +1,45 @@
 -- What came of a command: the texts that are in their places, and how many markers were found.
 use Rattle.std.specs.Prelude.{◌≡◌, ℕ, ◌+◌, List, [], ◌∷◌, ◌++◌, false, length, map, slice_get, Option, None, Some, option_map, Result, IfOk}
 use Rattle.std.specs.String.{string_bytes}
-use Rattle.mpw_grid.specs.Texts.{grid_parts}
+use Rattle.mpw_firm_grid.specs.Texts.{grid_parts}
 use Rattle.mpw_job.specs.Layout.{AreLayoutMarkers}
 use Rattle.mpw_markers.specs.declared.marker.Marker.{Marker}
-use Rattle.mpw_parts.specs.Parts.{Found}
-use Rattle.mpw_parts.specs.Text.{part_text}
-use Rattle.mpw_picture.specs.Drawn.{IsDrawnWith}
-use Rattle.mpw_picture.specs.Text.{picture_text}
-use Rattle.mpw_picture.specs.declared.picture.Picture.{Picture}
-use Rattle.mpw_picture.specs.declared.picture.View.{View}
-use Rattle.mpw_report.specs.Content.{Noted}
-use Rattle.mpw_report.specs.Report.{full_text}
+use Rattle.mpw_firm_parts.specs.Parts.{Found}
+use Rattle.mpw_firm_parts.specs.Text.{part_text}
+use Rattle.mpw_firm_picture.specs.Drawn.{IsDrawnWith}
+use Rattle.mpw_firm_picture.specs.Text.{picture_text}
+use Rattle.mpw_firm_picture.specs.declared.picture.Picture.{Picture}
+use Rattle.mpw_firm_picture.specs.declared.picture.View.{View}
+use Rattle.mpw_firm_report.specs.Content.{Noted}
+use Rattle.mpw_firm_report.specs.Report.{full_text}
 use Rattle.mpw_tiles.specs.Snapshots.{Snapshot}
-use Rattle.mpw_spread.specs.Spread.{IsPartOf}
-use Rattle.mpw_spread.specs.declared.range.ColumnRange.{ColumnRange}
-use Rattle.mpw_asked.specs.Commands.{IsOfWord, telling_of}
+use Rattle.mpw_firm_spread.specs.Spread.{IsPartOf}
+use Rattle.mpw_firm_spread.specs.declared.range.ColumnRange.{ColumnRange}
+use Rattle.mpw_firm_options.specs.Commands.{IsOfWord, telling_of}
 use Rattle.mpw_firm.specs.Drawings.{AreFlatOf, IsReadBy, IsReadFrom, IsTopOf}
 use Rattle.mpw_firm.specs.Keys.{IsViewOf}
-use Rattle.mpw_sources.specs.Looks.{IsLookedAt}
-use Rattle.mpw_sources.specs.Notes.{notes_of, rule_notes}
-use Rattle.mpw_sources.specs.Seen.{told_seen}
-use Rattle.mpw_outputs.specs.Counted.{capped}
-use Rattle.mpw_outputs.specs.Outputs.{Kept, Grows, in_file, on_output}
+use Rattle.mpw_firm_sources.specs.Looks.{IsLookedAt}
+use Rattle.mpw_firm_sources.specs.Notes.{notes_of, rule_notes}
+use Rattle.mpw_firm_sources.specs.Seen.{told_seen}
+use Rattle.mpw_firm_outputs.specs.Counted.{capped}
+use Rattle.mpw_firm_outputs.specs.Outputs.{Kept, Grows, in_file, on_output}
 use Rattle.mpw_firm.specs.Ranges.{HasColumnsOf}
-use Rattle.mpw_sources.specs.Sources.{kept_text}
+use Rattle.mpw_firm_sources.specs.Sources.{kept_text}
 use Rattle.mpw_firm.specs.Counts.{count_of}
-use Rattle.mpw_told.specs.Status.{exit_of}
+use Rattle.mpw_firm_messages.specs.Status.{exit_of}
 use Rattle.mpw_firm.specs.Shown.{Shown, areas_of, content_of, listing_text, most_of}
 use Rattle.mpw_firm.specs.Stitched.{IsWholeOf}
 use Rattle.mpw_firm.specs.declared.checked.Drawn.{Drawn}
-use Rattle.mpw_asked.specs.declared.choices.Choices.{Choices}
-use Rattle.mpw_asked.specs.declared.choices.Portion.{Portion}
-use Rattle.mpw_asked.specs.declared.choices.Portion.TheVariants as portion
-use Rattle.mpw_told.specs.declared.fault.FirmFault.{FirmFault}
-use Rattle.mpw_asked.specs.declared.options.Asked.{Asked}
-use Rattle.mpw_asked.specs.declared.options.Asked.TheVariants as asked
-use Rattle.mpw_asked.specs.declared.options.Options.{Options}
-use Rattle.mpw_asked.specs.declared.options.Telling.{Telling}
-use Rattle.mpw_asked.specs.declared.picture_options.Wanted.{Wanted}
-use Rattle.mpw_asked.specs.declared.stitch_options.StitchOptions.{StitchOptions}
+use Rattle.mpw_firm_options.specs.declared.choices.Choices.{Choices}
+use Rattle.mpw_firm_options.specs.declared.choices.Portion.{Portion}
+use Rattle.mpw_firm_options.specs.declared.choices.Portion.TheVariants as portion
+use Rattle.mpw_firm_messages.specs.declared.fault.FirmFault.{FirmFault}
+use Rattle.mpw_firm_options.specs.declared.options.Asked.{Asked}
+use Rattle.mpw_firm_options.specs.declared.options.Asked.TheVariants as asked
+use Rattle.mpw_firm_options.specs.declared.options.Options.{Options}
+use Rattle.mpw_firm_options.specs.declared.options.Telling.{Telling}
+use Rattle.mpw_firm_options.specs.declared.picture_options.Wanted.{Wanted}
+use Rattle.mpw_firm_options.specs.declared.stitch_options.StitchOptions.{StitchOptions}
 use Rattle.mpw_firm.specs.declared.whole.Whole.{Whole}
 
 -- ---- texts in their places

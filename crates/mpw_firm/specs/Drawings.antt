@@ -3,27 +3,27 @@ use Rattle.std.specs.Prelude.{◌≡◌, ◌⊎◌, ◌++◌, ℕ, Bool, true, f
 use Rattle.std.specs.String.{string_bytes}
 use Rattle.mpw_check.specs.Drawn.{drawn_shelf, IsDrawnFrom, IsOfText}
 use Rattle.mpw_check.specs.declared.fault.CheckFault.{CheckFault}
-use Rattle.mpw_choices.specs.Sides.{with_side}
-use Rattle.mpw_choices.specs.Tops.{only_top}
+use Rattle.mpw_firm_choices.specs.Sides.{with_side}
+use Rattle.mpw_firm_choices.specs.Tops.{only_top}
 use Rattle.mpw_deck.specs.Decks.{Deck}
 use Rattle.mpw_deck.specs.Reading.{deck_of}
-use Rattle.mpw_told.specs.declared.fault.FirmFault.{FirmFault}
-use Rattle.mpw_told.specs.declared.fault.FirmFault.TheVariants.{Memory}
+use Rattle.mpw_firm_messages.specs.declared.fault.FirmFault.{FirmFault}
+use Rattle.mpw_firm_messages.specs.declared.fault.FirmFault.TheVariants.{Memory}
 use Rattle.mpw_firm.specs.Grids.{deck_for, library_on, rules_for}
 use Rattle.mpw_firm.specs.declared.checked.Drawn.{Drawn}
-use Rattle.mpw_grid.specs.Texts.{grid_parts}
-use Rattle.mpw_asked.specs.declared.choices.Choices.{Choices}
-use Rattle.mpw_asked.specs.declared.options.Options.{Options}
-use Rattle.mpw_sources.specs.Seen.{told_left_out, told_seen}
-use Rattle.mpw_sources.specs.Sources.{Source, IsSourceOf, kept_text, moved, moved_fault}
+use Rattle.mpw_firm_grid.specs.Texts.{grid_parts}
+use Rattle.mpw_firm_options.specs.declared.choices.Choices.{Choices}
+use Rattle.mpw_firm_options.specs.declared.options.Options.{Options}
+use Rattle.mpw_firm_sources.specs.Seen.{told_left_out, told_seen}
+use Rattle.mpw_firm_sources.specs.Sources.{Source, IsSourceOf, kept_text, moved, moved_fault}
 use Rattle.mpw_hier.specs.Values.{flat}
 use Rattle.mpw_job.specs.Layout.{AreFlatMarkers, AreLayoutMarkers}
 use Rattle.mpw_library.specs.Grammar.{library_of}
 use Rattle.mpw_markers.specs.declared.marker.Marker.{Marker}
 use Rattle.mpw_records.specs.declared.fault.ReadFault.{ReadFault}
 use Rattle.mpw_structures.specs.declared.structures.Structure.{Structure}
-use Rattle.mpw_told.specs.Told.{Refuses, Tells}
-use Rattle.mpw_told.specs.ToldFaults.{IsOfDeck, check_told, library_text}
+use Rattle.mpw_firm_messages.specs.Told.{Refuses, Tells}
+use Rattle.mpw_firm_messages.specs.ToldFaults.{IsOfDeck, check_told, library_text}
 use Rattle.mpw_tiles.specs.Snapshots.{Snapshot}
 
 -- The texts are a deck's and a library's, whose structure of that name is drawn under the deck.

@@ -1,16 +1,16 @@
 -- The report of a library that is refused: the faults of its elements.
 use Rattle.std.specs.Prelude.{◌≡◌, ◌⊎◌, ◌-◌, ◌^◌, ℕ, List, [], ◌∷◌, Option, None, Some, option_map}
 use Rattle.std.specs.String.{string_bytes}
-use Rattle.mpw_asked.specs.declared.options.Options.{Options}
-use Rattle.mpw_choices.specs.Tops.{only_top}
+use Rattle.mpw_firm_options.specs.declared.options.Options.{Options}
+use Rattle.mpw_firm_choices.specs.Tops.{only_top}
 use Rattle.mpw_deck.specs.declared.rule.Rule.{Rule}
-use Rattle.mpw_outputs.specs.Outputs.{Kept, Grows, IsUnwritten, in_file}
-use Rattle.mpw_report.specs.Content.{Content, Told, unchecked}
-use Rattle.mpw_report.specs.Report.{full_text}
-use Rattle.mpw_sources.specs.Seen.{told_faults}
-use Rattle.mpw_sources.specs.Sources.{Source, kept_text}
-use Rattle.mpw_told.specs.declared.fault.FirmFault.{FirmFault}
-use Rattle.mpw_told.specs.declared.fault.FirmFault.TheVariants.{Memory}
+use Rattle.mpw_firm_outputs.specs.Outputs.{Kept, Grows, IsUnwritten, in_file}
+use Rattle.mpw_firm_report.specs.Content.{Content, Told, unchecked}
+use Rattle.mpw_firm_report.specs.Report.{full_text}
+use Rattle.mpw_firm_sources.specs.Seen.{told_faults}
+use Rattle.mpw_firm_sources.specs.Sources.{Source, kept_text}
+use Rattle.mpw_firm_messages.specs.declared.fault.FirmFault.{FirmFault}
+use Rattle.mpw_firm_messages.specs.declared.fault.FirmFault.TheVariants.{Memory}
 
 -- The structure in whose coordinates faults are reported: the one that is named, or the only one that nothing places.
 abbrev pub top_for : Option (List ℕ) → List ℕ → Option (List ℕ)

@@ -1,16 +1,16 @@
 -- Libraries whose unit is a part of a nanometre: the grid of their check, and why they aren't checked.
 use Rattle.std.specs.Prelude.{◌≡◌, ◌⊎◌, ◌++◌, ◌*◌, ℕ, List, codes, map, Option, None, Some, is_some, unwrap_or, if◌then◌else◌}
 use Rattle.std.specs.Fmt.{decimal}
-use Rattle.mpw_asked.specs.declared.choices.Choices.{Choices}
-use Rattle.mpw_asked.specs.declared.options.Options.{Options}
+use Rattle.mpw_firm_options.specs.declared.choices.Choices.{Choices}
+use Rattle.mpw_firm_options.specs.declared.options.Options.{Options}
 use Rattle.mpw_deck.specs.Decks.{Deck}
 use Rattle.mpw_deck.specs.declared.rule.Rule.{Rule}
 use Rattle.mpw_firm.specs.declared.grid.GridDeck.{GridDeck}
-use Rattle.mpw_grid.specs.Decks.{deck_on, first_beyond, rule_on}
-use Rattle.mpw_grid.specs.Texts.{grid_parts, on_grid}
-use Rattle.mpw_told.specs.Told.{Refuses}
-use Rattle.mpw_told.specs.declared.fault.FirmFault.{FirmFault}
-use Rattle.mpw_told.specs.declared.fault.FirmFault.TheVariants.{Memory}
+use Rattle.mpw_firm_grid.specs.Decks.{deck_on, first_beyond, rule_on}
+use Rattle.mpw_firm_grid.specs.Texts.{grid_parts, on_grid}
+use Rattle.mpw_firm_messages.specs.Told.{Refuses}
+use Rattle.mpw_firm_messages.specs.declared.fault.FirmFault.{FirmFault}
+use Rattle.mpw_firm_messages.specs.declared.fault.FirmFault.TheVariants.{Memory}
 
 -- A grid is the number of parts of a nanometre that lengths count, if there are two or more.
 

@@ -1,16 +1,16 @@
 -- Which markers of a check are held: all of them, or the first of each rule if no more are printed.
 use Rattle.std.specs.Prelude.{◌≡◌, ℕ, Bool, true, false, List, length, Option, None, Some, option_map}
 use Rattle.std.specs.String.{string_bytes}
-use Rattle.mpw_asked.specs.declared.options.Options.{Options}
-use Rattle.mpw_asked.specs.declared.picture_options.Wanted.{Wanted}
+use Rattle.mpw_firm_options.specs.declared.options.Options.{Options}
+use Rattle.mpw_firm_options.specs.declared.picture_options.Wanted.{Wanted}
 use Rattle.mpw_firm.specs.declared.checked.Checked.{Checked}
 use Rattle.mpw_firm.specs.declared.found.Findings.{Findings}
 use Rattle.mpw_firm.specs.declared.found.Held.{Held}
 use Rattle.mpw_firm.specs.declared.found.Held.TheVariants as held
 use Rattle.mpw_job.specs.Layout.{AreLayoutMarkers}
 use Rattle.mpw_markers.specs.declared.marker.Marker.{Marker}
-use Rattle.mpw_outputs.specs.Counted.{capped, rule_counts}
-use Rattle.mpw_report.specs.Content.{AgreeFirst}
+use Rattle.mpw_firm_outputs.specs.Counted.{capped, rule_counts}
+use Rattle.mpw_firm_report.specs.Content.{AgreeFirst}
 use Rattle.mpw_tiles.specs.Snapshots.{Snapshot}
 
 -- ---- how many of each rule are enough, if not all are wanted

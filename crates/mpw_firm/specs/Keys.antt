@@ -3,14 +3,14 @@ use Rattle.std.specs.Prelude.{◌≡◌, ◌⊎◌, ◌++◌, codes, ℕ, Bool, 
 use Rattle.std.specs.List.{find}
 use Rattle.mpw_deck.specs.declared.rule.Rule.{Rule}
 use Rattle.mpw_geom.specs.Names.{name_eq}
-use Rattle.mpw_listing.specs.Keys.{key_text}
+use Rattle.mpw_firm_listing.specs.Keys.{key_text}
 use Rattle.mpw_markers.specs.declared.marker.Marker.{Marker}
-use Rattle.mpw_picture.specs.Windows.{marker_window, whole_window}
-use Rattle.mpw_picture.specs.declared.picture.View.{View}
+use Rattle.mpw_firm_picture.specs.Windows.{marker_window, whole_window}
+use Rattle.mpw_firm_picture.specs.declared.picture.View.{View}
 use Rattle.mpw_tiles.specs.Snapshots.{Snapshot, shown_extent}
-use Rattle.mpw_told.specs.declared.fault.FirmFault.{FirmFault}
-use Rattle.mpw_told.specs.declared.fault.FirmFault.TheVariants.{Memory}
-use Rattle.mpw_told.specs.Told.{Misuses}
+use Rattle.mpw_firm_messages.specs.declared.fault.FirmFault.{FirmFault}
+use Rattle.mpw_firm_messages.specs.declared.fault.FirmFault.TheVariants.{Memory}
+use Rattle.mpw_firm_messages.specs.Told.{Misuses}
 
 -- Whether a marker of that rule has the key, as the listing prints it.
 abbrev pub is_keyed : (parts : ℕ) → List ℕ → Marker → Option Rule → Bool

@@ -1,15 +1,15 @@
 -- The columns that are asked for, of a layout's.
 use Rattle.std.specs.Prelude.{◌≡◌, ◌⊎◌, ◌+◌, List, length, take, drop, None, Some}
 use Rattle.mpw_columns.specs.Plan.{AreColumnsOfLayout}
-use Rattle.mpw_keys.specs.declared.column.Column.{Column}
-use Rattle.mpw_parts.specs.Parts.{Found}
-use Rattle.mpw_spread.specs.Ranges.{IsSpanOf}
-use Rattle.mpw_spread.specs.declared.range.ColumnRange.{ColumnRange}
+use Rattle.mpw_columns_keys.specs.declared.column.Column.{Column}
+use Rattle.mpw_firm_parts.specs.Parts.{Found}
+use Rattle.mpw_firm_spread.specs.Ranges.{IsSpanOf}
+use Rattle.mpw_firm_spread.specs.declared.range.ColumnRange.{ColumnRange}
 use Rattle.mpw_tiles.specs.Snapshots.{Snapshot}
-use Rattle.mpw_told.specs.declared.fault.FirmFault.{FirmFault}
-use Rattle.mpw_told.specs.declared.fault.FirmFault.TheVariants.{Memory}
-use Rattle.mpw_told.specs.Told.{Misuses}
-use Rattle.mpw_told.specs.ToldParts.{range_text}
+use Rattle.mpw_firm_messages.specs.declared.fault.FirmFault.{FirmFault}
+use Rattle.mpw_firm_messages.specs.declared.fault.FirmFault.TheVariants.{Memory}
+use Rattle.mpw_firm_messages.specs.Told.{Misuses}
+use Rattle.mpw_firm_messages.specs.ToldParts.{range_text}
 
 -- The part has just the columns that are asked for of those into which the layout is cut, and says how many these are.
 pub record HasColumnsOf (s : Snapshot) (range : ColumnRange) (part : Found) : Type 0 where

@@ -1,18 +1,18 @@
 -- What is printed about a layout's markers: their listing and their report, of the first of each rule if there is a limit; or their numbers by rule.
 use Rattle.std.specs.Prelude.{ℕ, ◌-◌, ◌^◌, Bool, true, false, List, [], ◌∷◌, length, map, Option, None, Some, option_map}
 use Rattle.std.specs.List.{flat_map}
-use Rattle.mpw_outputs.specs.Counted.{counts_text, rule_counts, summary_text}
-use Rattle.mpw_outputs.specs.Outputs.{Kept, in_file}
+use Rattle.mpw_firm_outputs.specs.Counted.{counts_text, rule_counts, summary_text}
+use Rattle.mpw_firm_outputs.specs.Outputs.{Kept, in_file}
 use Rattle.mpw_firm.specs.declared.checked.Checked.{Checked}
 use Rattle.mpw_firm.specs.declared.found.Held.{Held}
 use Rattle.mpw_firm.specs.declared.found.Held.TheVariants as held
 use Rattle.mpw_deck.specs.declared.rule.Rule.{Rule}
-use Rattle.mpw_listing.specs.Limited.{Limited, limited_text}
-use Rattle.mpw_listing.specs.Listing.{listing_text as all_text}
+use Rattle.mpw_firm_listing.specs.Limited.{Limited, limited_text}
+use Rattle.mpw_firm_listing.specs.Listing.{listing_text as all_text}
 use Rattle.mpw_markers.specs.declared.marker.Marker.{Marker}
 use Rattle.mpw_geom.specs.declared.plane.Box2.{Box2}
-use Rattle.mpw_report.specs.Content.{Content, Noted, Told, fault_of, note_of}
-use Rattle.mpw_report.specs.Report.{full_text}
+use Rattle.mpw_firm_report.specs.Content.{Content, Noted, Told, fault_of, note_of}
+use Rattle.mpw_firm_report.specs.Report.{full_text}
 
 -- A limit as a number: without one the greatest.
 abbrev pub most_of : Option ℕ → ℕ

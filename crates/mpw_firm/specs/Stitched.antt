@@ -3,19 +3,19 @@ use Rattle.std.specs.Prelude.{◌≡◌, ◌⊎◌, ℕ, Bool, true, false, List
 use Rattle.mpw_deck.specs.Reading.{deck_of}
 use Rattle.mpw_job.specs.Layout.{AreLayoutMarkers}
 use Rattle.mpw_markers.specs.declared.marker.Marker.{Marker}
-use Rattle.mpw_parts.specs.Parts.{Found}
-use Rattle.mpw_parts.specs.Reading.{part_of, is_older, begins_as_part}
-use Rattle.mpw_parts.specs.Stitching.{IsBookOf, IsFaultOf}
-use Rattle.mpw_parts.specs.declared.fault.PartsFault.{PartsFault}
-use Rattle.mpw_spread.specs.Spread.{Texts, IsPartOf, IsPartBeside}
-use Rattle.mpw_told.specs.declared.fault.FirmFault.{FirmFault}
-use Rattle.mpw_told.specs.declared.fault.FirmFault.TheVariants.{Memory}
+use Rattle.mpw_firm_parts.specs.Parts.{Found}
+use Rattle.mpw_firm_parts.specs.Reading.{part_of, is_older, begins_as_part}
+use Rattle.mpw_firm_parts.specs.Stitching.{IsBookOf, IsFaultOf}
+use Rattle.mpw_firm_parts.specs.declared.fault.PartsFault.{PartsFault}
+use Rattle.mpw_firm_spread.specs.Spread.{Texts, IsPartOf, IsPartBeside}
+use Rattle.mpw_firm_messages.specs.declared.fault.FirmFault.{FirmFault}
+use Rattle.mpw_firm_messages.specs.declared.fault.FirmFault.TheVariants.{Memory}
 use Rattle.mpw_firm.specs.declared.whole.Subject.{Subject}
 use Rattle.mpw_firm.specs.declared.whole.Whole.{Whole}
-use Rattle.mpw_listing.specs.Listing.{listing_text}
-use Rattle.mpw_told.specs.ToldFaults.{IsOfDeck}
-use Rattle.mpw_told.specs.Told.{Refuses, Tells}
-use Rattle.mpw_told.specs.ToldParts.{Holder, no_markers_text, no_part_text, older_text, damaged_text, fault_text}
+use Rattle.mpw_firm_listing.specs.Listing.{listing_text}
+use Rattle.mpw_firm_messages.specs.ToldFaults.{IsOfDeck}
+use Rattle.mpw_firm_messages.specs.Told.{Refuses, Tells}
+use Rattle.mpw_firm_messages.specs.ToldParts.{Holder, no_markers_text, no_part_text, older_text, damaged_text, fault_text}
 
 -- A file is refused whose text is no part, with a text of its own if it begins as an older part, and another if it begins as a part; or
 -- memory runs out.

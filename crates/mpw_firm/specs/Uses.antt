@@ -2,9 +2,9 @@
 use Rattle.std.specs.Prelude.{ℕ, List, [], ◌∷◌, ◌++◌, codes, map, Option, None, Some, option_map, if◌then◌else◌}
 use Rattle.std.specs.String.{string_bytes}
 use Rattle.mpw_geom.specs.Names.{name_eq}
-use Rattle.mpw_asked.specs.Given.{picture_file}
-use Rattle.mpw_asked.specs.declared.options.Options.{Options}
-use Rattle.mpw_asked.specs.declared.stitch_options.StitchOptions.{StitchOptions}
+use Rattle.mpw_firm_options.specs.Given.{picture_file}
+use Rattle.mpw_firm_options.specs.declared.options.Options.{Options}
+use Rattle.mpw_firm_options.specs.declared.stitch_options.StitchOptions.{StitchOptions}
 
 -- The name of a file that is read; `-` is the standard input.
 abbrev pub input_name : List ℕ → List ℕ

@@ -1,14 +1,14 @@
 //! That no output is one of the inputs, or another output.
 ghost use Rattle.std.specs.Prelude.{◌≡◌, map, option_map, IfOk, IfErr};
 ghost use Rattle.std.specs.String.{string_bytes};
-ghost use Rattle.mpw_outputs.specs.Outputs.{AreApart};
+ghost use Rattle.mpw_firm_outputs.specs.Outputs.{AreApart};
 ghost use Rattle.mpw_firm.specs.Uses.{check_inputs, check_outputs, input_name, outputs_of, stitch_inputs, stitch_outputs};
-ghost use Rattle.mpw_outputs.specs.Apart.{names_of};
-ghost use Rattle.mpw_told.specs.Told.{IsMisuse};
+ghost use Rattle.mpw_firm_outputs.specs.Apart.{names_of};
+ghost use Rattle.mpw_firm_messages.specs.Told.{IsMisuse};
 
-use mpw_asked::{Options, StitchOptions};
-use mpw_outputs::{Outputs, Use, apart};
-use mpw_told::FirmFault;
+use mpw_firm_messages::FirmFault;
+use mpw_firm_options::{Options, StitchOptions};
+use mpw_firm_outputs::{Outputs, Use, apart};
 use std::alloc::{AllocError, Global};
 
 /// A file that is read, or the standard input if it is `-`.

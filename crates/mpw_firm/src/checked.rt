@@ -5,10 +5,10 @@ ghost use Rattle.mpw_firm.specs.Shown.{most_of};
 
 use crate::found::Findings;
 use mpw_deck::Rule;
+use mpw_firm_grid::Parts;
+use mpw_firm_report::{Fault, Note};
+use mpw_firm_sources::SeenFault;
 use mpw_geom::Name;
-use mpw_grid::Parts;
-use mpw_report::{Fault, Note};
-use mpw_sources::SeenFault;
 use mpw_tiles::Snapshot;
 
 /// What was checked: the structure's name, the rules, and what was found.

@@ -2,31 +2,31 @@
 ghost use Rattle.std.specs.Prelude.{◌≡◌, ℕ, List, None, false, map, option_map, IfOk, IfErr};
 ghost use Rattle.std.specs.String.{string_bytes};
 ghost use Rattle.mpw_check.specs.Drawn.{IsDrawnFrom};
-ghost use Rattle.mpw_choices.specs.Tops.{only_top};
+ghost use Rattle.mpw_firm_choices.specs.Tops.{only_top};
 ghost use Rattle.mpw_firm.specs.Drawings.{above, IsDeckOf, IsDrawnBy, IsDrawnOf, IsOfDrawing, IsOfNoTop, IsOfSource, IsOfTexts, IsReadBy, IsTopOf, no_top_text};
-ghost use Rattle.mpw_told.specs.ToldFaults.{IsOfDeck, check_told};
-ghost use Rattle.mpw_sources.specs.Seen.{told_left_out, told_seen};
-ghost use Rattle.mpw_sources.specs.Sources.{kept_text};
-ghost use Rattle.mpw_told.specs.Told.{Refuses, Tells};
+ghost use Rattle.mpw_firm_messages.specs.ToldFaults.{IsOfDeck, check_told};
+ghost use Rattle.mpw_firm_sources.specs.Seen.{told_left_out, told_seen};
+ghost use Rattle.mpw_firm_sources.specs.Sources.{kept_text};
+ghost use Rattle.mpw_firm_messages.specs.Told.{Refuses, Tells};
 
 use crate::checked::Drawn;
 use crate::faulty::{faulty, tell_skipped};
 use crate::grid::{GridDeck, grid_deck, grid_of, library_on, whole_option};
-use mpw_asked::{Choices, Options};
 use mpw_check::{CheckFault, read_layout};
-use mpw_choices::{TileSide, only_top, with_side};
 use mpw_deck::Deck;
 use mpw_elements::ReadError;
-use mpw_geom::Name;
-use mpw_grid::Parts;
-use mpw_hier::HierFault;
-use mpw_outputs::Outputs;
-use mpw_sources::{
+use mpw_firm_choices::{TileSide, only_top, with_side};
+use mpw_firm_grid::Parts;
+use mpw_firm_messages::{FirmFault, check_fault, library_fault, refusal};
+use mpw_firm_options::{Choices, Options};
+use mpw_firm_outputs::Outputs;
+use mpw_firm_sources::{
     Content, Source, Target, deck_of, left_out_seen, read_file, read_library, tell_left_out,
     tell_tops,
 };
+use mpw_geom::Name;
+use mpw_hier::HierFault;
 use mpw_tiles::Snapshot;
-use mpw_told::{FirmFault, check_fault, library_fault, refusal};
 use std::alloc::Global;
 
 /// Whether a library has no structure of the name that is asked for.

@@ -2,21 +2,21 @@
 ghost use Rattle.std.specs.Prelude.{◌≡◌, ◌∷◌, [], Some, map, option_map, IfOk, IfErr};
 ghost use Rattle.std.specs.String.{string_bytes};
 ghost use Rattle.mpw_firm.specs.Faulty.{IsToldFaulty, IsUnfaulty, faulty_content, faulty_texts, some_texts, top_for, top_texts};
-ghost use Rattle.mpw_outputs.specs.Outputs.{Grows, IsUnwritten, in_file};
-ghost use Rattle.mpw_report.specs.Report.{full_text};
-ghost use Rattle.mpw_sources.specs.Seen.{told_seen};
-ghost use Rattle.mpw_sources.specs.Sources.{kept_text};
-ghost use Rattle.mpw_told.specs.Told.{CannotBeWritten};
+ghost use Rattle.mpw_firm_outputs.specs.Outputs.{Grows, IsUnwritten, in_file};
+ghost use Rattle.mpw_firm_report.specs.Report.{full_text};
+ghost use Rattle.mpw_firm_sources.specs.Seen.{told_seen};
+ghost use Rattle.mpw_firm_sources.specs.Sources.{kept_text};
+ghost use Rattle.mpw_firm_messages.specs.Told.{CannotBeWritten};
 
-use mpw_asked::Options;
-use mpw_choices::only_top;
 use mpw_deck::Rule;
+use mpw_firm_choices::only_top;
+use mpw_firm_messages::FirmFault;
+use mpw_firm_options::Options;
+use mpw_firm_outputs::{Outputs, Place, Text, put};
+use mpw_firm_report::{Note, Report};
+use mpw_firm_sources::{SeenFault, Source, faults_seen, report_faults, tell_faults, tell_faulty};
 use mpw_geom::Name;
 use mpw_markers::Marker;
-use mpw_outputs::{Outputs, Place, Text, put};
-use mpw_report::{Note, Report};
-use mpw_sources::{SeenFault, Source, faults_seen, report_faults, tell_faults, tell_faulty};
-use mpw_told::FirmFault;
 use std::alloc::{AllocError, Global};
 use std::io;
 

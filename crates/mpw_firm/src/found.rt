@@ -8,13 +8,13 @@ ghost use Rattle.mpw_firm.specs.Held.{enough_for, enough_listed, IsFoundIn, IsFo
 ghost use Rattle.mpw_firm.specs.Shown.{markers_of};
 
 use crate::line::Line;
-use mpw_asked::{Choices, Options};
 use mpw_check::{check_layout, checked_tiles, first_of_layout};
 use mpw_deck::Rule;
+use mpw_firm_messages::FirmFault;
+use mpw_firm_options::{Choices, Options};
+use mpw_firm_outputs::rule_counts;
 use mpw_markers::{Book, Marker};
-use mpw_outputs::rule_counts;
 use mpw_tiles::Snapshot;
-use mpw_told::FirmFault;
 use std::alloc::{AllocError, Global};
 use std::thread::Threads;
 

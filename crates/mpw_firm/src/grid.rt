@@ -1,12 +1,12 @@
 //! Libraries whose unit is a part of a nanometre. `specs/Grids.antt` has what contracts say of it.
 ghost use Rattle.std.specs.Prelude.{◌≡◌, ◌*◌, Some, option_map, IfErr, IfOk};
 ghost use Rattle.mpw_firm.specs.Grids.{beyond_text, library_on, part_text, whole_option, IsGridDeck, IsGridOf, IsOfDistance, IsOfPart};
-ghost use Rattle.mpw_told.specs.Told.{Refuses};
+ghost use Rattle.mpw_firm_messages.specs.Told.{Refuses};
 
-use mpw_asked::{Choices, Options};
 use mpw_deck::{Deck, Rule};
-use mpw_grid::{Parts, deck_on, first_beyond, grid_parts, on_grid};
-use mpw_told::{FirmFault, refusal};
+use mpw_firm_grid::{Parts, deck_on, first_beyond, grid_parts, on_grid};
+use mpw_firm_messages::{FirmFault, refusal};
+use mpw_firm_options::{Choices, Options};
 use std::alloc::{AllocError, Global};
 
 /// A deck on a grid.

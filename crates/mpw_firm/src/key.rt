@@ -1,11 +1,11 @@
 //! Markers by their keys, as the listing prints them.
 ghost use Rattle.std.specs.Prelude.{◌≡◌, IfOk, Some, option_copied};
 ghost use Rattle.mpw_firm.specs.Keys.{is_keyed, has_key, marker_named};
-ghost use Rattle.mpw_listing.specs.Keys.{key_text};
+ghost use Rattle.mpw_firm_listing.specs.Keys.{key_text};
 
 use mpw_deck::Rule;
-use mpw_grid::Parts;
-use mpw_listing::put_key;
+use mpw_firm_grid::Parts;
+use mpw_firm_listing::put_key;
 use mpw_markers::Marker;
 use std::alloc::Global;
 use std::io;

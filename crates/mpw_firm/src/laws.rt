@@ -3,8 +3,8 @@ ghost use Rattle.mpw_firm.specs.Drawings.{AreFlatByEachSide};
 ghost use Rattle.mpw_firm.specs.Stitched.{WholesAreListedAsChecks};
 
 use mpw_check::markers_are_the_librarys;
+use mpw_firm_spread::parts_make_the_layout;
 use mpw_job::layout_determines_markers;
-use mpw_spread::parts_make_the_layout;
 
 /// What is listed of parts that are stitched is what a check lists of the files that the first of them was made of, byte for byte;
 /// unless two libraries that differ have one SHA-256.

@@ -8,8 +8,8 @@
 ghost use Rattle.std.specs.Prelude.{◌≡◌, ◌∷◌, [], IfOk, IfErr};
 ghost use Rattle.std.specs.Process.{exit_status};
 ghost use Rattle.mpw_firm.specs.Came.{Ends, IsCheckDone, IsDone, IsDoneOf, IsDoneOfSome, IsStitched};
-ghost use Rattle.mpw_outputs.specs.Outputs.{on_output, Grows};
-ghost use Rattle.mpw_told.specs.Told.{IsMisuse, OutputFails};
+ghost use Rattle.mpw_firm_outputs.specs.Outputs.{on_output, Grows};
+ghost use Rattle.mpw_firm_messages.specs.Told.{IsMisuse, OutputFails};
 
 mod apart;
 mod asked;
@@ -32,9 +32,9 @@ mod whole;
 
 use apart::{check_apart, stitch_apart};
 use asked::check;
-use mpw_asked::{Asked, Options, Portion, StitchOptions, read_options};
-use mpw_outputs::{Host, Outputs, Place, Space, Text, put};
-use mpw_told::{FirmFault, exit_status};
+use mpw_firm_messages::{FirmFault, exit_status};
+use mpw_firm_options::{Asked, Options, Portion, StitchOptions, read_options};
+use mpw_firm_outputs::{Host, Outputs, Place, Space, Text, put};
 use part::check_range;
 use std::alloc::Global;
 use std::process::ExitCode;

@@ -4,7 +4,7 @@ ghost use Rattle.std.specs.Prelude.{◌≡◌};
 ghost use Rattle.mpw_firm.specs.Room.{fits, has_room};
 
 use mpw_check::checked_tiles;
-use mpw_cuts::is_placed;
+use mpw_columns_cuts::is_placed;
 use mpw_tiles::Snapshot;
 use std::fs;
 

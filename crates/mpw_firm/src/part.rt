@@ -1,24 +1,26 @@
 //! The check of some columns, whose part is printed.
 ghost use Rattle.std.specs.Prelude.{◌≡◌, ◌≤◌, ◌^◌, length, IfOk, IfErr};
-ghost use Rattle.mpw_spread.specs.Spread.{IsPartOf};
+ghost use Rattle.mpw_firm_spread.specs.Spread.{IsPartOf};
 ghost use Rattle.mpw_firm.specs.Came.{IsPartChecked};
 ghost use Rattle.mpw_firm.specs.Drawings.{IsReadFrom};
 ghost use Rattle.mpw_firm.specs.Ranges.{HasColumnsOf, IsOfRange};
-ghost use Rattle.mpw_outputs.specs.Outputs.{AreApart};
+ghost use Rattle.mpw_firm_outputs.specs.Outputs.{AreApart};
 ghost use Rattle.mpw_firm.specs.Uses.{check_inputs, check_outputs};
 
 use crate::drawing::drawn_of;
 use crate::grid::grid_of;
 use crate::line::Line;
 use crate::progress::{count_of, tell_part};
-use mpw_asked::Options;
-use mpw_keys::Column;
-use mpw_outputs::{Outputs, Place, Text, put};
-use mpw_parts::Part;
-use mpw_sources::{Content, Source, Target, look, notes_of, read_file, read_library, tell_notes};
-use mpw_spread::{ColumnRange, Plan, check_part, columns_for_shares, subject_of};
+use mpw_columns_keys::Column;
+use mpw_firm_messages::{FirmFault, beyond_plan};
+use mpw_firm_options::Options;
+use mpw_firm_outputs::{Outputs, Place, Text, put};
+use mpw_firm_parts::Part;
+use mpw_firm_sources::{
+    Content, Source, Target, look, notes_of, read_file, read_library, tell_notes,
+};
+use mpw_firm_spread::{ColumnRange, Plan, check_part, columns_for_shares, subject_of};
 use mpw_tiles::Snapshot;
-use mpw_told::{FirmFault, beyond_plan};
 use rayon::current_num_threads;
 use std::alloc::{AllocError, Global};
 use std::thread::Threads;

@@ -2,23 +2,23 @@
 ghost use Rattle.std.specs.Prelude.{◌≡◌, ◌++◌, ◌∷◌, [], None, length, map, option_map, IfOk, IfErr};
 ghost use Rattle.std.specs.String.{string_bytes};
 ghost use Rattle.mpw_geom.specs.Plane.{IsBoxInPlane};
-ghost use Rattle.mpw_picture.specs.Drawn.{IsDrawnWith};
-ghost use Rattle.mpw_picture.specs.Text.{picture_text};
-ghost use Rattle.mpw_outputs.specs.Outputs.{in_file, Grows};
+ghost use Rattle.mpw_firm_picture.specs.Drawn.{IsDrawnWith};
+ghost use Rattle.mpw_firm_picture.specs.Text.{picture_text};
+ghost use Rattle.mpw_firm_outputs.specs.Outputs.{in_file, Grows};
 ghost use Rattle.mpw_firm.specs.Keys.{IsOfKey, IsRound, IsUnknown, IsViewOf, unknown_text};
 ghost use Rattle.mpw_firm.specs.Shown.{area_listed, areas_of, markers_of, most_of};
-ghost use Rattle.mpw_report.specs.Content.{fault_of};
-ghost use Rattle.mpw_told.specs.Told.{CannotBeWritten, Misuses};
+ghost use Rattle.mpw_firm_report.specs.Content.{fault_of};
+ghost use Rattle.mpw_firm_messages.specs.Told.{CannotBeWritten, Misuses};
 
 use crate::checked::Checked;
 use crate::key::find_marker;
-use mpw_asked::Wanted;
+use mpw_firm_messages::{FirmFault, misuse};
+use mpw_firm_options::Wanted;
+use mpw_firm_outputs::{Outputs, Place, Text, put};
+use mpw_firm_picture::{LeftOut, Picture, View, draw_with, marker_window, whole_window};
+use mpw_firm_report::Fault;
 use mpw_geom::Box2;
-use mpw_outputs::{Outputs, Place, Text, put};
-use mpw_picture::{LeftOut, Picture, View, draw_with, marker_window, whole_window};
-use mpw_report::Fault;
 use mpw_tiles::Snapshot;
-use mpw_told::{FirmFault, misuse};
 use std::alloc::{AllocError, Global};
 
 /// What is printed about a key that no marker has.

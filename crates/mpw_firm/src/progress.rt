@@ -7,9 +7,9 @@ use crate::checked::Checked;
 use crate::line::Line;
 use crate::memory::peak;
 use mpw_check::checked_tiles;
-use mpw_keys::ColumnKeys;
-use mpw_outputs::left_out_text;
-use mpw_parts::Part;
+use mpw_columns_keys::ColumnKeys;
+use mpw_firm_outputs::left_out_text;
+use mpw_firm_parts::Part;
 use mpw_tiles::Snapshot;
 use std::io;
 

@@ -4,19 +4,19 @@ ghost use Rattle.std.specs.String.{string_bytes};
 ghost use Rattle.mpw_firm.specs.Came.{listing_texts};
 ghost use Rattle.mpw_firm.specs.Held.{enough_listed, IsOfBook};
 ghost use Rattle.mpw_firm.specs.Shown.{held_content, held_limited, held_printed, held_report, markers_of, shown_of};
-ghost use Rattle.mpw_listing.specs.Limited as limits;
-ghost use Rattle.mpw_listing.specs.Listing as listing;
+ghost use Rattle.mpw_firm_listing.specs.Limited as limits;
+ghost use Rattle.mpw_firm_listing.specs.Listing as listing;
 ghost use Rattle.mpw_markers.specs.declared.marker.Marker.{Marker};
-ghost use Rattle.mpw_outputs.specs.Outputs.{on_output, Grows, IsUnwritten};
-ghost use Rattle.mpw_report.specs.Content as told;
-ghost use Rattle.mpw_told.specs.Told.{OutputFails};
+ghost use Rattle.mpw_firm_outputs.specs.Outputs.{on_output, Grows, IsUnwritten};
+ghost use Rattle.mpw_firm_report.specs.Content as told;
+ghost use Rattle.mpw_firm_messages.specs.Told.{OutputFails};
 
 use crate::checked::Checked;
 use crate::found::Held;
-use mpw_listing::{Limited, Listing, first_markers_are_listed};
-use mpw_outputs::{Counts, Outputs, Place, Text, put};
-use mpw_report::{Report, first_markers_have_the_items};
-use mpw_told::FirmFault;
+use mpw_firm_listing::{Limited, Listing, first_markers_are_listed};
+use mpw_firm_messages::FirmFault;
+use mpw_firm_outputs::{Counts, Outputs, Place, Text, put};
+use mpw_firm_report::{Report, first_markers_have_the_items};
 use std::alloc::Global;
 
 /// The listing of all markers that are held.

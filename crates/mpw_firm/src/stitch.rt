@@ -1,10 +1,10 @@
 //! Parts stitched, and the markers of the whole.
 ghost use Rattle.std.specs.Prelude.{◌≡◌, List, Some, IfOk, IfErr};
-ghost use Rattle.mpw_parts.specs.Parts.{Found};
-ghost use Rattle.mpw_parts.specs.Reading.{begins_as_part, is_older, part_of};
+ghost use Rattle.mpw_firm_parts.specs.Parts.{Found};
+ghost use Rattle.mpw_firm_parts.specs.Reading.{begins_as_part, is_older, part_of};
 ghost use Rattle.mpw_firm.specs.Came.{IsStitched};
-ghost use Rattle.mpw_outputs.specs.Outputs.{AreApart};
-ghost use Rattle.mpw_told.specs.Told.{Refuses};
+ghost use Rattle.mpw_firm_outputs.specs.Outputs.{AreApart};
+ghost use Rattle.mpw_firm_messages.specs.Told.{Refuses};
 ghost use Rattle.mpw_firm.specs.Stitched.{IsOfFile, IsWholeOf, unread_text};
 ghost use Rattle.mpw_firm.specs.Uses.{stitch_inputs, stitch_outputs};
 
@@ -13,12 +13,12 @@ use crate::found::Findings;
 use crate::progress::{tell_limit, tell_markers};
 use crate::report::write_listed;
 use crate::whole::{Whole, whole_of};
-use mpw_asked::StitchOptions;
-use mpw_grid::Parts;
-use mpw_outputs::Outputs;
-use mpw_parts::{Part, begins_as_part, is_older_part, read_part};
-use mpw_sources::{Content, read_file, rule_notes};
-use mpw_told::{FirmFault, PartFile, damaged_part, no_part, older_part};
+use mpw_firm_grid::Parts;
+use mpw_firm_messages::{FirmFault, PartFile, damaged_part, no_part, older_part};
+use mpw_firm_options::StitchOptions;
+use mpw_firm_outputs::Outputs;
+use mpw_firm_parts::{Part, begins_as_part, is_older_part, read_part};
+use mpw_firm_sources::{Content, read_file, rule_notes};
 use std::alloc::{AllocError, Global};
 use std::io;
 

@@ -1,15 +1,15 @@
 //! The whole that parts make.
 ghost use Rattle.std.specs.Prelude.{◌≡◌, ◌≤◌, length, IfOk, IfErr};
-ghost use Rattle.mpw_parts.specs.Stitching.{IsBookOf};
+ghost use Rattle.mpw_firm_parts.specs.Stitching.{IsBookOf};
 ghost use Rattle.mpw_firm.specs.Stitched.{first_name, IsListedAsCheck, IsSubjectOf, IsWholeOf, IsOfFirst, IsOfParts, IsOfWhole};
 
 use crate::laws::wholes_are_listed_as_checks;
 use mpw_deck::Deck;
+use mpw_firm_messages::{FirmFault, PartFile, no_markers, parts_fault};
+use mpw_firm_parts::{Part, stitch_parts};
+use mpw_firm_sources::deck_of;
 use mpw_geom::Name;
 use mpw_markers::Book;
-use mpw_parts::{Part, stitch_parts};
-use mpw_sources::deck_of;
-use mpw_told::{FirmFault, PartFile, no_markers, parts_fault};
 use std::alloc::Global;
 
 /// What was checked: the deck, the structure's name, and the number of columns.

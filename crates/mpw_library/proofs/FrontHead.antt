@@ -9,7 +9,7 @@ use Rattle.mpw_records.specs.declared.kind.TheConstants.{HEADER, BGNLIB, LIBNAME
 use Rattle.mpw_records.specs.Format.{data_fault}
 use Rattle.mpw_records.specs.Records.{RawRecord, RecordOutcome}
 use Rattle.std.specs.Prelude.{ℤ, pos, negsuc}
-use Rattle.mpw_records.specs.Real.{real_value, first_near, nanometres, is_nanometres}
+use Rattle.mpw_real8.specs.Real.{real_value, first_near, nanometres, is_nanometres}
 use Rattle.mpw_elements.specs.Reading.{Reading, ◌>>=◌, fault_at}
 use Rattle.mpw_elements.proofs.DerivedFields.{bind_ok}
 use Rattle.mpw_library.specs.Fronts.{is_formed}

@@ -8,7 +8,7 @@ use Rattle.mpw_records.specs.declared.fault.Code.TheVariants.{BadName, BadSize, 
 use Rattle.mpw_records.specs.declared.fault.ReadFault.{ReadFault}
 use Rattle.mpw_records.specs.declared.kind.TheConstants.{XY, ENDEL, SNAME, COLROW, STRANS, MAG, ANGLE}
 use Rattle.mpw_records.specs.Records.{RawRecord, RecordOutcome}
-use Rattle.mpw_records.specs.Real.{real_value}
+use Rattle.mpw_real8.specs.Real.{real_value}
 use Rattle.mpw_elements.specs.declared.values.Grid.{Grid}
 use Rattle.mpw_elements.specs.Reading.{Reading, ◌>>=◌, is_skipped, field, expected, optional}
 use Rattle.mpw_structures.specs.Coordinates.{no_point}

@@ -7,7 +7,7 @@ use Rattle.mpw_records.specs.declared.fault.Code.TheVariants.{Short, Unexpected,
 use Rattle.mpw_records.specs.declared.fault.ReadFault.{ReadFault}
 use Rattle.mpw_records.specs.declared.kind.TheConstants.{HEADER, BGNLIB, LIBNAME, UNITS, ENDLIB, BGNSTR, STRNAME, ENDSTR, PROPATTR, PROPVALUE, STRCLASS}
 use Rattle.mpw_records.specs.Records.{RawRecord, RecordOutcome, outcomes_of}
-use Rattle.mpw_records.specs.Real.{real_value, nanometres}
+use Rattle.mpw_real8.specs.Real.{real_value, nanometres}
 use Rattle.mpw_elements.specs.Reading.{Reading, ◌>>=◌, fault_at, demanded}
 use Rattle.mpw_elements.specs.Values.{name_of}
 use Rattle.mpw_elements.specs.Grammar.{element}

@@ -13,7 +13,8 @@ ghost use Rattle.mpw_library.specs.Fronts.{IsToldFirst};
 ghost use Rattle.mpw_library.specs.Internal.Library.{IsItem};
 
 use mpw_elements::{ReadError, demand, fault_of, read_element, read_name};
-use mpw_records::{Code, ReadFault, Real8, Record, Records, kind};
+use mpw_real8::Real8;
+use mpw_records::{Code, ReadFault, Record, Records, kind};
 use mpw_structures::{Element, Elements, Library, SharedText, Storage, Structure, Structures};
 use std::alloc::Global;
 use std::sync::Arc;

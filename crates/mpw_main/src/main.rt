@@ -6,7 +6,7 @@ use mpw_core::{Core, MAX_EVENTS};
 use mpw_serve::{Executor, TerminalLine, command_line, print_help, run_script, tell};
 use mpw_server::run as run_service;
 use mpw_settings::{Script, Settings};
-use mpw_stored_script::run_stored_script;
+use mpw_stored_desk::run_stored_script;
 use std::process::ExitCode;
 use std::thread::Threads;
 

@@ -5,7 +5,7 @@ use Rattle.mpw_records.specs.declared.fault.Code.{Code}
 use Rattle.mpw_records.specs.declared.fault.Code.TheVariants.{BadName, BadSize, Unit as BadUnit, Magnification, Angle, NotManhattan, RoundPath, OddWidth, PointPath, Columns, Pitch, Absolute}
 use Rattle.mpw_records.specs.declared.fault.ReadFault.{ReadFault}
 use Rattle.mpw_records.specs.Records.{RawRecord}
-use Rattle.mpw_records.specs.Real.{real_value, nanometres}
+use Rattle.mpw_real8.specs.Real.{real_value, nanometres}
 use Rattle.mpw_elements.specs.Reading.{fault_at}
 use Rattle.mpw_elements.specs.Values.{corners_of, centre_of, origin_of, path_type_of, width_of, name_of, mirrored_of, magnification_of, turns, turns_or_fault, turns_of, counts_of, grid_or_fault, step_of, point_at, grid_of}
 use Rattle.mpw_library.specs.Grammar.{unit_or_fault, unit_of}

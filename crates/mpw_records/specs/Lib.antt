@@ -2,4 +2,3 @@
 pub mod Format
 pub mod Records
 pub mod Words
-pub mod Real

@@ -17,8 +17,8 @@ use Rattle.mpw_run.specs.Step as run
 use Rattle.mpw_run.specs.Stitching.{stitched}
 use Rattle.mpw_run.proofs.Opened.{answers_all, finishes as makes_the_book}
 use Rattle.mpw_replies.specs.declared.entry.Entry.{Entry as Noted}
-use Rattle.mpw_stored_rows.specs.Rows.{Entry}
-use Rattle.mpw_stored_text.specs.Reading.{StoredAreRead}
+use Rattle.mpw_store_rows.specs.Rows.{Entry}
+use Rattle.mpw_store_text.specs.Reading.{StoredAreRead}
 use Rattle.mpw_events.specs.GoingOn.{changes_of}
 use Rattle.mpw_events.specs.History.{Desk, new_desk, state_after, state_of}
 use Rattle.mpw_events.specs.Keeping.{change_of, change_to_keep}
@@ -29,9 +29,9 @@ use Rattle.mpw_events.specs.declared.event.Event.TheVariants as event
 use Rattle.mpw_events.specs.declared.event.Response.{Response}
 use Rattle.mpw_events.specs.declared.keeper.Change.TheVariants as change
 use Rattle.mpw_events.specs.declared.keeper.KeptChange.{KeptChange}
-use Rattle.mpw_keeper.specs.Kept.{row_of, rows_from}
-use Rattle.mpw_reopen.specs.Reopening.{gone_row, gone_rows}
-use Rattle.mpw_restoring.specs.Restoring.{Folds, Restores}
+use Rattle.mpw_store_keeper.specs.Kept.{row_of, rows_from}
+use Rattle.mpw_stored_desk.specs.Reopening.{gone_row, gone_rows}
+use Rattle.mpw_store_restoring.specs.Restoring.{Folds, Restores}
 use Rattle.mpw_run_laws.specs.Right.{IsRight, IsRightCall, IsRightHistory}
 use Rattle.mpw_run_laws.proofs.Moves.{Answered, IsAsked, answers, cuts, takes, tiles_with}
 use Rattle.mpw_run_laws.proofs.Calls.{cut_goes, does, taken_goes}

@@ -18,17 +18,17 @@ use Rattle.mpw_replies.specs.declared.entry.Entry.{Entry as Noted}
 use Rattle.mpw_events.specs.History.{Desk, answering, new_desk, state_after, state_of}
 use Rattle.mpw_events.specs.Step.{State, event_outcome, new_state}
 use Rattle.mpw_events.specs.declared.event.Event.TheVariants as event
-use Rattle.mpw_reopen.specs.Reopening.{CantGoOn, Finds, gone_rows}
-use Rattle.mpw_reopen.proofs.FoldingLemmas.{folds}
-use Rattle.mpw_restoring.specs.Restoring.{Folds, Restores}
-use Rattle.mpw_restoring.proofs.Again.{again_state}
+use Rattle.mpw_stored_desk.specs.Reopening.{CantGoOn, Finds, gone_rows}
+use Rattle.mpw_stored_desk.proofs.FoldingLemmas.{folds}
+use Rattle.mpw_store_restoring.specs.Restoring.{Folds, Restores}
+use Rattle.mpw_store_restoring.proofs.Again.{again_state}
 use Rattle.mpw_store.specs.Changes.{HasRows, changes, changes_schema, columns, no_schema, shown}
 use Rattle.mpw_store.specs.Entries.{entries_from}
 use Rattle.mpw_store.proofs.EntryLemmas.{at_their_places}
 use Rattle.mpw_store.specs.Reading.{Refuses, StopsIn}
-use Rattle.mpw_stored_rows.specs.Rows.{Entry}
-use Rattle.mpw_stored_rows.specs.declared.row.TheConstants.{MAX_ROWS}
-use Rattle.mpw_keeper.specs.Kept.{rows_from}
+use Rattle.mpw_store_rows.specs.Rows.{Entry}
+use Rattle.mpw_store_rows.specs.declared.row.TheConstants.{MAX_ROWS}
+use Rattle.mpw_store_keeper.specs.Kept.{rows_from}
 use Rattle.mpw_events.specs.GoingOn.{changes_of}
 use Rattle.mpw_reopening_laws.specs.Leading.{LeadTo, reopened_state, stored_state}
 use Rattle.mpw_reopening_laws.specs.ReopeningLaws.{HistoriesCanBeReopened, ReopenedDesksHaveTheState, RowsAreNeverBad, StoresCanBeReopenedAgain}

@@ -2,10 +2,10 @@
 use Rattle.std.proofs.Common.{◌≡◌, ◌∙◌, ℕ, suc, ◌+◌, List, [], ◌∷◌, ◌++◌, drop, get_or, length, refl, sym, ap, subst, arith, append_assoc, length-append}
 use Rattle.mpw_events.specs.History.{Desk}
 use Rattle.mpw_events.specs.declared.keeper.KeptChange.{KeptChange}
-use Rattle.mpw_stored_rows.specs.Rows.{Entry}
-use Rattle.mpw_keeper.specs.Kept.{row_of, rows_from}
-use Rattle.mpw_reopen.specs.Reopening.{gone_row, gone_rows}
-use Rattle.mpw_restoring.specs.Restoring.{Folds}
+use Rattle.mpw_store_rows.specs.Rows.{Entry}
+use Rattle.mpw_store_keeper.specs.Kept.{row_of, rows_from}
+use Rattle.mpw_stored_desk.specs.Reopening.{gone_row, gone_rows}
+use Rattle.mpw_store_restoring.specs.Restoring.{Folds}
 
 -- ---- where rows lead
 

@@ -22,10 +22,10 @@ use Rattle.mpw_run.specs.Run.{Checks}
 use Rattle.mpw_run.specs.Step as run
 use Rattle.mpw_replies.specs.declared.entry.Entry.{Entry as Noted}
 use Rattle.mpw_requests.specs.declared.request.Request.{Request}
-use Rattle.mpw_stored_rows.specs.Rows.{Entry}
-use Rattle.mpw_stored_rows.specs.declared.row.Kind.TheVariants as kind
-use Rattle.mpw_stored_text.specs.Reading.{StoredAreRead, read_as}
-use Rattle.mpw_stored_text.specs.Stored.{IsRequest, stored_line, stored_payload}
+use Rattle.mpw_store_rows.specs.Rows.{Entry}
+use Rattle.mpw_store_rows.specs.declared.row.Kind.TheVariants as kind
+use Rattle.mpw_store_text.specs.Reading.{StoredAreRead, read_as}
+use Rattle.mpw_store_text.specs.Stored.{IsRequest, stored_line, stored_payload}
 use Rattle.mpw_events.specs.History.{Desk, answering, state_of}
 use Rattle.mpw_events.specs.Restoring.{job_cut}
 use Rattle.mpw_events.specs.Step.{State, Outcome, entries_of, event_outcome, with_trail, outcome_of}
@@ -34,11 +34,11 @@ use Rattle.mpw_events.specs.declared.event.Event.TheVariants as event
 use Rattle.mpw_events.specs.declared.keeper.Change.{Change}
 use Rattle.mpw_events.specs.declared.keeper.Change.TheVariants as change
 use Rattle.mpw_events.specs.declared.keeper.KeptChange.{KeptChange}
-use Rattle.mpw_keeper.specs.Kept.{row_for}
-use Rattle.mpw_restoring.specs.Restoring.{AreFound, Asks, IsKeptOf, Restores, behind, changes_by, tile_jobs_by}
-use Rattle.mpw_restoring.proofs.Again.{again_state, behind_one, changed, one_changes}
-use Rattle.mpw_restoring.proofs.Finishing.{work_finishes}
-use Rattle.mpw_restoring.proofs.Planned.{has_plan, HasPlan}
+use Rattle.mpw_store_keeper.specs.Kept.{row_for}
+use Rattle.mpw_store_restoring.specs.Restoring.{AreFound, Asks, IsKeptOf, Restores, behind, changes_by, tile_jobs_by}
+use Rattle.mpw_store_restoring.proofs.Again.{again_state, behind_one, changed, one_changes}
+use Rattle.mpw_store_restoring.proofs.Finishing.{work_finishes}
+use Rattle.mpw_store_restoring.proofs.Planned.{has_plan, HasPlan}
 use Rattle.mpw_reopening_laws.specs.Leading.{stored_state}
 use Rattle.mpw_reopening_laws.proofs.StoredOutcomes.{Same, request_same, stored_outcome}
 use Rattle.mpw_reopening_laws.proofs.Working.{IsDone, cutting_run, finished_state, work_done}

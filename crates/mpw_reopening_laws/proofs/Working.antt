@@ -22,8 +22,8 @@ use Rattle.mpw_events.specs.Step.{State, of_run, event_outcome, with_trail}
 use Rattle.mpw_events.specs.declared.event.Event.{Event}
 use Rattle.mpw_events.specs.declared.event.Event.TheVariants as event
 use Rattle.mpw_events.specs.declared.keeper.KeptChange.{KeptChange}
-use Rattle.mpw_restoring.specs.Restoring.{AreFound, behind, changes_by}
-use Rattle.mpw_restoring.proofs.Again.{again_state, unchanged}
+use Rattle.mpw_store_restoring.specs.Restoring.{AreFound, behind, changes_by}
+use Rattle.mpw_store_restoring.proofs.Again.{again_state, unchanged}
 use Rattle.mpw_run_laws.proofs.Moves.{Cuts, Answered, IsAsked, cuts, answers, tiles_with}
 use Rattle.mpw_reopening_laws.proofs.Sound.{IsSound, IsSoundRun, answer_right, sound_begins, sound_more, sound_phase}
 

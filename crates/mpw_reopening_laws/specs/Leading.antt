@@ -11,9 +11,9 @@ use Rattle.mpw_events.specs.declared.event.Event.{Event}
 use Rattle.mpw_events.specs.declared.event.Event.TheVariants as event
 use Rattle.mpw_events.specs.History.{Desk, new_desk, state_of}
 use Rattle.mpw_events.specs.Step.{State, after, entries_of, step}
-use Rattle.mpw_stored_rows.specs.Rows.{Entry}
-use Rattle.mpw_stored_text.specs.Stored.{IsRequest}
-use Rattle.mpw_restoring.specs.Restoring.{Folds, Restores}
+use Rattle.mpw_store_rows.specs.Rows.{Entry}
+use Rattle.mpw_store_text.specs.Stored.{IsRequest}
+use Rattle.mpw_store_restoring.specs.Restoring.{Folds, Restores}
 
 -- ---- calls between two restarts
 

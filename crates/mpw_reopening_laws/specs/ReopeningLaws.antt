@@ -9,15 +9,15 @@ use Rattle.mpw_events.specs.Step.{State, new_state}
 use Rattle.mpw_events.specs.declared.event.Call.{Call}
 use Rattle.mpw_events.specs.declared.event.Event.TheVariants as event
 use Rattle.mpw_events.specs.declared.keeper.KeptChange.{KeptChange}
-use Rattle.mpw_keeper.specs.Kept.{rows_from}
-use Rattle.mpw_reopen.specs.Reopening.{CantGoOn, Reopens, gone_rows}
-use Rattle.mpw_restoring.specs.Restoring.{Folds}
-use Rattle.mpw_restoring.specs.Sessions.{AreOpen}
+use Rattle.mpw_store_keeper.specs.Kept.{rows_from}
+use Rattle.mpw_stored_desk.specs.Reopening.{CantGoOn, Reopens, gone_rows}
+use Rattle.mpw_store_restoring.specs.Restoring.{Folds}
+use Rattle.mpw_store_restoring.specs.Sessions.{AreOpen}
 use Rattle.mpw_run_laws.specs.Right.{IsRightHistory}
 use Rattle.mpw_store.specs.Changes.{HasRows, changes_schema}
 use Rattle.mpw_store.specs.Reading.{AreEntries}
-use Rattle.mpw_stored_rows.specs.Rows.{Entry}
-use Rattle.mpw_stored_rows.specs.declared.row.TheConstants.{MAX_ROWS}
+use Rattle.mpw_store_rows.specs.Rows.{Entry}
+use Rattle.mpw_store_rows.specs.declared.row.TheConstants.{MAX_ROWS}
 use Rattle.mpw_reopening_laws.specs.Leading.{AreStorable, LeadTo, reopened_state, trail_stored}
 
 -- the rows of the stored changes of a legal history lead to its state

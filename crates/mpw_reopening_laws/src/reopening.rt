@@ -4,7 +4,7 @@ ghost use Rattle.sqlite.specs.Held.{state};
 
 use mpw_job::{answers_make_the_layout, layout_determines_markers};
 use mpw_run::stitched_computes;
-use mpw_stored_text::stored_requests_are_read;
+use mpw_store_text::stored_requests_are_read;
 use sqlite::{Alter, Connection};
 
 /// A new desk of the same officer accepts the stored changes of a legal history, as rows, one after another. Whatever computes the runs, it

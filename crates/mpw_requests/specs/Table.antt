@@ -47,6 +47,6 @@ lists (verb.SignOff asked) = sign_off_lists asked
 lists verb = true
 
 -- the verb of a word. That the constant `ALL` has each verb follows from the law that stored requests are
--- read again (`StoredAreRead` of mpw_stored_text)
+-- read again (`StoredAreRead` of mpw_store_text)
 unfoldable pub verb_of : List ℕ → Option Verb
 verb_of word = first_of verb_text word ALL

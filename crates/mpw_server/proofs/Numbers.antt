@@ -9,7 +9,7 @@ use Rattle.mpw_events.specs.declared.event.Event.TheVariants as event
 use Rattle.mpw_events.specs.History.{Desk}
 use Rattle.mpw_receipts.specs.Owner.{owner_of, owner_of_event}
 use Rattle.mpw_desk.specs.Numbers.{AreBelow, IsBelow}
-use Rattle.mpw_restoring.specs.Sessions.{connection_of, connections_of, greatest_connection}
+use Rattle.mpw_store_restoring.specs.Sessions.{connection_of, connections_of, greatest_connection}
 
 same-owner : (e : Event) → owner_of_event e ≡ connection_of e
 same-owner (event.Ask connection request) = refl

@@ -10,12 +10,12 @@ use Rattle.mpw_events.specs.declared.keeper.KeptChange.{KeptChange}
 use Rattle.mpw_events.specs.GoingOn.{GoesOnTo, changes_of}
 use Rattle.mpw_events.specs.History.{Desk, KeptDesk, kept_desk, state_of}
 use Rattle.mpw_events.specs.Keeping.{Grows}
-use Rattle.mpw_keeper.specs.Kept.{IsKeptIn, Keeping, changes_in, failures_of, kept_by, rows_from}
+use Rattle.mpw_store_keeper.specs.Kept.{IsKeptIn, Keeping, changes_in, failures_of, kept_by, rows_from}
 use Rattle.mpw_settings.specs.declared.officer.Officer.{Officer}
 use Rattle.mpw_store.specs.Changes.{HasRows}
 use Rattle.mpw_store.specs.declared.fault.StoreFault.{StoreFault}
-use Rattle.mpw_stored_script.specs.declared.fault.StoredFault.{StoredFault}
-use Rattle.mpw_stored_script.specs.declared.fault.StoredFault.TheVariants.{Closed}
+use Rattle.mpw_stored_desk.specs.declared.fault.StoredFault.{StoredFault}
+use Rattle.mpw_stored_desk.specs.declared.fault.StoredFault.TheVariants.{Closed}
 use Rattle.mpw_server.specs.Stored.{BeginsOver, Ends, GoesOnStored, HasStored, IsNoStore, Leaves, StoresItsChanges, ended_with}
 use Rattle.mpw_server.specs.declared.fault.ServiceFault.{ServiceFault}
 use Rattle.mpw_server.specs.declared.fault.ServiceFault.TheVariants as service

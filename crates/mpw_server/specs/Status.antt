@@ -1,6 +1,6 @@
 -- The exit status of a service by how it ended.
 use Rattle.std.specs.Prelude.{◌≡◌, ℕ, Bool, true, false, Result, Ok, Err}
-use Rattle.mpw_stored_script.specs.Status as stored
+use Rattle.mpw_stored_desk.specs.Status as stored
 use Rattle.mpw_service.specs.Status.{status_of_serving}
 use Rattle.mpw_service.specs.declared.fault.ServeFault.TheVariants as serving
 use Rattle.mpw_log.specs.declared.logger.LogFault.{LogFault}

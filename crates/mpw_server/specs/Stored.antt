@@ -7,13 +7,13 @@ use Rattle.mpw_events.specs.declared.event.Call.{Call}
 use Rattle.mpw_events.specs.declared.keeper.KeptChange.{KeptChange}
 use Rattle.mpw_events.specs.GoingOn.{GoesOnTo, changes_of}
 use Rattle.mpw_events.specs.History.{Desk, KeptDesk, state_of}
-use Rattle.mpw_keeper.specs.Kept.{IsKeptIn, changes_in, rows_from}
+use Rattle.mpw_store_keeper.specs.Kept.{IsKeptIn, changes_in, rows_from}
 use Rattle.mpw_settings.specs.declared.officer.Officer.{Officer}
 use Rattle.mpw_store.specs.Changes.{HasRows, IsReady}
 use Rattle.mpw_store.specs.declared.fault.StoreFault.{StoreFault}
-use Rattle.mpw_stored_script.specs.Serving.{BeginsWith}
-use Rattle.mpw_stored_script.specs.declared.fault.StoredFault.{StoredFault}
-use Rattle.mpw_stored_script.specs.declared.fault.StoredFault.TheVariants.{Closed}
+use Rattle.mpw_stored_desk.specs.Serving.{BeginsWith}
+use Rattle.mpw_stored_desk.specs.declared.fault.StoredFault.{StoredFault}
+use Rattle.mpw_stored_desk.specs.declared.fault.StoredFault.TheVariants.{Closed}
 use Rattle.mpw_server.specs.declared.fault.ServiceFault.{ServiceFault}
 use Rattle.mpw_server.specs.declared.fault.ServiceFault.TheVariants as service
 

@@ -2,22 +2,21 @@
 ghost use Rattle.std.specs.Prelude.{◌≡◌, ◌↔◌, ◌+◌, None, IfErr, IfOk, IsSome, length};
 ghost use Rattle.mpw_desk.specs.Numbers.{AreBelow};
 ghost use Rattle.mpw_events.specs.History.{kept_desk, new_desk};
-ghost use Rattle.mpw_keeper.specs.Kept.{failures_of, kept_by};
-ghost use Rattle.mpw_reopen.specs.Reopening.{IsIdle};
-ghost use Rattle.mpw_restoring.specs.Sessions.{greatest_connection};
+ghost use Rattle.mpw_store_keeper.specs.Kept.{failures_of, kept_by};
+ghost use Rattle.mpw_stored_desk.specs.Reopening.{IsIdle};
+ghost use Rattle.mpw_store_restoring.specs.Sessions.{greatest_connection};
 ghost use Rattle.mpw_server.specs.Stored.{BeginsOver, ComesBack};
-ghost use Rattle.mpw_stored_script.specs.Serving.{IsUnopened};
+ghost use Rattle.mpw_stored_desk.specs.Serving.{IsUnopened};
 ghost use Rattle.sqlite.specs.Held.{state};
 ghost use Rattle.sqlite.specs.State.{HasCleanDisk};
 
 use mpw_events::Handler;
-use mpw_keeper::{OptionalKeeper, StoreKeeper};
-use mpw_reopen::{Reopened, reopen};
 use mpw_serve::{Executor, Progress};
 use mpw_service::Begun;
 use mpw_settings::Officer;
 use mpw_store::StoreFault;
-use mpw_stored_script::StoredFault;
+use mpw_store_keeper::{OptionalKeeper, StoreKeeper};
+use mpw_stored_desk::{Reopened, StoredFault, reopen};
 use sqlite::{Alter, Connection};
 use std::alloc::{AllocError, Global};
 use std::thread::Threads;

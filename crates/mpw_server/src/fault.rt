@@ -5,7 +5,7 @@ ghost use Rattle.mpw_server.specs.declared.fault.ServiceFault.TheVariants as ser
 
 use mpw_desk::Mismatch;
 use mpw_service::ServeFault;
-use mpw_stored_script::StoredFault;
+use mpw_stored_desk::StoredFault;
 use std::alloc::AllocError;
 use thiserror::Error;
 

@@ -6,3 +6,4 @@ pub mod RowLemmas
 pub mod ReadLemmas
 pub mod TakenLemmas
 pub mod EntryLemmas
+pub mod FaultLemmas

@@ -3,3 +3,6 @@ pub mod Changes
 pub mod Faults
 pub mod Reading
 pub mod Entries
+pub mod Checkpoint
+pub mod Status
+pub mod Terms

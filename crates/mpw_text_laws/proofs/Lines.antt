@@ -11,9 +11,9 @@ use Rattle.mpw_edges.specs.declared.run.Axis.TheVariants.{V, H}
 use Rattle.mpw_geom.proofs.Linked.{name_eq-refl}
 use Rattle.mpw_hier.specs.declared.submission.Submission.{Submission}
 use Rattle.mpw_job.proofs.Tests.{passes_some}
-use Rattle.mpw_listing.specs.Keys.{WholeKeysAreNumbers, axis_text as own_axis, key_text as own_key}
-use Rattle.mpw_listing.specs.Lines.{head_text, line_text}
-use Rattle.mpw_listing.specs.Listing.{count_of_lines, line_with, listing_text, marker_line}
+use Rattle.mpw_firm_listing.specs.Keys.{WholeKeysAreNumbers, axis_text as own_axis, key_text as own_key}
+use Rattle.mpw_firm_listing.specs.Lines.{head_text, line_text}
+use Rattle.mpw_firm_listing.specs.Listing.{count_of_lines, line_with, listing_text, marker_line}
 use Rattle.mpw_edges.specs.declared.run.Piece.{Piece}
 use Rattle.mpw_markers.specs.declared.marker.Marker.{Marker}
 use Rattle.mpw_markers.proofs.Unique.{Contains-head, Contains-tail}

@@ -8,7 +8,7 @@ use Rattle.mpw_hier.specs.Limits.{numbered}
 use Rattle.mpw_hier.specs.Shelved.{ShapesAreOfEarlier}
 use Rattle.mpw_job.specs.Laws.{EachMarkerMeetsSome}
 use Rattle.mpw_check.specs.Drawn.{offered}
-use Rattle.mpw_listing.specs.Keys.{WholeKeysAreNumbers}
+use Rattle.mpw_firm_listing.specs.Keys.{WholeKeysAreNumbers}
 use Rattle.mpw_events.specs.Step.{State, outcome_of}
 use Rattle.mpw_events.specs.declared.event.Response.TheVariants as response
 use Rattle.mpw_rbac.specs.Policy.{session_of}

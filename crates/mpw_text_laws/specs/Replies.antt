@@ -6,7 +6,7 @@ use Rattle.mpw_events.specs.Step.{State, outcome_of}
 use Rattle.mpw_events.specs.declared.event.Response.TheVariants as response
 use Rattle.mpw_hier.specs.declared.submission.Submission.{Submission}
 use Rattle.mpw_job.specs.Layout.{AreLayoutMarkers}
-use Rattle.mpw_listing.specs.Listing.{listing_text}
+use Rattle.mpw_firm_listing.specs.Listing.{listing_text}
 use Rattle.mpw_markers.specs.declared.marker.Marker.{Marker}
 use Rattle.mpw_permissions.specs.declared.permission.Object.TheVariants as object
 use Rattle.mpw_permissions.specs.declared.permission.Operation.TheVariants.{Read}

@@ -2,9 +2,9 @@
 
 ghost use Rattle.mpw_text_laws.specs.Replies.{DesksListAsChecks, ListingsAreReplies};
 
+use mpw_firm_listing::whole_keys_are_numbers;
 use mpw_hier::shelves_have_their_numbers;
 use mpw_job::each_marker_meets_some;
-use mpw_listing::whole_keys_are_numbers;
 
 /// The listing that a check prints of a layout's markers is, byte for byte, a desk's reply for one who may read the layout's only
 /// submission.

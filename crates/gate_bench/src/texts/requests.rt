@@ -3,7 +3,7 @@
 use anyhow::{Result, bail};
 use gate_events::Text;
 use mpw_requests::Request;
-use mpw_stored_text::{stored_line, stored_payload};
+use mpw_store_text::{stored_line, stored_payload};
 use mpw_wire::{Asked, WireFault, read_request};
 
 /// Prints how many bytes were taken, those of the payload, and the request's stored line.

@@ -4,7 +4,7 @@ use gate_events::Paper;
 use mpw_events::Response;
 use mpw_reply_text::write_reply;
 use mpw_requests::Request;
-use mpw_stored_text::stored_line;
+use mpw_store_text::stored_line;
 use std::alloc::{AllocError, AllocFailed, Global};
 use thiserror::Error;
 

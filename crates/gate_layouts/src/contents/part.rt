@@ -3,7 +3,7 @@
 use crate::contents::seen::print_contents;
 use anyhow::{Context, Result, bail};
 use gate_words::Words;
-use mpw_contents::{Boxes, Contents, Part};
+use mpw_columns_contents::{Boxes, Contents, Part};
 use mpw_geom::Box2;
 use mpw_hier::Shelf;
 use std::io;

@@ -2,7 +2,9 @@
 
 use anyhow::{Context, Result, bail};
 use gate_words::{Words, orient_word};
-use mpw_contents::{Array, Contents, Shape, Thing, Wanted, code, contents_in, displacement};
+use mpw_columns_contents::{
+    Array, Contents, Shape, Thing, Wanted, code, contents_in, displacement,
+};
 use mpw_geom::{Box2, Point};
 use mpw_hier::Shelf;
 use mpw_structures::Structure;

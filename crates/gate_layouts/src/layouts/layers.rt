@@ -2,9 +2,9 @@
 
 use anyhow::{Result, bail};
 use gate_plain::{Shown, layer};
+use mpw_firm_layers::{layer_count, shows, unnamed_layers};
 use mpw_geom::Layer;
 use mpw_hier::Shelf;
-use mpw_layers::{layer_count, shows, unnamed_layers};
 use mpw_walk::Root;
 use std::alloc::{AllocError, Global};
 use std::slice;

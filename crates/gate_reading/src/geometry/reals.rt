@@ -1,7 +1,7 @@
 //! Eight-byte reals.
 
 use anyhow::{Result, bail};
-use mpw_records::Real8;
+use mpw_real8::Real8;
 use std::io;
 
 /// Prints whether the real is each of the whole numbers.

@@ -5,7 +5,7 @@ ghost use Rattle.sqlite_disk.specs.Memory.{memory_is_usable};
 use crate::stops::disks::{After, Fuses, Outcome, look};
 use anyhow::Result;
 use mpw_store::{StoreFault, append, open_table};
-use mpw_stored_rows::{Kind, StoredRow};
+use mpw_store_rows::{Kind, StoredRow};
 use sqlite::{Alter, Connection, Files, Options};
 use sqlite_disk::{Fuse, Memory};
 use std::alloc::Global;

@@ -10,7 +10,7 @@ use mpw_geom::Name;
 use mpw_requests::digest_of;
 use mpw_serve::{Executor, Silent};
 use mpw_settings::Officer;
-use mpw_stored_script::{Stopped, serve_store};
+use mpw_stored_desk::{Stopped, serve_store};
 use sqlite::{Alter, Connection, Files, Options};
 use sqlite_disk::{Fuse, Memory};
 use std::alloc::Global;

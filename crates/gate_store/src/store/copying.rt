@@ -3,7 +3,7 @@
 use crate::store::store::{Store, add_row, hand_rows, new_store};
 use anyhow::Result;
 use mpw_store::TakesRows;
-use mpw_stored_rows::{Kind, StoredRow};
+use mpw_store_rows::{Kind, StoredRow};
 use sqlite::{Alter, Connection, MemStore};
 use std::alloc::{AllocError, Global};
 

@@ -1,11 +1,11 @@
 //! A store that may be reopened.
-ghost use Rattle.mpw_reopen.specs.Reopening.{IsIdle};
+ghost use Rattle.mpw_stored_desk.specs.Reopening.{IsIdle};
 ghost use Rattle.sqlite.specs.Held.{state};
 ghost use Rattle.sqlite.specs.State.{HasCleanDisk, Opens};
 
 use anyhow::Result;
 use mpw_store::{TakesRows, append, open_table, read_rows};
-use mpw_stored_rows::StoredRow;
+use mpw_store_rows::StoredRow;
 use sqlite::{Alter, Connection};
 use std::marker::Model;
 
@@ -23,7 +23,7 @@ impl<S: Alter + Drop> Drop for Store<S> {
 
 impl<S: Alter> Model for Store<S> {
     ghost use Rattle.std.specs.Prelude.{⊤};
-    ghost use Rattle.mpw_reopen.specs.Reopening.{IsIdle};
+    ghost use Rattle.mpw_stored_desk.specs.Reopening.{IsIdle};
     ghost use Rattle.sqlite.specs.Held.{state};
     ghost use Rattle.sqlite.specs.State.{HasCleanDisk};
 

@@ -3,9 +3,9 @@
 use anyhow::{Result, bail};
 use gate_words::{Words, key};
 use mpw_deck::{Deck, read_deck};
+use mpw_firm_report::{Fault, Note};
 use mpw_geom::{Box2, Layer, Name};
 use mpw_markers::{Marker, Met};
-use mpw_report::{Fault, Note};
 use std::alloc::{AllocError, Global};
 
 /// A fault of an element.

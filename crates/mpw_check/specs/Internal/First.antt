@@ -1,7 +1,7 @@
 -- The first markers of each rule, during the pass over a book.
 use Rattle.std.specs.Prelude.{◌≡◌, ◌==◌, ◌<◌, ◌≤◌, ◌+◌, ℕ, List, [], ◌∷◌, ◌++◌, if◌then◌else◌, length, take, slice_index}
 use Rattle.mpw_columns.specs.declared.first.FirstMarkers.{FirstMarkers}
-use Rattle.mpw_keys.specs.Firsts.{of_rule}
+use Rattle.mpw_columns_keys.specs.Firsts.{of_rule}
 use Rattle.mpw_markers.specs.declared.marker.Marker.{Marker}
 
 -- One more marker is counted, and is stored if fewer than the limit of its rule were.

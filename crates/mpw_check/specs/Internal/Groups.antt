@@ -2,13 +2,13 @@
 use Rattle.std.specs.Prelude.{◌≡◌, ◌+◌, ℕ, List, [], ◌∷◌, ◌++◌, map, sum_by, slice_get, slice_index_or, Option, Some, None}
 use Rattle.mpw_tiles.specs.Snapshots.{Snapshot}
 use Rattle.mpw_markers.specs.declared.marker.Marker.{Marker}
-use Rattle.mpw_keys.specs.Firsts.{capped}
+use Rattle.mpw_columns_keys.specs.Firsts.{capped}
 use Rattle.mpw_columns.specs.First.{IsFirstOfLayout}
 use Rattle.mpw_columns.specs.declared.first.FirstMarkers.{FirstMarkers}
-use Rattle.mpw_groups.specs.declared.group.Group.{Group}
-use Rattle.mpw_groups.specs.declared.joining.Owner.{Owner}
-use Rattle.mpw_groups.specs.Joined.{joined_from, taken_at}
-use Rattle.mpw_groups.specs.Parts.{IsPartOf}
+use Rattle.mpw_check_groups.specs.declared.group.Group.{Group}
+use Rattle.mpw_check_groups.specs.declared.joining.Owner.{Owner}
+use Rattle.mpw_check_groups.specs.Joined.{joined_from, taken_at}
+use Rattle.mpw_check_groups.specs.Parts.{IsPartOf}
 
 -- The first markers of a group's part.
 pub record AreGroupFirsts (most : ℕ) (s : Snapshot) (group : Group) (f : FirstMarkers) : Type 0

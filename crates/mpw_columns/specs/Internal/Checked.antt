@@ -2,17 +2,17 @@
 use Rattle.std.specs.Prelude.{◌≡◌, ◌<◌, ◌≤◌, ◌+◌, ◌^◌, ℕ, List, length, take, drop, All, Some, IfSome}
 use Rattle.std.specs.List.{AllZip}
 use Rattle.mpw_edges.specs.declared.run.Axis.TheVariants.{V, H}
-use Rattle.mpw_contents.specs.Boxes.{AreBoxesOf}
-use Rattle.mpw_contents.specs.declared.thing.Thing.{Thing}
+use Rattle.mpw_columns_contents.specs.Boxes.{AreBoxesOf}
+use Rattle.mpw_columns_contents.specs.declared.thing.Thing.{Thing}
 use Rattle.mpw_tiles.specs.Snapshots.{Snapshot, shown, shown_extent}
 use Rattle.mpw_tiles.specs.declared.listing.Rectangle.{Rectangle}
 use Rattle.mpw_job.specs.Answers.{listed_on}
 use Rattle.mpw_job.specs.Computed.{shown_on}
-use Rattle.mpw_keys.specs.Columns.{seen_box, upright, across}
+use Rattle.mpw_columns_keys.specs.Columns.{seen_box, upright, across}
 use Rattle.mpw_columns.specs.declared.shared.Shared.{Shared}
 use Rattle.mpw_columns.specs.Seen.{seen_on}
 use Rattle.mpw_markers.specs.declared.marker.Key.{Key}
-use Rattle.mpw_keys.specs.declared.column.Column.{Column}
+use Rattle.mpw_columns_keys.specs.declared.column.Column.{Column}
 use Rattle.mpw_columns.specs.declared.batch.Batch.{Batch}
 use Rattle.mpw_columns.specs.declared.batch.Listed.{Listed}
 use Rattle.mpw_columns.specs.declared.batch.Top.{Top}

@@ -2,8 +2,8 @@
 use Rattle.std.specs.Prelude.{ℕ, ◌+◌, ◌*◌, List, [], length, get_or, slice_get, unwrap_or}
 use Rattle.std.specs.List.{range_with_len, sum_by}
 use Rattle.mpw_markers.specs.declared.marker.Key.{Key}
-use Rattle.mpw_keys.specs.Firsts.{capped}
-use Rattle.mpw_keys.specs.declared.first.First.{First}
+use Rattle.mpw_columns_keys.specs.Firsts.{capped}
+use Rattle.mpw_columns_keys.specs.declared.first.First.{First}
 
 -- How many columns share the list that is `k` places after another; 1 if no number is there.
 abbrev pub share_at : (shares : List ℕ) (from k : ℕ) → ℕ

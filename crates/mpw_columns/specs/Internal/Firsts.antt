@@ -3,11 +3,11 @@ use Rattle.std.specs.Prelude.{◌≡◌, ◌*◌, ◌++◌, ◌-ℤ◌, ◌≤�
 use Rattle.std.specs.List.{AllZip}
 use Rattle.mpw_tiles.specs.Snapshots.{Snapshot}
 use Rattle.mpw_markers.specs.declared.marker.Key.{Key}
-use Rattle.mpw_keys.specs.declared.column.Column.{Column}
-use Rattle.mpw_keys.specs.declared.first.Firsts.{Firsts}
-use Rattle.mpw_keys.specs.declared.placed.Placed.{Placed}
-use Rattle.mpw_keys.specs.Firsts.{AreFirsts, AreNear, IsListed}
-use Rattle.mpw_keys.specs.Keys.{displaced_key, IsNear}
+use Rattle.mpw_columns_keys.specs.declared.column.Column.{Column}
+use Rattle.mpw_columns_keys.specs.declared.first.Firsts.{Firsts}
+use Rattle.mpw_columns_keys.specs.declared.placed.Placed.{Placed}
+use Rattle.mpw_columns_keys.specs.Firsts.{AreFirsts, AreNear, IsListed}
+use Rattle.mpw_columns_keys.specs.Keys.{displaced_key, IsNear}
 use Rattle.mpw_columns.specs.declared.first.Listing.{Listing}
 use Rattle.mpw_columns.specs.Lists.{IsColumnList}
 use Rattle.mpw_columns.specs.Internal.Checked.{IsCounted}

@@ -9,7 +9,7 @@ use Rattle.mpw_edges.specs.Pieces.{piece_of}
 use Rattle.mpw_region.specs.declared.runs.Run.{Run}
 use Rattle.mpw_markers.specs.declared.marker.Key.{Key}
 use Rattle.mpw_job.specs.Layers.{Coverage}
-use Rattle.mpw_keys.specs.declared.column.Column.{Column}
+use Rattle.mpw_columns_keys.specs.declared.column.Column.{Column}
 use Rattle.mpw_columns.specs.Found.{IsFound, HasLayers}
 
 -- Exactly the keys that are found were added to the keys; the second: those of the first n rules alone.

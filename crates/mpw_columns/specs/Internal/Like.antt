@@ -1,12 +1,12 @@
 -- Columns that repeat earlier ones: they are identical up to translation.
 use Rattle.std.specs.Prelude.{◌≡◌, ◌<◌, ◌≤◌, ◌+◌, ◌-ℤ◌, ℕ, zero, suc, List, [], ◌∷◌, ◌++◌, length, get_or, All, Option, Some, None, ◌⊎◌}
 use Rattle.mpw_geom.specs.declared.plane.Box2.{Box2}
-use Rattle.mpw_contents.specs.declared.thing.Thing.{Thing}
-use Rattle.mpw_contents.specs.Contents.{AreWhole, AreSound}
-use Rattle.mpw_contents.specs.Things.{things_items}
+use Rattle.mpw_columns_contents.specs.declared.thing.Thing.{Thing}
+use Rattle.mpw_columns_contents.specs.Contents.{AreWhole, AreSound}
+use Rattle.mpw_columns_contents.specs.Things.{things_items}
 use Rattle.mpw_tiles.specs.Snapshots.{shown}
-use Rattle.mpw_keys.specs.declared.column.Column.{Column}
-use Rattle.mpw_keys.specs.Columns.{seen_box, upright, across}
+use Rattle.mpw_columns_keys.specs.declared.column.Column.{Column}
+use Rattle.mpw_columns_keys.specs.Columns.{seen_box, upright, across}
 use Rattle.mpw_columns.specs.declared.layout.Layout.{Layout}
 use Rattle.mpw_columns.specs.declared.earlier.Kept.{Kept}
 use Rattle.mpw_columns.specs.declared.earlier.Earlier.{Earlier}

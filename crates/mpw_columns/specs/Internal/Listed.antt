@@ -8,7 +8,7 @@ use Rattle.mpw_tiles.specs.declared.listing.Rectangle.{Rectangle}
 use Rattle.mpw_tiles.specs.Listing.{IsListed}
 use Rattle.mpw_tiles.specs.Placed.{IsSquareInPlane}
 use Rattle.mpw_tiles.specs.Shown.{IsShown}
-use Rattle.mpw_keys.specs.Columns.{seen_box}
+use Rattle.mpw_columns_keys.specs.Columns.{seen_box}
 use Rattle.mpw_columns.specs.Seen.{seen_square}
 
 abbrev pub seen_rectangle : Axis → Rectangle → Rectangle

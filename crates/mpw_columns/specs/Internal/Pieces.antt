@@ -9,9 +9,9 @@ use Rattle.mpw_edges.specs.declared.run.Axis.TheVariants.{V, H}
 use Rattle.mpw_edges.specs.declared.run.Piece.{Piece}
 use Rattle.mpw_edges.specs.Pieces.{HasVerticalStep}
 use Rattle.mpw_walk.specs.Window.{do_meet}
-use Rattle.mpw_contents.specs.declared.thing.Thing.{Thing}
-use Rattle.mpw_contents.specs.Contents.{IsBoxed}
-use Rattle.mpw_contents.specs.Things.{things_items}
+use Rattle.mpw_columns_contents.specs.declared.thing.Thing.{Thing}
+use Rattle.mpw_columns_contents.specs.Contents.{IsBoxed}
+use Rattle.mpw_columns_contents.specs.Things.{things_items}
 use Rattle.mpw_tiles.specs.Snapshots.{shown}
 use Rattle.mpw_tiles.specs.declared.listing.Rectangle.{Rectangle}
 use Rattle.mpw_markers.specs.declared.marker.Key.{Key}
@@ -19,8 +19,8 @@ use Rattle.mpw_markers.specs.declared.marker.Line.{Line}
 use Rattle.mpw_job.specs.Computed.{shown_on}
 use Rattle.mpw_job.specs.Answers.{listed_on}
 use Rattle.mpw_job.specs.Layers.{Coverage, first_squares, second_squares}
-use Rattle.mpw_keys.specs.Columns.{across, seen_box}
-use Rattle.mpw_pieces.specs.Pieces.{IsRowOf}
+use Rattle.mpw_columns_keys.specs.Columns.{across, seen_box}
+use Rattle.mpw_columns_keys.specs.Pieces.{IsRowOf}
 use Rattle.mpw_columns.specs.Seen.{seen_on}
 use Rattle.mpw_columns.specs.declared.layout.Layout.{Layout}
 use Rattle.mpw_columns.specs.declared.kept.Solved.{Solved}

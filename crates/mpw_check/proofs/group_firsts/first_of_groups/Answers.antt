@@ -3,7 +3,7 @@ use Rattle.std.proofs.Common.{◌∙◌, List, length, ap, subst}
 use Rattle.std.specs.Prelude.{IfSome}
 use Rattle.std.specs.List.{AllZip}
 use Rattle.mpw_deck.specs.declared.rule.Rule.{Rule}
-use Rattle.mpw_groups.specs.Joined.{AreOwners}
+use Rattle.mpw_check_groups.specs.Joined.{AreOwners}
 use Rattle.mpw_check.specs.Internal.Groups.{AreGroupFirsts}
 use Rattle.mpw_check.proofs.GroupLemmas.{few_owners}
 use Rattle.mpw_check.proofs.GroupFirsts.{firsts_are}

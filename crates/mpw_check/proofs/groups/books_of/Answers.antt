@@ -1,7 +1,7 @@
 -- Answers to the goals of `books_of` in `src/groups.rt`.
 use Rattle.std.proofs.Common.{subst}
 use Rattle.std.specs.Prelude.{IfSome}
-use Rattle.mpw_groups.specs.Joined.{AreGroupMarkers}
+use Rattle.mpw_check_groups.specs.Joined.{AreGroupMarkers}
 use Rattle.mpw_check.proofs.GroupLemmas.{group_all, group_more}
 use Rattle.mpw_check.proofs.groups.books_of.Goals as goal
 

@@ -1,7 +1,7 @@
 -- The invariants of the loops of `books_of` in `src/groups.rt`.
 use Rattle.std.proofs.Common.{take}
 use Rattle.std.specs.List.{AllZip}
-use Rattle.mpw_groups.specs.Joined.{AreGroupMarkers}
+use Rattle.mpw_check_groups.specs.Joined.{AreGroupMarkers}
 use Rattle.mpw_check.proofs.groups.books_of.Given as goal
 
 abbrev pub invariant-loop-group : goal.invariant-loop-group

@@ -4,7 +4,7 @@ use Rattle.std.specs.Prelude.{IfSome}
 use Rattle.std.specs.List.{AllZip}
 use Rattle.mpw_deck.specs.declared.rule.Rule.{Rule}
 use Rattle.mpw_job.specs.Layout.{AreLayoutMarkers}
-use Rattle.mpw_groups.specs.Joined.{AreGroupMarkers, AreOwners}
+use Rattle.mpw_check_groups.specs.Joined.{AreGroupMarkers, AreOwners}
 use Rattle.mpw_check.proofs.GroupLemmas.{few_owners, joined_are}
 use Rattle.mpw_check.proofs.groups.check_groups.Goals as goal
 

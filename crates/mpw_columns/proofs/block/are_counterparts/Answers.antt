@@ -1,7 +1,7 @@
 -- Answers to the goals of `are_counterparts` in `src/block.rt`.
 use Rattle.std.proofs.Common.{◌+◌, pos, ◌-ℤ◌, arith}
 use Rattle.mpw_edges.specs.declared.run.Axis.TheVariants.{V}
-use Rattle.mpw_keys.specs.declared.column.Column.{Column}
+use Rattle.mpw_columns_keys.specs.declared.column.Column.{Column}
 use Rattle.mpw_columns.proofs.Blocked.{counterparts_more}
 use Rattle.mpw_columns.proofs.block.are_counterparts.Goals as goal
 

@@ -1,7 +1,7 @@
 -- Answers to the goals of `all_lists` in `src/check.rt`.
 use Rattle.std.proofs.Common.{◌∙◌, ◌+◌, ◌++◌, ℕ, List, length, take, drop, take-add, sym, subst, arith}
 use Rattle.std.specs.List.{AllZip}
-use Rattle.mpw_keys.specs.declared.column.Column.{Column}
+use Rattle.mpw_columns_keys.specs.declared.column.Column.{Column}
 use Rattle.mpw_columns.specs.Lists.{IsColumnList}
 use Rattle.mpw_columns.proofs.Zipped.{zip_append}
 use Rattle.mpw_columns.proofs.check.all_lists.Goals as goal

@@ -1,8 +1,8 @@
 -- Answers to the goals of `every_list` in `src/check.rt`.
 use Rattle.std.proofs.Common.{◌∙◌, sym, subst}
 use Rattle.std.specs.Prelude.{All}
-use Rattle.mpw_keys.specs.declared.column.Column.{Column}
-use Rattle.mpw_keys.specs.Columns.{seen_box, upright}
+use Rattle.mpw_columns_keys.specs.declared.column.Column.{Column}
+use Rattle.mpw_columns_keys.specs.Columns.{seen_box, upright}
 use Rattle.mpw_columns.specs.Internal.Found.{IsUpright}
 use Rattle.mpw_columns.proofs.Liked.{own_all}
 use Rattle.mpw_columns.proofs.check.every_list.Goals as goal

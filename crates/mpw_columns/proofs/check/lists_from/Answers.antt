@@ -2,7 +2,7 @@
 use Rattle.std.proofs.Common.{◌≡◌, ◌∙◌, ◌≤◌, ℕ, List, length, length-drop, length-take-le, take, drop, ap, sym, subst, arith}
 use Rattle.std.specs.List.{AllZip}
 use Rattle.std.proofs.lemmas.Result.{IfOk-weaker}
-use Rattle.mpw_keys.specs.declared.column.Column.{Column}
+use Rattle.mpw_columns_keys.specs.declared.column.Column.{Column}
 use Rattle.mpw_columns.specs.Lists.{IsColumnList}
 use Rattle.mpw_columns.proofs.Zipped.{zip_length}
 use Rattle.mpw_columns.proofs.check.lists_from.Goals as goal

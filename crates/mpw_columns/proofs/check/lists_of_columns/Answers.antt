@@ -2,8 +2,8 @@
 use Rattle.std.proofs.Common.{rules, subst, sym}
 use Rattle.std.specs.Prelude.{All}
 use Rattle.mpw_geom.specs.declared.plane.Box2.{Box2}
-use Rattle.mpw_keys.specs.declared.column.Column.{Column}
-use Rattle.mpw_keys.specs.Columns.{seen_box, upright}
+use Rattle.mpw_columns_keys.specs.declared.column.Column.{Column}
+use Rattle.mpw_columns_keys.specs.Columns.{seen_box, upright}
 use Rattle.mpw_columns.specs.Internal.Found.{IsUpright}
 use Rattle.mpw_columns.proofs.Looking.{columns_upright}
 use Rattle.mpw_columns.proofs.Planned.{none_listed}

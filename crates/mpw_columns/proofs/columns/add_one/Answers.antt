@@ -1,7 +1,7 @@
 -- Answers to the goals of `add_one` in `src/columns.rt`.
 use Rattle.std.proofs.Common.{List, refl, sym, subst}
-use Rattle.mpw_keys.specs.declared.column.Column.{Column}
-use Rattle.mpw_keys.specs.Columns.{AreColumns}
+use Rattle.mpw_columns_keys.specs.declared.column.Column.{Column}
+use Rattle.mpw_columns_keys.specs.Columns.{AreColumns}
 use Rattle.mpw_columns.proofs.Covering.{columns_push}
 use Rattle.mpw_columns.proofs.columns.add_one.Goals as goal
 

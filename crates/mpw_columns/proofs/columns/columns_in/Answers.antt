@@ -1,7 +1,7 @@
 -- Answers to the goals of `columns_in` in `src/columns.rt`.
 use Rattle.std.proofs.Common.{pos, ◌+ℤ◌, List, length, ap, sym, subst, arith}
-use Rattle.mpw_keys.specs.declared.column.Column.{Column}
-use Rattle.mpw_keys.specs.Columns.{AreColumns}
+use Rattle.mpw_columns_keys.specs.declared.column.Column.{Column}
+use Rattle.mpw_columns_keys.specs.Columns.{AreColumns}
 use Rattle.mpw_columns.proofs.Covering.{moved}
 use Rattle.mpw_columns.proofs.columns.columns_in.Goals as goal
 

@@ -4,7 +4,7 @@ use Rattle.mpw_geom.specs.declared.plane.Box2.{Box2}
 use Rattle.mpw_walk.specs.Window.{items_met}
 use Rattle.mpw_tiles.specs.Snapshots.{shown}
 use Rattle.mpw_tiles.proofs.Looking.{same_shown}
-use Rattle.mpw_keys.specs.Columns.{seen_box}
+use Rattle.mpw_columns_keys.specs.Columns.{seen_box}
 use Rattle.mpw_columns.proofs.columns.walk_within.Goals as goal
 
 pub returns : goal.returns

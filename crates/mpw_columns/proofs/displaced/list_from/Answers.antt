@@ -2,7 +2,7 @@
 use Rattle.std.proofs.Common.{◌∙◌, ℤ, ◌-ℤ◌, map, ap, sym, subst, arith}
 use Rattle.std.proofs.lemmas.Int.{ints}
 use Rattle.std.proofs.lemmas.Result.{IfOk-weaker}
-use Rattle.mpw_keys.specs.Keys.{displaced_key}
+use Rattle.mpw_columns_keys.specs.Keys.{displaced_key}
 use Rattle.mpw_columns.specs.Lists.{IsColumnList}
 use Rattle.mpw_columns.proofs.DisplacedLists.{list_near}
 use Rattle.mpw_columns.proofs.displaced.list_from.Goals as goal

@@ -4,7 +4,7 @@ use Rattle.mpw_geom.specs.declared.plane.Box2.{Box2}
 use Rattle.mpw_hier.specs.declared.submission.Submission.{Submission}
 use Rattle.mpw_hier.specs.Values.{flat}
 use Rattle.mpw_walk.specs.Turns.{flat_roots}
-use Rattle.mpw_keys.specs.Columns.{seen_box, upright, across}
+use Rattle.mpw_columns_keys.specs.Columns.{seen_box, upright, across}
 use Rattle.mpw_columns.proofs.Alike.{contents_tell}
 use Rattle.mpw_columns.proofs.equal.contents_of.Goals as goal
 

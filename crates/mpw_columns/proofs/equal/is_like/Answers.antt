@@ -1,8 +1,8 @@
 -- Answers to the goals of `is_like` in `src/equal.rt`.
 use Rattle.std.proofs.Common.{◌≡◌, ◌∙◌, ◌-ℤ◌, map, subst}
 use Rattle.mpw_geom.specs.declared.plane.Point.{Point}
-use Rattle.mpw_contents.specs.Displaced.{moved}
-use Rattle.mpw_contents.specs.Things.{things_items}
+use Rattle.mpw_columns_contents.specs.Displaced.{moved}
+use Rattle.mpw_columns_contents.specs.Things.{things_items}
 use Rattle.mpw_columns.proofs.Alike.{shown_displaced}
 use Rattle.mpw_columns.proofs.equal.is_like.Goals as goal
 

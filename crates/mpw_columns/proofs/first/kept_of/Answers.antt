@@ -1,8 +1,8 @@
 -- Answers to the goals of `kept_of` in `src/first.rt`.
 use Rattle.std.proofs.Common.{◌∙◌, length, ap}
-use Rattle.mpw_keys.specs.Firsts.{capped}
-use Rattle.mpw_keys.specs.declared.first.First.{First}
-use Rattle.mpw_keys.proofs.Room.{counted_more, counted_all}
+use Rattle.mpw_columns_keys.specs.Firsts.{capped}
+use Rattle.mpw_columns_keys.specs.declared.first.First.{First}
+use Rattle.mpw_columns_keys.proofs.Room.{counted_more, counted_all}
 use Rattle.mpw_columns.proofs.first.kept_of.Goals as goal
 
 pub loop-list-preserved : goal.loop-list-preserved

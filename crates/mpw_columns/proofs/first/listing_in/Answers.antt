@@ -2,9 +2,9 @@
 use Rattle.std.proofs.Common.{◌∙◌, ◌*◌, length, List, ap, sym, subst}
 use Rattle.std.specs.Prelude.{All}
 use Rattle.std.specs.List.{AllZip}
-use Rattle.mpw_keys.specs.declared.column.Column.{Column}
-use Rattle.mpw_keys.specs.Columns.{seen_box, upright}
-use Rattle.mpw_keys.specs.Keys.{IsNear}
+use Rattle.mpw_columns_keys.specs.declared.column.Column.{Column}
+use Rattle.mpw_columns_keys.specs.Columns.{seen_box, upright}
+use Rattle.mpw_columns_keys.specs.Keys.{IsNear}
 use Rattle.mpw_columns.specs.Internal.Firsts.{HasFirsts, IsPlacedAt}
 use Rattle.mpw_columns.specs.Internal.Found.{IsUpright}
 use Rattle.mpw_columns.specs.Internal.Like.{own_columns}

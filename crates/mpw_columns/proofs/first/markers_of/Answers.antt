@@ -1,11 +1,11 @@
 -- Answers to the goals of `markers_of` in `src/first.rt`.
 use Rattle.std.proofs.Common.{◌≡◌, ◌∙◌, ◌*◌, ℕ, List, length, length-append, map, sum_by, take, drop, ap, sym, subst, arith}
 use Rattle.std.specs.List.{AllZip, range_with_len}
-use Rattle.mpw_keys.specs.declared.column.Column.{Column}
-use Rattle.mpw_keys.specs.declared.first.Firsts.{Firsts}
-use Rattle.mpw_keys.specs.declared.placed.Placed.{Placed}
-use Rattle.mpw_keys.specs.Firsts.{capped, first_placed, rule_counted, IsListed}
-use Rattle.mpw_keys.specs.Keys.{of_first, together}
+use Rattle.mpw_columns_keys.specs.declared.column.Column.{Column}
+use Rattle.mpw_columns_keys.specs.declared.first.Firsts.{Firsts}
+use Rattle.mpw_columns_keys.specs.declared.placed.Placed.{Placed}
+use Rattle.mpw_columns_keys.specs.Firsts.{capped, first_placed, rule_counted, IsListed}
+use Rattle.mpw_columns_keys.specs.Keys.{of_first, together}
 use Rattle.mpw_columns.specs.Lists.{IsColumnList}
 use Rattle.mpw_columns.proofs.ListingMade.{have_sides, same_first, zip_drop, zip_take}
 use Rattle.mpw_columns.proofs.Zipped.{zip_front, zip_length}

@@ -3,8 +3,8 @@ use Rattle.std.proofs.Common.{ℕ, pos, ◌≡◌, ◌∙◌, ◌+◌, drop, get
 use Rattle.std.specs.List.{AllZip}
 use Rattle.std.proofs.lemmas.List.{take_all}
 use Rattle.mpw_edges.specs.declared.run.Axis.TheVariants.{V}
-use Rattle.mpw_keys.specs.declared.column.Column.{Column}
-use Rattle.mpw_keys.specs.declared.placed.Placed.{Placed}
+use Rattle.mpw_columns_keys.specs.declared.column.Column.{Column}
+use Rattle.mpw_columns_keys.specs.declared.placed.Placed.{Placed}
 use Rattle.mpw_columns.specs.Internal.Firsts.{IsPlacedAt}
 use Rattle.mpw_columns.specs.Internal.Like.{own_columns}
 use Rattle.mpw_columns.proofs.Liked.{more, of_none, of_some, earlier_list, lists_long}

@@ -4,7 +4,7 @@ use Rattle.std.specs.List.{AllZip}
 use Rattle.std.specs.Option.{option_to_list}
 use Rattle.std.specs.Vec.Iter.{into_iter_items}
 use Rattle.mpw_edges.specs.declared.run.Axis.TheVariants.{V}
-use Rattle.mpw_keys.specs.declared.column.Column.{Column}
+use Rattle.mpw_columns_keys.specs.declared.column.Column.{Column}
 use Rattle.mpw_columns.specs.Internal.Like.{own_columns}
 use Rattle.mpw_columns.specs.Lists.{IsColumnList}
 use Rattle.mpw_columns.proofs.Liked.{more, next_own, of_none, of_some, earlier_list, lists_long, some_left}

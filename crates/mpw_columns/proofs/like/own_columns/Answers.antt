@@ -1,7 +1,7 @@
 -- Answers to the goals of `own_columns` in `src/like.rt`.
 use Rattle.std.proofs.Common.{◌≡◌, ◌++◌, ◌+◌, List, None, pos, drop, sym, subst, ap}
 use Rattle.mpw_edges.specs.declared.run.Axis.TheVariants.{V}
-use Rattle.mpw_keys.specs.declared.column.Column.{Column}
+use Rattle.mpw_columns_keys.specs.declared.column.Column.{Column}
 use Rattle.mpw_columns.specs.Internal.Like.{own_columns}
 use Rattle.mpw_columns.proofs.Liked.{one_more, no_more, none_is, some_is}
 use Rattle.mpw_columns.proofs.like.own_columns.Goals.{then-is_none+in_ok-push, else-is_none}

@@ -2,7 +2,7 @@
 use Rattle.std.proofs.Common.{◌+◌, arith}
 use Rattle.std.proofs.lemmas.Int.{ints}
 use Rattle.mpw_geom.proofs.Boxes.{same_box}
-use Rattle.mpw_keys.specs.Columns.{across}
+use Rattle.mpw_columns_keys.specs.Columns.{across}
 use Rattle.mpw_columns.proofs.part.window_of.Goals as goal
 
 pub returns : goal.returns

@@ -2,7 +2,7 @@
 use Rattle.std.proofs.Common.{pos, ◌+ℤ◌, sym, subst}
 use Rattle.std.proofs.lemmas.Result.{IfOk-weaker}
 use Rattle.mpw_geom.specs.declared.plane.Box2.{Box2}
-use Rattle.mpw_keys.specs.Columns.{AreColumns}
+use Rattle.mpw_columns_keys.specs.Columns.{AreColumns}
 use Rattle.mpw_columns.specs.Internal.Found.{IsWide}
 use Rattle.mpw_columns.proofs.Looking.{seen_wide}
 use Rattle.mpw_columns.proofs.plan.columns_along.Goals as goal

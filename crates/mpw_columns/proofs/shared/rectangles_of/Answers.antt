@@ -4,7 +4,7 @@ use Rattle.std.proofs.lemmas.Result.{IfOk-weaker}
 use Rattle.mpw_geom.specs.declared.plane.Box2.{Box2}
 use Rattle.mpw_tiles.specs.declared.listing.Rectangle.{Rectangle}
 use Rattle.mpw_job.specs.Answers.{listed_on}
-use Rattle.mpw_keys.specs.Columns.{across}
+use Rattle.mpw_columns_keys.specs.Columns.{across}
 use Rattle.mpw_columns.specs.Internal.Checked.{IsShared}
 use Rattle.mpw_columns.specs.Internal.Found.{AgreeAll}
 use Rattle.mpw_columns.proofs.Blocked.{agree_within}

@@ -4,11 +4,11 @@ use Rattle.std.specs.Prelude.{All}
 use Rattle.mpw_geom.specs.declared.plane.Box2.{Box2}
 use Rattle.mpw_edges.specs.declared.run.Axis.TheVariants.{V, H}
 use Rattle.mpw_hier.specs.declared.submission.Submission.{Submission}
-use Rattle.mpw_contents.specs.Boxes.{AreBoxesOf}
-use Rattle.mpw_contents.specs.Contents.{IsBoxed}
-use Rattle.mpw_contents.specs.Things.{things_items}
+use Rattle.mpw_columns_contents.specs.Boxes.{AreBoxesOf}
+use Rattle.mpw_columns_contents.specs.Contents.{IsBoxed}
+use Rattle.mpw_columns_contents.specs.Things.{things_items}
 use Rattle.mpw_tiles.specs.Snapshots.{shown}
-use Rattle.mpw_keys.specs.Columns.{seen_box}
+use Rattle.mpw_columns_keys.specs.Columns.{seen_box}
 use Rattle.mpw_columns.specs.Internal.Pieces.{MeetsSquaresOf}
 use Rattle.mpw_columns.proofs.ThingsListed.{all_told}
 use Rattle.mpw_columns.proofs.Windowed.{meets_first, meets_second}

@@ -2,7 +2,7 @@
 use Rattle.std.proofs.Common.{◌∙◌, List, ap}
 use Rattle.std.proofs.lemmas.Result.{on_ok_weaker}
 use Rattle.mpw_hier.specs.declared.submission.Submission.{Submission}
-use Rattle.mpw_contents.specs.Things.{element_in}
+use Rattle.mpw_columns_contents.specs.Things.{element_in}
 use Rattle.mpw_columns.proofs.ThingsListed.{nothing_listed, something_listed}
 use Rattle.mpw_columns.proofs.things.list_thing.Goals as goal
 

@@ -2,9 +2,9 @@
 use Rattle.std.proofs.Common.{List, ◌++◌, take, subst, sym}
 use Rattle.std.proofs.lemmas.List.{take_all}
 use Rattle.mpw_hier.specs.Items.{Item}
-use Rattle.mpw_contents.specs.declared.thing.Thing.{Thing}
-use Rattle.mpw_contents.specs.declared.thing.Thing.TheVariants as variants
-use Rattle.mpw_contents.specs.Things.{things_items}
+use Rattle.mpw_columns_contents.specs.declared.thing.Thing.{Thing}
+use Rattle.mpw_columns_contents.specs.declared.thing.Thing.TheVariants as variants
+use Rattle.mpw_columns_contents.specs.Things.{things_items}
 use Rattle.mpw_columns.specs.Internal.Listed.{ShowSeen}
 use Rattle.mpw_columns.proofs.ThingsListed.{no_things_listed, thing_listed, shape_items}
 use Rattle.mpw_columns.proofs.things.list_things.Goals as goal

@@ -1,6 +1,6 @@
 -- The invariants of the loops of `list_things` in `src/things.rt`.
 use Rattle.std.proofs.Common.{take}
-use Rattle.mpw_contents.specs.Things.{things_items}
+use Rattle.mpw_columns_contents.specs.Things.{things_items}
 use Rattle.mpw_columns.specs.Internal.Listed.{ShowSeen}
 use Rattle.mpw_columns.proofs.things.list_things.Given as goal
 

@@ -1,7 +1,7 @@
 -- Answers to the goals of `rectangles_of_things` in `src/things.rt`.
 use Rattle.std.proofs.Common.{List, subst, IfSome}
-use Rattle.mpw_contents.specs.declared.thing.Thing.{Thing}
-use Rattle.mpw_contents.specs.Things.{things_items}
+use Rattle.mpw_columns_contents.specs.declared.thing.Thing.{Thing}
+use Rattle.mpw_columns_contents.specs.Things.{things_items}
 use Rattle.mpw_columns.specs.Internal.Listed.{ShowSeen}
 use Rattle.mpw_columns.specs.Internal.Pieces.{AreThingsIn}
 use Rattle.mpw_columns.proofs.ThingsListed.{of_some, part_told, rectangles_told}

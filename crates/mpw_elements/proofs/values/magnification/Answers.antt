@@ -3,7 +3,7 @@ use Rattle.std.proofs.Common.{Bool, Result, Ok, Err, pos, sym, ap, ◌∙◌, if
 use Rattle.mpw_records.specs.declared.fault.Code.TheVariants.{Magnification}
 use Rattle.mpw_records.specs.declared.fault.ReadFault.{ReadFault}
 use Rattle.mpw_records.specs.Records.{RawRecord, raw}
-use Rattle.mpw_records.specs.Real.{is_whole}
+use Rattle.mpw_real8.specs.Real.{is_whole}
 use Rattle.mpw_elements.specs.Reading.{fault_at}
 use Rattle.mpw_elements.specs.Values.{magnification_of}
 use Rattle.mpw_elements.proofs.values.magnification.Goals as goal

@@ -2,7 +2,7 @@
 use Rattle.std.proofs.Common.{◌≡◌, map, take}
 use Rattle.std.specs.String.{string_bytes}
 use Rattle.mpw_firm.specs.Uses.{input_name}
-use Rattle.mpw_outputs.specs.Apart.{names_of}
+use Rattle.mpw_firm_outputs.specs.Apart.{names_of}
 use Rattle.mpw_firm.proofs.apart.parts_of.Given as goal
 
 abbrev pub invariant-loop-file : goal.invariant-loop-file

@@ -2,9 +2,9 @@
 use Rattle.std.proofs.Common.{◌≡◌, ◌∙◌, map, ap, subst}
 use Rattle.std.specs.Prelude.{IfOk}
 use Rattle.std.specs.String.{string_bytes}
-use Rattle.mpw_outputs.specs.Outputs.{AreApart}
+use Rattle.mpw_firm_outputs.specs.Outputs.{AreApart}
 use Rattle.mpw_firm.specs.Uses.{input_name, stitch_inputs, stitch_outputs}
-use Rattle.mpw_outputs.specs.Apart.{names_of}
+use Rattle.mpw_firm_outputs.specs.Apart.{names_of}
 use Rattle.mpw_firm.proofs.apart.stitch_apart.Goals as goal
 
 pub returns-clause-apart : goal.returns-clause-apart

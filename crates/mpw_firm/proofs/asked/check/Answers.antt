@@ -4,10 +4,10 @@ use Rattle.std.proofs.lemmas.List.{length-map}
 use Rattle.std.specs.String.{string_bytes}
 use Rattle.mpw_deck.specs.Decks.{Deck}
 use Rattle.mpw_deck.specs.declared.rule.Rule.{Rule}
-use Rattle.mpw_outputs.specs.Outputs.{Kept}
-use Rattle.mpw_report.specs.Content.{Noted, Told, fault_of, note_of}
-use Rattle.mpw_sources.specs.Notes.{notes_of}
-use Rattle.mpw_sources.specs.Seen.{told_seen}
+use Rattle.mpw_firm_outputs.specs.Outputs.{Kept}
+use Rattle.mpw_firm_report.specs.Content.{Noted, Told, fault_of, note_of}
+use Rattle.mpw_firm_sources.specs.Notes.{notes_of}
+use Rattle.mpw_firm_sources.specs.Seen.{told_seen}
 use Rattle.mpw_tiles.specs.Snapshots.{Snapshot}
 use Rattle.mpw_firm.specs.Came.{PutsAll, shown_by}
 use Rattle.mpw_firm.specs.Held.{IsFoundOf}

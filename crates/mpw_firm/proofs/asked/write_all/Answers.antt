@@ -3,12 +3,12 @@ use Rattle.std.proofs.Common.{List, length, map, option_map, subst}
 use Rattle.std.proofs.lemmas.Result.{IfOk-weaker}
 use Rattle.std.specs.String.{string_bytes}
 use Rattle.mpw_markers.specs.declared.marker.Marker.{Marker}
-use Rattle.mpw_outputs.proofs.Growth.{grows_named}
-use Rattle.mpw_picture.specs.Drawn.{IsDrawnWith}
+use Rattle.mpw_firm_outputs.proofs.Growth.{grows_named}
+use Rattle.mpw_firm_picture.specs.Drawn.{IsDrawnWith}
 use Rattle.mpw_firm.specs.Held.{enough_listed}
 use Rattle.mpw_firm.specs.Keys.{IsViewOf}
 use Rattle.mpw_firm.specs.Shown.{areas_of, most_of}
-use Rattle.mpw_report.specs.Content.{fault_of}
+use Rattle.mpw_firm_report.specs.Content.{fault_of}
 use Rattle.mpw_firm.proofs.HeldTexts.{all_for, all_of, all_wanted}
 use Rattle.mpw_firm.proofs.asked.write_all.Goals as goal
 

@@ -2,7 +2,7 @@
 use Rattle.std.proofs.Common.{ℕ, List, Option, inr, subst}
 use Rattle.std.specs.Prelude.{IfOk}
 use Rattle.std.proofs.lemmas.Result.{IfErr-weaker}
-use Rattle.mpw_outputs.specs.Outputs.{Grows}
+use Rattle.mpw_firm_outputs.specs.Outputs.{Grows}
 use Rattle.mpw_firm.specs.Faulty.{faulty_texts}
 use Rattle.mpw_firm.proofs.faulty.put_for.Goals as goal
 

@@ -1,6 +1,6 @@
 -- Answers to the goals of `check_range` in `src/part.rt`.
 use Rattle.std.proofs.Common.{◌∙◌, List, ℕ, None, refl, subst, rules}
-use Rattle.mpw_spread.specs.Spread.{IsPartOf}
+use Rattle.mpw_firm_spread.specs.Spread.{IsPartOf}
 use Rattle.mpw_firm.specs.Drawings.{IsDrawnOf}
 use Rattle.mpw_firm.proofs.Flat.{part_named, part_read}
 use Rattle.mpw_firm.proofs.part.check_range.Goals as goal

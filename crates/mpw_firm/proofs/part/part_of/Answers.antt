@@ -1,8 +1,8 @@
 -- Answers to the goals of `part_of` in `src/part.rt`.
 use Rattle.std.proofs.Common.{◌≡◌, ◌∙◌, ◌+◌, ◌-◌, ℕ, List, length, take, drop, Option, Some, ap, sym, subst, arith}
-use Rattle.mpw_keys.specs.declared.column.Column.{Column}
-use Rattle.mpw_spread.specs.Ranges.{IsSpanOf}
-use Rattle.mpw_spread.specs.declared.range.Span.{Span}
+use Rattle.mpw_columns_keys.specs.declared.column.Column.{Column}
+use Rattle.mpw_firm_spread.specs.Ranges.{IsSpanOf}
+use Rattle.mpw_firm_spread.specs.declared.range.Span.{Span}
 use Rattle.mpw_firm.proofs.part.part_of.Goals as goal
 
 -- A span by its first column and how many there are.

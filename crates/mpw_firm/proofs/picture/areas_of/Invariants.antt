@@ -1,6 +1,6 @@
 -- The invariants of the loops of `areas_of` in `src/picture.rt`.
 use Rattle.std.proofs.Common.{◌≡◌, map, take}
-use Rattle.mpw_report.specs.Content.{fault_of}
+use Rattle.mpw_firm_report.specs.Content.{fault_of}
 use Rattle.mpw_firm.specs.Shown.{areas_of}
 use Rattle.mpw_firm.proofs.picture.areas_of.Given as goal
 

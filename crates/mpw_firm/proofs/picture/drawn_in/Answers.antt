@@ -4,8 +4,8 @@ use Rattle.std.specs.Prelude.{IfOk}
 use Rattle.std.proofs.lemmas.List.{length-map}
 use Rattle.mpw_geom.specs.declared.plane.Box2.{Box2}
 use Rattle.mpw_markers.specs.declared.marker.Marker.{Marker}
-use Rattle.mpw_picture.specs.Drawn.{IsDrawnWith}
-use Rattle.mpw_report.specs.Content.{fault_of}
+use Rattle.mpw_firm_picture.specs.Drawn.{IsDrawnWith}
+use Rattle.mpw_firm_report.specs.Content.{fault_of}
 use Rattle.mpw_firm.specs.Shown.{areas_of, markers_of}
 use Rattle.mpw_firm.proofs.picture.drawn_in.Goals as goal
 

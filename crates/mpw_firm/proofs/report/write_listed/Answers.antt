@@ -2,8 +2,8 @@
 use Rattle.std.proofs.Common.{List, option_map, subst}
 use Rattle.std.proofs.lemmas.Result.{IfOk-weaker}
 use Rattle.std.specs.String.{string_bytes}
-use Rattle.mpw_outputs.proofs.Growth.{grows_more}
-use Rattle.mpw_outputs.specs.Outputs.{Grows, Kept}
+use Rattle.mpw_firm_outputs.proofs.Growth.{grows_more}
+use Rattle.mpw_firm_outputs.specs.Outputs.{Grows, Kept}
 use Rattle.mpw_firm.proofs.HeldTexts.{told_same}
 use Rattle.mpw_firm.proofs.report.write_listed.Goals as goal
 

@@ -2,7 +2,7 @@
 use Rattle.std.proofs.Common.{◌≡◌, ℕ, ◌-◌, List, length, take, drop, Err, sym, ap, ◌∙◌, arith}
 use Rattle.std.proofs.lemmas.List.{take_all, length-drop}
 use Rattle.mpw_records.specs.Records.{raw}
-use Rattle.mpw_records.specs.Real.{real_value, nanometres}
+use Rattle.mpw_real8.specs.Real.{real_value, nanometres}
 use Rattle.mpw_library.specs.Grammar.{unit_of, unit_or_fault}
 use Rattle.mpw_library.proofs.read.unit.Goals as goal
 

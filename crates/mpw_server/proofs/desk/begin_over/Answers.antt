@@ -1,9 +1,9 @@
 -- Answers to the goals of `begin_over` in `src/desk.rt`.
 use Rattle.std.proofs.Common.{◌≡◌, ◌∙◌, Err, ap, rules, subst, sym}
 use Rattle.sqlite.specs.Held.{state}
-use Rattle.mpw_keeper.specs.Kept.{failures_of, kept_by, kept_in}
-use Rattle.mpw_stored_script.proofs.ServingLemmas.{begins, holds, known_clean, unopened_by}
-use Rattle.mpw_stored_script.specs.Serving.{IsUnopened}
+use Rattle.mpw_store_keeper.specs.Kept.{failures_of, kept_by, kept_in}
+use Rattle.mpw_stored_desk.proofs.ServingLemmas.{begins, holds, known_clean, unopened_by}
+use Rattle.mpw_stored_desk.specs.Serving.{IsUnopened}
 use Rattle.mpw_server.proofs.Numbers.{above-greatest}
 use Rattle.mpw_server.proofs.desk.begin_over.Goals as goal
 

@@ -1,7 +1,7 @@
 -- Answers to the goals of `serve_kept` in `src/serving.rt`.
 use Rattle.std.proofs.Common.{IfOk, subst}
 use Rattle.mpw_events.specs.History.{kept_desk}
-use Rattle.mpw_keeper.specs.Kept.{failures_of, kept_by}
+use Rattle.mpw_store_keeper.specs.Kept.{failures_of, kept_by}
 use Rattle.mpw_service.specs.Served.{IsServed}
 use Rattle.mpw_server.proofs.serving.serve_kept.Goals as goal
 

@@ -2,7 +2,7 @@
 use Rattle.std.proofs.Common.{refl, subst, sym}
 use Rattle.sqlite.specs.Held.{state}
 use Rattle.mpw_events.specs.History.{kept_desk}
-use Rattle.mpw_keeper.specs.Kept.{failures_of, kept_by}
+use Rattle.mpw_store_keeper.specs.Kept.{failures_of, kept_by}
 use Rattle.mpw_server.specs.Stored.{ComesBack, Ends}
 use Rattle.mpw_server.proofs.StoredLemmas.{ends_by, ends_lost}
 use Rattle.mpw_server.proofs.serving.serve_opened.Goals as goal

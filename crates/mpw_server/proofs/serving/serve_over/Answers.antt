@@ -3,7 +3,7 @@ use Rattle.std.proofs.Common.{subst, sym}
 use Rattle.std.specs.Prelude.{is_some}
 use Rattle.sqlite.specs.Held.{state}
 use Rattle.mpw_events.specs.History.{kept_desk}
-use Rattle.mpw_keeper.specs.Kept.{failures_of, kept_by}
+use Rattle.mpw_store_keeper.specs.Kept.{failures_of, kept_by}
 use Rattle.mpw_server.specs.Stored.{ComesBack, Ends, EndsOver}
 use Rattle.mpw_server.proofs.StoredLemmas.{ends_with}
 use Rattle.mpw_server.proofs.serving.serve_over.Goals as goal

@@ -1,5 +1,5 @@
 -- Answers to the goals of `store_of` in `src/serving.rt`.
-use Rattle.mpw_keeper.specs.Kept.{failures_of, kept_by}
+use Rattle.mpw_store_keeper.specs.Kept.{failures_of, kept_by}
 use Rattle.mpw_server.proofs.StoredLemmas.{ends_unshared}
 use Rattle.mpw_server.proofs.serving.store_of.Goals as goal
 

@@ -2,8 +2,8 @@
 use Rattle.std.proofs.Common.{◌≡◌, ◌∙◌, ℕ, ◌+◌, length, ap, sym, arith}
 use Rattle.std.specs.List.{range_with_len}
 use Rattle.std.proofs.lemmas.List.FromFn.{length-range_with_len, get_or-range_with_len}
-use Rattle.mpw_keys.specs.Firsts.{capped}
-use Rattle.mpw_keys.proofs.Room.{capped_same, counted_more, counted_all}
+use Rattle.mpw_columns_keys.specs.Firsts.{capped}
+use Rattle.mpw_columns_keys.proofs.Room.{capped_same, counted_more, counted_all}
 use Rattle.mpw_columns.specs.Internal.Counted.{keys_at}
 use Rattle.mpw_columns.proofs.check.Own.keys_from.Goals as goal
 

@@ -1,6 +1,6 @@
 -- Answers to the goals of `Earlier::look` in `src/earlier.rt`.
 use Rattle.std.proofs.Common.{List, Option, subst, IfSome}
-use Rattle.mpw_contents.specs.declared.thing.Thing.{Thing}
+use Rattle.mpw_columns_contents.specs.declared.thing.Thing.{Thing}
 use Rattle.mpw_columns.specs.Internal.Like.{AreContentsOf}
 use Rattle.mpw_columns.proofs.Alike.{kept_more}
 use Rattle.mpw_columns.proofs.earlier.Earlier.look.Goals as goal

@@ -1,5 +1,0 @@
--- The invariants of the loops of `lift` in `src/lifting.rt`.
-use Rattle.mpw_faults.proofs.lifting.+lift.Given as goal
-
-abbrev pub decreases-lift : goal.decreases-lift
-decreases-lift l = l.levels

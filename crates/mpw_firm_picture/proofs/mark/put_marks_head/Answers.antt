@@ -1,0 +1,14 @@
+-- Answers to the goals of `put_marks_head` in `src/mark.rt`.
+use Rattle.std.proofs.Common.{refl}
+use Rattle.mpw_text.proofs.Adding.{adds_same}
+use Rattle.mpw_firm_picture.specs.Marked.{marks_head}
+use Rattle.mpw_firm_picture.proofs.mark.put_marks_head.Goals as goal
+
+pub returns : goal.returns
+unfolding marks_head
+returns g c =
+    adds_same _ _ _ _ _ (rw (
+      c.format.ensures.text,
+      c.line_breadth.ensures,
+    ) refl)
+    c.put.ensures

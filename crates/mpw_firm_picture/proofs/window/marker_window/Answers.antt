@@ -1,0 +1,6 @@
+-- Answers to the goals of `marker_window` in `src/window.rt`.
+use Rattle.mpw_firm_picture.proofs.Windows.{widened_lies}
+use Rattle.mpw_firm_picture.proofs.window.marker_window.Goals as goal
+
+pub returns-clause-plane : goal.returns-clause-plane
+returns-clause-plane c = rw c.wider_box.ensures (widened_lies _ _)

@@ -1,8 +1,0 @@
--- The files of this crate's lemmas.
-pub mod SameKey
-pub mod KeyOrder
-pub mod Ordered
-pub mod Added
-pub mod Room
-pub mod Agree
-pub mod FirstOf

@@ -1,9 +1,0 @@
--- Answers to the goals of `sorted` in `src/keys.rt`.
-use Rattle.std.proofs.Common.{rules}
-use Rattle.mpw_keys.proofs.KeyOrder.{sorted_from_sort}
-use Rattle.mpw_keys.proofs.keys.sorted.Goals as goal
-
-pub returns-clause-sorted : goal.returns-clause-sorted
-returns-clause-sorted c =
-    sorted_from_sort c.sort_unstable_by.new.self.items c.sort_unstable_by.ensures.sorted
-    (λ a r f k. search rules)

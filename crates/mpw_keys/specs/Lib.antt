@@ -1,5 +1,0 @@
--- The files of this crate's definitions.
-pub mod Columns
-pub mod Firsts
-pub mod Keys
-pub mod Laws

@@ -1,6 +1,0 @@
--- Answers to the goals of `parts_are_read_back` in `src/laws.rt`.
-use Rattle.mpw_parts.proofs.PartLemmas.{parts_are_read_back}
-use Rattle.mpw_parts.proofs.laws.parts_are_read_back.Goals as goal
-
-pub returns : goal.returns
-returns c = parts_are_read_back

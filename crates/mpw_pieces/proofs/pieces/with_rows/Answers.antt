@@ -1,8 +1,0 @@
--- Answers to the goals of `with_rows` in `src/pieces.rt`.
-use Rattle.std.proofs.Common.{rules}
-use Rattle.std.proofs.lemmas.Fn.{filter_same}
-use Rattle.mpw_pieces.specs.Internal.{has_rows}
-use Rattle.mpw_pieces.proofs.pieces.with_rows.Goals as goal
-
-pub returns : goal.returns
-returns c = filter_same _ has_rows _ (λ x b f call. search rules) _ _ c.retain.ensures.filtered

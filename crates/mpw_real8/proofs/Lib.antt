@@ -1,0 +1,4 @@
+-- The files of this crate's lemmas.
+pub mod Near
+pub mod Scale
+pub mod Signs

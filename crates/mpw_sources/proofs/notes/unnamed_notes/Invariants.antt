@@ -1,9 +1,0 @@
--- The invariants of the loops of `unnamed_notes` in `src/notes.rt`.
-use Rattle.std.proofs.Common.{◌≡◌, map, take}
-use Rattle.mpw_report.specs.Content.{note_of}
-use Rattle.mpw_sources.specs.Notes.{unnamed_note}
-use Rattle.mpw_sources.proofs.notes.unnamed_notes.Given as goal
-
-abbrev pub invariant-loop-layer : goal.invariant-loop-layer
-invariant-loop-layer l =
-    map note_of l.notes.items ≡ map (unnamed_note l.snapshot) (take l.layer-index l.layers)

@@ -1,2 +1,0 @@
--- The files of this crate's lemmas.
-pub mod FaultLemmas

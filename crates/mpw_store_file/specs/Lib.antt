@@ -1,4 +1,0 @@
--- The files of this crate's definitions.
-pub mod Checkpoint
-pub mod Status
-pub mod Terms

@@ -1,3 +1,0 @@
--- The files of this crate's lemmas.
-pub mod ServingLemmas
-pub mod EndingLemmas
