@@ -5,9 +5,9 @@ use anyhow::{Result, bail};
 use mpw_edges::{Axis, Piece};
 use mpw_permissions::{Object, Operation};
 use mpw_replies::{
-    Code, Denial, Kept, Line, Lines, MarkerListing, MarkerView, MarkerViews, MaskedViews, MetCells,
-    Reply,
+    Kept, Line, Lines, MarkerListing, MarkerView, MarkerViews, MaskedViews, MetCells, Reply,
 };
+use mpw_trail::{Code, Denial};
 
 /// The most cells that a marker's line prints, and the most markers and rules of a listing.
 const MAX_CELLS: usize = 1024;

@@ -5,7 +5,7 @@ use Rattle.mpw_rbac.specs.Policy.{Policy, session_of, permits}
 use Rattle.mpw_requests.specs.declared.need.Need.{Need}
 use Rattle.mpw_requests.specs.declared.need.Need.TheVariants.{Nothing, Session, Permission}
 use Rattle.mpw_replies.specs.Rows.{denied}
-use Rattle.mpw_replies.specs.declared.reply.Denial.TheVariants as denial
+use Rattle.mpw_trail.specs.declared.verdict.Denial.TheVariants as denial
 use Rattle.mpw_replies.specs.declared.row.Ending.{Ending}
 use Rattle.mpw_replies.specs.declared.row.Ending.TheVariants as ending
 

@@ -7,8 +7,9 @@ ghost use Rattle.mpw_access.specs.Guard.{DeniedIsLacked, EnteredHas, HoldersEnte
 use mpw_geom::Name;
 use mpw_permissions::{Object, Operation};
 use mpw_rbac::Policy;
-use mpw_replies::{Denial, Ending};
+use mpw_replies::Ending;
 use mpw_requests::Need;
+use mpw_trail::Denial;
 
 /// The connection has a session.
 fn session(policy: &Policy, connection: u32) -> Result<(), Ending>

@@ -8,7 +8,7 @@ use Rattle.mpw_layouts.specs.Layouts as layouts
 use Rattle.mpw_placings.specs.declared.wafer.Wafer.{Wafer}
 use Rattle.mpw_rbac.specs.Policy.{Policy}
 use Rattle.mpw_replies.specs.Listing.{Listed}
-use Rattle.mpw_replies.specs.declared.entry.Entry.{Entry}
+use Rattle.mpw_trail.specs.declared.entry.Entry.{Entry}
 use Rattle.mpw_replies.specs.declared.row.Done.{Done}
 use Rattle.mpw_replies.specs.declared.row.Done.TheVariants.{Lists, Changes}
 use Rattle.mpw_replies.specs.declared.row.Ending.{Ending}

@@ -14,8 +14,9 @@ ghost use Rattle.mpw_replies.specs.Trail.{trail_lines};
 ghost use Rattle.mpw_requests.specs.Needs.{policy_need};
 
 use mpw_rbac::{Identity, Policy, PolicyFault, Refusal};
-use mpw_replies::{Code, Denial, Done, Ending, Fault, Line, Lines, Trail};
+use mpw_replies::{Done, Ending, Fault, Line, Lines};
 use mpw_requests::PolicyRequest;
+use mpw_trail::{Code, Denial, Trail};
 use std::alloc::{AllocError, Global};
 
 /// The denial or refusal for a failed test of the policy.

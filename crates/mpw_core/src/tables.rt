@@ -3,8 +3,8 @@
 use mpw_hier::Shelf;
 use mpw_placings::Wafer;
 use mpw_rbac::Policy;
-use mpw_replies::Trail;
 use mpw_run::Run;
+use mpw_trail::Trail;
 use mpw_waiver::Waivers;
 
 /// The tables of a desk: the policy, the shelf of submissions, the wafer, the run that checks it, the waivers of its markers, and the trail

@@ -38,7 +38,7 @@ use Rattle.mpw_requests.specs.declared.wafer.WaferRequest.TheVariants as wafer_a
 use Rattle.mpw_requests.specs.Needs.{need_of}
 use Rattle.mpw_replies.specs.Rows.{needed}
 use Rattle.mpw_replies.specs.Sight.{is_full}
-use Rattle.mpw_replies.specs.declared.reply.Code.TheVariants as code
+use Rattle.mpw_trail.specs.declared.verdict.Code.TheVariants as code
 use Rattle.mpw_replies.specs.declared.reply.Line.TheVariants as line
 use Rattle.mpw_replies.specs.declared.row.Ending.TheVariants as ending
 use Rattle.mpw_wafer.specs.Run.Checking.{at_rest, cover_test, going_on, planning_over, run_row, snapshot_of}

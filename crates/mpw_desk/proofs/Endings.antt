@@ -25,8 +25,8 @@ use Rattle.mpw_requests.specs.declared.layouts.LayoutRequest.TheVariants as layo
 use Rattle.mpw_requests.specs.declared.request.Request.TheVariants as ask
 use Rattle.mpw_replies.specs.Listing.{Listed}
 use Rattle.mpw_replies.specs.Rows.{◌>>=◌, changing, denied, ended_by, listing, needed}
-use Rattle.mpw_replies.specs.declared.reply.Code.{Code}
-use Rattle.mpw_replies.specs.declared.reply.Code.TheVariants as code
+use Rattle.mpw_trail.specs.declared.verdict.Code.{Code}
+use Rattle.mpw_trail.specs.declared.verdict.Code.TheVariants as code
 use Rattle.mpw_replies.specs.declared.reply.Line.{Line}
 use Rattle.mpw_replies.specs.declared.reply.Line.TheVariants as line
 use Rattle.mpw_replies.specs.declared.reply.Reply.{Reply}

@@ -9,7 +9,7 @@ use Rattle.mpw_laws.specs.ListingLaws.{BooksAreOfReadable}
 use Rattle.mpw_replies.specs.Listing.{Listed, stored}
 use Rattle.mpw_laws.specs.Readable.{IsOfReadable}
 use Rattle.mpw_replies.specs.Rows.{needed}
-use Rattle.mpw_replies.specs.declared.reply.Code.TheVariants as code
+use Rattle.mpw_trail.specs.declared.verdict.Code.TheVariants as code
 use Rattle.mpw_replies.specs.declared.reply.Line.TheVariants as line
 use Rattle.mpw_run.specs.declared.phase.Phase.{Phase}
 use Rattle.mpw_run.specs.declared.phase.Phase.TheVariants.{Idle, Cutting, Checking, Finished}

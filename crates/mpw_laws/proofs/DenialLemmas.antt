@@ -26,8 +26,8 @@ use Rattle.mpw_signoff.specs.SigningOff as signing
 use Rattle.mpw_events.specs.PolicyRows.{row_of}
 use Rattle.mpw_replies.proofs.RowParts.{changing_ended}
 use Rattle.mpw_replies.specs.Rows.{denied}
-use Rattle.mpw_replies.specs.declared.reply.Denial.{Denial}
-use Rattle.mpw_replies.specs.declared.reply.Denial.TheVariants as denial
+use Rattle.mpw_trail.specs.declared.verdict.Denial.{Denial}
+use Rattle.mpw_trail.specs.declared.verdict.Denial.TheVariants as denial
 use Rattle.mpw_replies.specs.declared.reply.Reply.TheVariants as reply
 use Rattle.mpw_replies.specs.declared.row.Done.{Done}
 use Rattle.mpw_replies.specs.declared.row.Ending.TheVariants as ending

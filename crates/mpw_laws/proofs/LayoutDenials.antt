@@ -15,7 +15,7 @@ use Rattle.mpw_hier.specs.Reach.{is_cyclic, is_far}
 use Rattle.mpw_requests.specs.declared.layouts.LayoutRequest.{LayoutRequest}
 use Rattle.mpw_requests.specs.declared.layouts.LayoutRequest.TheVariants as ask
 use Rattle.mpw_replies.specs.Rows.{needed}
-use Rattle.mpw_replies.specs.declared.reply.Code.TheVariants as code
+use Rattle.mpw_trail.specs.declared.verdict.Code.TheVariants as code
 use Rattle.mpw_replies.specs.declared.reply.Line.TheVariants as line
 use Rattle.mpw_layouts.specs.declared.ending.LayoutEnding.{LayoutEnding}
 use Rattle.mpw_layouts.specs.declared.ending.LayoutEnding.TheVariants.{Refused, Unusable}

@@ -18,8 +18,8 @@ use Rattle.mpw_signoff.specs.declared.ending.SignOffEnding.{SignOffEnding}
 use Rattle.mpw_signoff.specs.declared.ending.SignOffEnding.TheVariants as sign_off
 use Rattle.mpw_replies.proofs.RowParts.{changing_ended}
 use Rattle.mpw_replies.specs.Rows.{ended_by}
-use Rattle.mpw_replies.specs.declared.reply.Code.TheVariants as code
-use Rattle.mpw_replies.specs.declared.reply.Denial.TheVariants as denial
+use Rattle.mpw_trail.specs.declared.verdict.Code.TheVariants as code
+use Rattle.mpw_trail.specs.declared.verdict.Denial.TheVariants as denial
 use Rattle.mpw_replies.specs.declared.reply.Reply.TheVariants as reply
 use Rattle.mpw_replies.specs.declared.row.Ending.{Ending}
 use Rattle.mpw_replies.specs.declared.row.Ending.TheVariants as ending

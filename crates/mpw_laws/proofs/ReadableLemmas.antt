@@ -18,7 +18,7 @@ use Rattle.mpw_laws.specs.LayoutLaws.{LayoutsAreOfReadable}
 use Rattle.mpw_laws.specs.CheckingLaws.{MarkersAreOfReadable}
 use Rattle.mpw_laws.specs.SignOffLaws.{SignOffLinesAreOfReadable}
 use Rattle.mpw_replies.specs.Trail.{numbered_entries, trail_lines}
-use Rattle.mpw_replies.specs.declared.entry.Entry.{Entry}
+use Rattle.mpw_trail.specs.declared.entry.Entry.{Entry}
 use Rattle.mpw_placings.specs.declared.wafer.Wafer.{Wafer}
 use Rattle.mpw_wafer.specs.Wafers as wafers
 use Rattle.mpw_replies.specs.Listing.{Listed, stored, entry}

@@ -16,7 +16,7 @@ use Rattle.mpw_requests.specs.declared.layouts.LayoutRequest.TheVariants as ask
 use Rattle.mpw_laws.proofs.RowParts.{if_behind, if_listed, if_changed}
 use Rattle.mpw_replies.specs.Listing.{Listed, stored, line_if, shape_line}
 use Rattle.mpw_replies.specs.Rows.{needed}
-use Rattle.mpw_replies.specs.declared.reply.Code.TheVariants as code
+use Rattle.mpw_trail.specs.declared.verdict.Code.TheVariants as code
 use Rattle.mpw_laws.specs.LayoutLaws.{LayoutsAreOfReadable}
 use Rattle.mpw_laws.specs.Readable.{IsOfReadable}
 use Rattle.mpw_access.specs.Seen.{may_read}

@@ -12,7 +12,7 @@ use Rattle.mpw_hier.specs.Values.{flat}
 use Rattle.mpw_laws.proofs.RowParts.{if_behind, if_listed}
 use Rattle.mpw_replies.specs.Listing.{line_if, shape_line}
 use Rattle.mpw_replies.specs.Rows.{needed}
-use Rattle.mpw_replies.specs.declared.reply.Code.TheVariants as code
+use Rattle.mpw_trail.specs.declared.verdict.Code.TheVariants as code
 use Rattle.mpw_access.specs.Seen.{may_read}
 use Rattle.mpw_laws.specs.LayoutLaws.{IsShapeLine, ShapesAreNoReferences}
 use Rattle.mpw_layouts.specs.declared.ending.LayoutEnding.TheVariants.{Refused}

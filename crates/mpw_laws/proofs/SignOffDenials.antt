@@ -9,7 +9,7 @@ use Rattle.mpw_requests.specs.declared.sign_off.SignOffRequest.{SignOffRequest}
 use Rattle.mpw_requests.specs.declared.sign_off.SignOffRequest.TheVariants as ask
 use Rattle.mpw_replies.specs.Sight.{is_full}
 use Rattle.mpw_access.specs.Seen.{seen_by}
-use Rattle.mpw_replies.specs.declared.reply.Code.TheVariants as code
+use Rattle.mpw_trail.specs.declared.verdict.Code.TheVariants as code
 use Rattle.mpw_run.specs.declared.phase.Checked.{Checked}
 use Rattle.mpw_run.specs.declared.phase.Phase.TheVariants.{Finished}
 use Rattle.mpw_run.specs.Step.{Run, findings}

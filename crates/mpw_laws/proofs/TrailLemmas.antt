@@ -2,7 +2,7 @@
 use Rattle.std.proofs.Common.{◌≡◌, ℕ, Bool, true, false, cond, List, ◌++◌, refl, ap, ◌∙◌}
 use Rattle.std.specs.Prelude.{◌&&◌, not}
 use Rattle.mpw_requests.specs.declared.request.Request.{Request}
-use Rattle.mpw_replies.specs.declared.entry.Entry.{Entry}
+use Rattle.mpw_trail.specs.declared.entry.Entry.{Entry}
 use Rattle.mpw_events.specs.declared.event.Event.{Event}
 use Rattle.mpw_events.specs.declared.event.Event.TheVariants as event
 use Rattle.mpw_events.specs.Step.{State, Outcome, no_change, outcome_of, event_outcome, not_kept_response, settlement, step, response_of, entries_of, after}

@@ -32,10 +32,10 @@ ghost use Rattle.mpw_events.specs.declared.event.Response.TheVariants as respons
 ghost use Rattle.mpw_requests.specs.declared.request.Request.{Request as AnyRequest};
 ghost use Rattle.mpw_requests.specs.declared.request.Request.TheVariants as ask;
 ghost use Rattle.mpw_requests.specs.declared.policy.PolicyRequest.TheVariants as Request;
-ghost use Rattle.mpw_replies.specs.declared.reply.Code.{Code};
-ghost use Rattle.mpw_replies.specs.declared.reply.Code.TheVariants as code;
-ghost use Rattle.mpw_replies.specs.declared.reply.Denial.{Denial};
-ghost use Rattle.mpw_replies.specs.declared.reply.Denial.TheVariants as denial;
+ghost use Rattle.mpw_trail.specs.declared.verdict.Code.{Code};
+ghost use Rattle.mpw_trail.specs.declared.verdict.Code.TheVariants as code;
+ghost use Rattle.mpw_trail.specs.declared.verdict.Denial.{Denial};
+ghost use Rattle.mpw_trail.specs.declared.verdict.Denial.TheVariants as denial;
 ghost use Rattle.mpw_replies.specs.Rows.{IsNegative};
 ghost use Rattle.mpw_replies.specs.declared.reply.Reply.{Reply as AnyReply};
 ghost use Rattle.mpw_replies.specs.declared.reply.Reply.TheVariants as Reply;

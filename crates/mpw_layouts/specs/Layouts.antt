@@ -27,7 +27,7 @@ use Rattle.mpw_access.specs.Seen.{may_read}
 use Rattle.mpw_replies.specs.Rows.{◌>>=◌, changing, denied, listing, needed}
 use Rattle.mpw_replies.specs.declared.reply.Line.{Line}
 use Rattle.mpw_replies.specs.declared.reply.Line.TheVariants as line
-use Rattle.mpw_replies.specs.declared.reply.Code.TheVariants as code
+use Rattle.mpw_trail.specs.declared.verdict.Code.TheVariants as code
 use Rattle.mpw_replies.specs.declared.row.Done.{Done}
 use Rattle.mpw_replies.specs.declared.row.Done.TheVariants.{Lists}
 use Rattle.mpw_replies.specs.declared.row.Ending.{Ending}

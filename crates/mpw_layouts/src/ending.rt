@@ -3,7 +3,8 @@ ghost use Rattle.std.specs.Prelude.{◌≡◌};
 
 use mpw_geom::Name;
 use mpw_permissions::{Object, Operation};
-use mpw_replies::{Code, Denial, Ending, Ends};
+use mpw_replies::{Ending, Ends};
+use mpw_trail::{Code, Denial};
 
 /// What may end the decision table of a request of the layouts.
 #[derive(Drop)]

@@ -29,8 +29,9 @@ use mpw_hier::{
 use mpw_library::LibraryText;
 use mpw_permissions::{Object, Operation};
 use mpw_rbac::{Access, Policy};
-use mpw_replies::{Code, Fault, Line, Lines};
+use mpw_replies::{Fault, Line, Lines};
 use mpw_structures::Library;
+use mpw_trail::Code;
 use std::alloc::{AllocError, Global};
 
 /// The fault of a decision table for a fault of the shelf.

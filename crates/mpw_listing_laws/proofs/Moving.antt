@@ -19,7 +19,7 @@ use Rattle.mpw_run.specs.Step.{Run}
 use Rattle.mpw_run.specs.declared.phase.Phase.{Phase}
 use Rattle.mpw_run.specs.declared.phase.Phase.TheVariants.{Idle, Cutting, Checking, Finished}
 use Rattle.mpw_requests.specs.declared.sign_off.MarkerName.{MarkerName}
-use Rattle.mpw_replies.specs.declared.entry.Entry.{Entry}
+use Rattle.mpw_trail.specs.declared.entry.Entry.{Entry}
 use Rattle.mpw_events.specs.Step.{State}
 use Rattle.std.specs.List.{flat_map}
 use Rattle.std.specs.Option.{option_map_or}
@@ -33,8 +33,8 @@ use Rattle.mpw_rbac.specs.Policy.{identity_of, session_permits}
 use Rattle.mpw_replies.specs.Listing.{stored, line_if}
 use Rattle.mpw_replies.specs.Rows.{◌>>=◌, denied, listing, needed}
 use Rattle.mpw_replies.specs.Sight.{book_lines}
-use Rattle.mpw_replies.specs.declared.reply.Code.TheVariants as code
-use Rattle.mpw_replies.specs.declared.reply.Denial.TheVariants as denial
+use Rattle.mpw_trail.specs.declared.verdict.Code.TheVariants as code
+use Rattle.mpw_trail.specs.declared.verdict.Denial.TheVariants as denial
 use Rattle.mpw_replies.specs.declared.row.Ending.TheVariants as ending
 use Rattle.mpw_layouts.specs.declared.ending.LayoutEnding.TheVariants as layout_ending
 use Rattle.mpw_signoff.specs.declared.ending.SignOffEnding.{SignOffEnding}

@@ -16,7 +16,7 @@ use Rattle.mpw_run.specs.Run.{Tile, Checks, answered, answers_of}
 use Rattle.mpw_run.specs.Step as run
 use Rattle.mpw_run.specs.Stitching.{stitched}
 use Rattle.mpw_run.proofs.Opened.{answers_all, finishes as makes_the_book}
-use Rattle.mpw_replies.specs.declared.entry.Entry.{Entry as Noted}
+use Rattle.mpw_trail.specs.declared.entry.Entry.{Entry as Noted}
 use Rattle.mpw_store_rows.specs.Rows.{Entry}
 use Rattle.mpw_store_text.specs.Reading.{StoredAreRead}
 use Rattle.mpw_events.specs.GoingOn.{changes_of}

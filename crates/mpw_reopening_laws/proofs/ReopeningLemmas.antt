@@ -14,7 +14,7 @@ use Rattle.mpw_rbac.specs.Rows as rows
 use Rattle.mpw_run.specs.declared.phase.Phase.{Phase}
 use Rattle.mpw_run.specs.declared.phase.Phase.TheVariants.{Idle, Cutting, Checking, Finished}
 use Rattle.mpw_run.specs.Step as run
-use Rattle.mpw_replies.specs.declared.entry.Entry.{Entry as Noted}
+use Rattle.mpw_trail.specs.declared.entry.Entry.{Entry as Noted}
 use Rattle.mpw_events.specs.History.{Desk, answering, new_desk, state_after, state_of}
 use Rattle.mpw_events.specs.Step.{State, event_outcome, new_state}
 use Rattle.mpw_events.specs.declared.event.Event.TheVariants as event

@@ -20,7 +20,7 @@ use Rattle.mpw_run.specs.declared.phase.Phase.TheVariants.{Checking}
 use Rattle.mpw_run.specs.Laws.{StitchedComputes}
 use Rattle.mpw_run.specs.Run.{Checks}
 use Rattle.mpw_run.specs.Step as run
-use Rattle.mpw_replies.specs.declared.entry.Entry.{Entry as Noted}
+use Rattle.mpw_trail.specs.declared.entry.Entry.{Entry as Noted}
 use Rattle.mpw_requests.specs.declared.request.Request.{Request}
 use Rattle.mpw_store_rows.specs.Rows.{Entry}
 use Rattle.mpw_store_rows.specs.declared.row.Kind.TheVariants as kind

@@ -8,7 +8,7 @@ use Rattle.mpw_run.specs.declared.phase.Phase.{Phase}
 use Rattle.mpw_run.specs.declared.phase.Phase.TheVariants.{Cutting, Checking}
 use Rattle.mpw_run.specs.Laws.{finishes}
 use Rattle.mpw_run.specs.Step as run
-use Rattle.mpw_replies.specs.declared.entry.Entry.{Entry as Noted}
+use Rattle.mpw_trail.specs.declared.entry.Entry.{Entry as Noted}
 use Rattle.mpw_events.specs.Step.{State, Outcome, after, event_outcome, of_run, outcome_of, step}
 use Rattle.mpw_events.specs.declared.event.Event.{Event}
 use Rattle.mpw_events.specs.declared.event.Event.TheVariants as event

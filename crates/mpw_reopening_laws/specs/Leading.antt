@@ -5,7 +5,7 @@ use Rattle.std.specs.Prelude.{◌≡◌, ◌≤◌, ℕ, false, List, [], ◌∷
 use Rattle.mpw_roles.specs.Hierarchy.{Name}
 use Rattle.mpw_rbac.specs.Rows.{end_sessions}
 use Rattle.mpw_run.specs.Step.{restarted}
-use Rattle.mpw_replies.specs.declared.entry.Entry.{Entry as Noted}
+use Rattle.mpw_trail.specs.declared.entry.Entry.{Entry as Noted}
 use Rattle.mpw_events.specs.declared.event.Call.{Call}
 use Rattle.mpw_events.specs.declared.event.Event.{Event}
 use Rattle.mpw_events.specs.declared.event.Event.TheVariants as event

@@ -2,7 +2,7 @@
 use Rattle.std.specs.Prelude.{◌≡◌, ◌<◌, ◌≤◌, ◌^◌, ℕ, ◌+◌, true, List, ◌++◌, length}
 use Rattle.sqlite.specs.State as sql
 use Rattle.mpw_roles.specs.Hierarchy.{Name}
-use Rattle.mpw_replies.specs.declared.entry.Entry.{Entry as Noted}
+use Rattle.mpw_trail.specs.declared.entry.Entry.{Entry as Noted}
 use Rattle.mpw_events.specs.GoingOn.{changes_of}
 use Rattle.mpw_events.specs.History.{Desk, answering, new_desk, state_after, state_of}
 use Rattle.mpw_events.specs.Step.{State, new_state}

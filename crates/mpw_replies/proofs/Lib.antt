@@ -1,6 +1,4 @@
 -- The files of this crate's lemmas.
-mod EntryLemmas
-pub mod FirstLineLemmas
 mod ListingLemmas
 mod MarkerLemmas
 pub mod NamesRise

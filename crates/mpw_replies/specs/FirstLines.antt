@@ -1,7 +1,7 @@
 -- The outcome of a request.
 use Rattle.std.specs.Prelude.{length}
-use Rattle.mpw_replies.specs.declared.entry.FirstLine.{FirstLine}
-use Rattle.mpw_replies.specs.declared.entry.FirstLine.TheVariants as said
+use Rattle.mpw_trail.specs.declared.verdict.FirstLine.{FirstLine}
+use Rattle.mpw_trail.specs.declared.verdict.FirstLine.TheVariants as said
 use Rattle.mpw_replies.specs.declared.reply.Reply.{Reply}
 use Rattle.mpw_replies.specs.declared.reply.Reply.TheVariants as reply
 

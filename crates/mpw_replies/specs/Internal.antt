@@ -1,4 +1,3 @@
 -- Definitions for private functions and proofs alone. No public contract uses them.
-pub mod EntryWriter
 pub mod Ranks
 pub mod Shapes

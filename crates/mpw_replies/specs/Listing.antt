@@ -13,7 +13,7 @@ use Rattle.mpw_markers.specs.declared.marker.Key.{Key}
 use Rattle.mpw_roles.specs.Hierarchy.{Name}
 pub use Rattle.mpw_seen.specs.Seen.{is_seen}
 use Rattle.mpw_replies.specs.declared.reply.Line.{Line}
-use Rattle.mpw_replies.specs.declared.entry.Entry.{Entry}
+use Rattle.mpw_trail.specs.declared.entry.Entry.{Entry}
 
 -- a line: a stored line, as it is written; a shape with the cell and the version of the submission that it
 -- comes from, and its placing; a marker by the name of its rule, with its key and the cells that it touches;

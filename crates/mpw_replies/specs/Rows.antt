@@ -4,7 +4,7 @@ use Rattle.mpw_permissions.specs.declared.permission.Operation.{Operation}
 use Rattle.mpw_permissions.specs.declared.permission.Object.{Object}
 use Rattle.mpw_replies.specs.Listing.{Listed, stored}
 use Rattle.mpw_replies.specs.declared.reply.Line.{Line}
-use Rattle.mpw_replies.specs.declared.reply.Denial.TheVariants as denial
+use Rattle.mpw_trail.specs.declared.verdict.Denial.TheVariants as denial
 use Rattle.mpw_replies.specs.declared.reply.Reply.{Reply}
 use Rattle.mpw_replies.specs.declared.reply.Reply.TheVariants as reply
 use Rattle.mpw_replies.specs.declared.row.Done.{Done}

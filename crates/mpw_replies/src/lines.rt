@@ -10,7 +10,7 @@ ghost use Rattle.mpw_replies.specs.Trail.{trail_lines};
 use crate::listing::ShapeListing;
 use crate::markers::MarkerListing;
 use crate::reply::Line;
-use crate::trail::TrailListing;
+use mpw_trail::TrailListing;
 use std::alloc::{AllocError, Global};
 use std::marker::Model;
 use std::sync::Arc;

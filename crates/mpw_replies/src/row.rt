@@ -4,7 +4,8 @@ ghost use Rattle.mpw_replies.specs.Rows.{Answers, ended_by, needed};
 ghost use Rattle.mpw_replies.specs.declared.row.Ending.{Ending as AnyEnding};
 ghost use Rattle.mpw_replies.specs.declared.row.Fault.TheVariants.{Memory};
 
-use crate::{Code, Denial, Lines, Reply};
+use crate::{Lines, Reply};
+use mpw_trail::{Code, Denial};
 use std::alloc::AllocError;
 
 /// What the decision table of a request gives if all its tests pass.

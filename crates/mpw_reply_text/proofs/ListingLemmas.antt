@@ -7,8 +7,8 @@ use Rattle.std.proofs.KnownBytes.{Appends-trans}
 use Rattle.std.proofs.lemmas.Grind.{flat_map-append}
 use Rattle.mpw_replies.specs.Listing.{stored}
 use Rattle.mpw_replies.specs.Trail.{numbered_entries}
-use Rattle.mpw_replies.specs.EntryText.{entry_text, entries_text}
-use Rattle.mpw_replies.specs.declared.entry.Entry.{Entry}
+use Rattle.mpw_trail.specs.EntryText.{entry_text, entries_text}
+use Rattle.mpw_trail.specs.declared.entry.Entry.{Entry}
 use Rattle.mpw_replies.specs.declared.reply.Line.{Line}
 use Rattle.mpw_wire.specs.declared.fault.WireFault.{WireFault}
 use Rattle.mpw_reply_text.specs.Reply.{line_text, listed_text}

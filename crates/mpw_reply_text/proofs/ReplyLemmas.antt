@@ -6,7 +6,7 @@ use Rattle.mpw_replies.specs.declared.reply.Reply.{Reply}
 use Rattle.mpw_replies.specs.declared.reply.Reply.TheVariants as reply
 use Rattle.mpw_reply_text.specs.Reply.{listed_text, accepted_text, reply_text, IsLedBy}
 use Rattle.mpw_reply_text.specs.Lines.{line_feed}
-use Rattle.mpw_replies.specs.FirstLineText.{count_text, first_line_text}
+use Rattle.mpw_trail.specs.FirstLineText.{count_text, first_line_text}
 
 pub led_by_first_line : (r : Reply) → IsLedBy (first_line_text (first_line_of r)) (reply_text r)
 unfolding reply_text accepted_text

@@ -22,9 +22,9 @@ use Rattle.mpw_reply_text.specs.declared.reply.LineRefusal.{LineRefusal}
 use Rattle.mpw_reply_text.specs.declared.reply.LineRefusal.TheVariants as refusal
 use Rattle.mpw_requests.specs.Words.{marker_key}
 use Rattle.mpw_wire.specs.Keys.{key_text}
-use Rattle.mpw_replies.specs.EntryText.{entry_text}
+use Rattle.mpw_trail.specs.EntryText.{entry_text}
 use Rattle.mpw_reply_text.specs.Lines.{line_feed}
-use Rattle.mpw_replies.specs.FirstLineText.{count_text, denial_text, refused_text, refusal_of, first_line_text}
+use Rattle.mpw_trail.specs.FirstLineText.{count_text, denial_text, refused_text, refusal_of, first_line_text}
 
 -- a line of a word and a name
 abbrev pub named_text : List ℕ → List ℕ → List ℕ

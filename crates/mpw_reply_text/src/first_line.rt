@@ -1,13 +1,13 @@
 //! The first line of a reply: how many lines follow, what the session lacks, or why the request is refused.
 ghost use Rattle.std.specs.Prelude.{◌≡◌, ◌++◌};
-ghost use Rattle.mpw_replies.specs.FirstLineText.{denial_text, fault_at, refused_text, count_text};
+ghost use Rattle.mpw_trail.specs.FirstLineText.{denial_text, fault_at, refused_text, count_text};
 ghost use Rattle.mpw_reply_text.specs.Lines.{line_feed};
 ghost use Rattle.mpw_wire.specs.Writing.{Writes};
 
 use crate::write::write_whole_line;
 use itoa::Buffer;
 use mpw_devices::Sink;
-use mpw_replies::{Code, Denial, code_words, denial_parts};
+use mpw_trail::{Code, Denial, code_words, denial_parts};
 use mpw_wire::WireFault;
 
 /// Writes how many lines follow.

@@ -17,7 +17,7 @@ use Rattle.mpw_run.specs.Step as machine
 use Rattle.mpw_run.specs.Step.{findings, restarted_phase}
 use Rattle.mpw_run.proofs.TileLists.{new_answered}
 use Rattle.mpw_replies.specs.Rows.{listing, needed}
-use Rattle.mpw_replies.specs.declared.reply.Code.TheVariants as code
+use Rattle.mpw_trail.specs.declared.verdict.Code.TheVariants as code
 use Rattle.mpw_wafer.specs.Run.Checking.{checked_lines, row_of}
 use Rattle.mpw_events.specs.declared.event.Event.TheVariants as event
 use Rattle.mpw_events.specs.declared.event.Response.TheVariants as response

@@ -18,7 +18,7 @@ use Rattle.mpw_core.proofs.OutcomeLemmas.{holds-guarded, holds-row}
 use Rattle.mpw_requests.specs.Needs.{need_of}
 use Rattle.mpw_access.specs.Guard.{EnteredHas, Has, entered}
 use Rattle.mpw_replies.specs.Rows.{needed}
-use Rattle.mpw_replies.specs.declared.reply.Code.TheVariants as code
+use Rattle.mpw_trail.specs.declared.verdict.Code.TheVariants as code
 use Rattle.mpw_replies.specs.declared.row.Ending.TheVariants as ending
 use Rattle.mpw_replies.proofs.RowParts.{listing_changes_nothing}
 use Rattle.mpw_secrecy.specs.Questions.{is_of_view}

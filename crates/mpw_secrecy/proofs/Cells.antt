@@ -16,7 +16,7 @@ use Rattle.mpw_rbac.specs.Policy.{Policy, permits, session_of}
 use Rattle.mpw_replies.specs.Listing.{Listed, stored, shape, shape_line, line_if}
 use Rattle.mpw_replies.specs.Rows.{◌>>=◌, needed}
 use Rattle.mpw_access.specs.Seen.{may_read}
-use Rattle.mpw_replies.specs.declared.reply.Code.TheVariants as code
+use Rattle.mpw_trail.specs.declared.verdict.Code.TheVariants as code
 use Rattle.mpw_replies.specs.declared.reply.Line.{Line}
 use Rattle.mpw_replies.specs.declared.reply.Line.TheVariants as line
 use Rattle.mpw_layouts.specs.declared.ending.LayoutEnding.{LayoutEnding}

@@ -15,8 +15,8 @@ use Rattle.mpw_requests.specs.declared.sign_off.SignOffRequest.TheVariants as si
 use Rattle.mpw_requests.specs.Needs.{need_of}
 use Rattle.mpw_replies.specs.Listing.{Listed, stored}
 use Rattle.mpw_replies.specs.Rows.{listing, needed}
-use Rattle.mpw_replies.specs.declared.entry.Entry.{Entry}
-use Rattle.mpw_replies.specs.declared.reply.Code.TheVariants as code
+use Rattle.mpw_trail.specs.declared.entry.Entry.{Entry}
+use Rattle.mpw_trail.specs.declared.verdict.Code.TheVariants as code
 use Rattle.mpw_replies.specs.declared.reply.Reply.TheVariants as reply
 use Rattle.mpw_replies.specs.declared.row.Done.{Done}
 use Rattle.mpw_replies.specs.declared.row.Done.TheVariants.{Lists}

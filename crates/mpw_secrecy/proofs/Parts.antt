@@ -12,7 +12,7 @@ use Rattle.mpw_requests.specs.declared.need.Need.{Need}
 use Rattle.mpw_requests.specs.declared.need.Need.TheVariants as need
 use Rattle.mpw_replies.specs.Rows.{denied}
 use Rattle.mpw_access.specs.Guard.{entered}
-use Rattle.mpw_replies.specs.declared.reply.Denial.TheVariants as denial
+use Rattle.mpw_trail.specs.declared.verdict.Denial.TheVariants as denial
 use Rattle.mpw_replies.specs.declared.row.Ending.TheVariants as ending
 use Rattle.mpw_events.specs.Step.{State}
 use Rattle.mpw_secrecy.specs.Views.{SameView}

@@ -16,8 +16,8 @@ use Rattle.mpw_replies.specs.Sight.{is_full}
 use Rattle.mpw_access.specs.Seen.{seen_by}
 use Rattle.mpw_replies.specs.declared.reply.Line.{Line}
 use Rattle.mpw_replies.specs.declared.reply.Line.TheVariants as line
-use Rattle.mpw_replies.specs.declared.reply.Code.TheVariants as code
-use Rattle.mpw_replies.specs.declared.reply.Denial.TheVariants as denial
+use Rattle.mpw_trail.specs.declared.verdict.Code.TheVariants as code
+use Rattle.mpw_trail.specs.declared.verdict.Denial.TheVariants as denial
 use Rattle.mpw_replies.specs.declared.row.Done.{Done}
 use Rattle.mpw_replies.specs.declared.row.Ending.{Ending}
 use Rattle.mpw_replies.specs.declared.row.Ending.TheVariants as ending

@@ -18,9 +18,10 @@ use mpw_access::{seen_by, session_user};
 use mpw_geom::Name;
 use mpw_placings::Wafer;
 use mpw_rbac::Policy;
-use mpw_replies::{Code, Fault, Line, Lines, need};
+use mpw_replies::{Fault, Line, Lines, need};
 use mpw_requests::MarkerName;
 use mpw_run::{Checked, Run};
+use mpw_trail::Code;
 use mpw_waiver::{WaiverFault, Waivers};
 use std::alloc::{AllocError, Global};
 

@@ -5,7 +5,7 @@ use Rattle.mpw_rbac.specs.Policy.{Policy}
 use Rattle.mpw_rbac.specs.Rows.{user_of}
 use Rattle.mpw_requests.specs.declared.sign_off.MarkerName.{MarkerName}
 use Rattle.mpw_replies.specs.Rows.{needed}
-use Rattle.mpw_replies.specs.declared.reply.Code.TheVariants as code
+use Rattle.mpw_trail.specs.declared.verdict.Code.TheVariants as code
 use Rattle.mpw_run.specs.declared.phase.Checked.{Checked}
 use Rattle.mpw_run.specs.declared.phase.Phase.{Phase}
 use Rattle.mpw_run.specs.declared.phase.Phase.TheVariants.{Idle, Cutting, Checking, Finished}

@@ -12,7 +12,7 @@ use Rattle.mpw_requests.specs.declared.sign_off.SignOffRequest.TheVariants as as
 use Rattle.mpw_replies.specs.Sight.{is_full}
 use Rattle.mpw_access.specs.Guard.{entered}
 use Rattle.mpw_access.specs.Seen.{seen_by}
-use Rattle.mpw_replies.specs.declared.reply.Code.TheVariants as code
+use Rattle.mpw_trail.specs.declared.verdict.Code.TheVariants as code
 use Rattle.mpw_replies.specs.Rows.{changing}
 use Rattle.mpw_replies.proofs.RowParts.{changed}
 use Rattle.mpw_replies.specs.declared.row.Done.TheVariants.{Changes}

@@ -11,7 +11,7 @@ use Rattle.mpw_requests.specs.declared.sign_off.SignOffRequest.{SignOffRequest}
 use Rattle.mpw_requests.specs.declared.sign_off.SignOffRequest.TheVariants as ask
 use Rattle.mpw_requests.specs.Needs.{sign_off_need}
 use Rattle.mpw_replies.specs.Listing.{Listed}
-use Rattle.mpw_replies.specs.declared.reply.Code.TheVariants as code
+use Rattle.mpw_trail.specs.declared.verdict.Code.TheVariants as code
 use Rattle.mpw_replies.specs.declared.row.Done.TheVariants.{Changes}
 use Rattle.mpw_access.specs.Guard.{entered}
 use Rattle.mpw_placings.specs.declared.wafer.Wafer.{Wafer}

@@ -13,8 +13,8 @@ use Rattle.mpw_run.specs.Run.{Planned, Tile, Checks, answered}
 use Rattle.mpw_run.specs.Same.{same_snapshot, same_tile_job}
 use Rattle.mpw_run.specs.Step.{Run, Offer, Outcome as RunOutcome, answered_by, next_from, handed, taken_in, cut_in, kept, job_of_tile, tile_compared, tile_checked, tile_in, restarted_phase}
 use Rattle.mpw_replies.specs.Rows.{◌>>=◌, needed}
-use Rattle.mpw_replies.specs.declared.reply.Code.{Code}
-use Rattle.mpw_replies.specs.declared.reply.Code.TheVariants as code
+use Rattle.mpw_trail.specs.declared.verdict.Code.{Code}
+use Rattle.mpw_trail.specs.declared.verdict.Code.TheVariants as code
 use Rattle.mpw_wafer.specs.Run.Checking as checking
 use Rattle.mpw_requests.specs.declared.request.Request.{Request}
 use Rattle.mpw_events.specs.declared.event.Call.{Call}

@@ -17,7 +17,7 @@ use Rattle.mpw_firm_listing.specs.Listing.{count_of_lines, line_with, listing_te
 use Rattle.mpw_edges.specs.declared.run.Piece.{Piece}
 use Rattle.mpw_markers.specs.declared.marker.Marker.{Marker}
 use Rattle.mpw_markers.proofs.Unique.{Contains-head, Contains-tail}
-use Rattle.mpw_replies.specs.FirstLineText.{count_text}
+use Rattle.mpw_trail.specs.FirstLineText.{count_text}
 use Rattle.mpw_replies.specs.Listing.{Listed, is_seen, marker}
 use Rattle.mpw_replies.specs.Sight.{is_full, is_hidden, is_masked, is_of, met_cells, line_for, full_line, full_lines, masked_line, masked_lines, masked_number}
 use Rattle.mpw_reply_text.specs.Reply.{accepted_text, listed_text, marker_text, met_text}

@@ -10,7 +10,7 @@ use Rattle.mpw_requests.specs.declared.wafer.WaferRequest.TheVariants as ask
 use Rattle.mpw_replies.proofs.RowParts.{changed}
 use Rattle.mpw_replies.specs.Listing.{Listed}
 use Rattle.mpw_replies.specs.Rows.{changing}
-use Rattle.mpw_replies.specs.declared.reply.Code.{Code}
+use Rattle.mpw_trail.specs.declared.verdict.Code.{Code}
 use Rattle.mpw_replies.specs.declared.row.Done.{Done}
 use Rattle.mpw_replies.specs.declared.row.Done.TheVariants.{Lists, Changes}
 use Rattle.mpw_wafer.specs.Laws.{ChangesKeepPlacings}

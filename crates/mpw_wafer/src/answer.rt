@@ -10,8 +10,9 @@ use mpw_deck::Deck;
 use mpw_geom::Name;
 use mpw_hier::Shelf;
 use mpw_placings::{Placings, Wafer};
-use mpw_replies::{Code, Done, Fault, Line, Lines};
+use mpw_replies::{Done, Fault, Line, Lines};
 use mpw_requests::WaferRequest;
+use mpw_trail::Code;
 use std::alloc::{AllocError, Global};
 
 /// The line of the placed version, if there is one.

@@ -11,7 +11,8 @@ use mpw_deck::{Deck, DeckError, DeckText};
 use mpw_geom::{Name, Placing};
 use mpw_hier::Shelf;
 use mpw_placings::{PlacingFault, Placings};
-use mpw_replies::{Code, Fault};
+use mpw_replies::Fault;
+use mpw_trail::Code;
 use std::alloc::Global;
 
 /// The fault of a decision table for a refused placement.

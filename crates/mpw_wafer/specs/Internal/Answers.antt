@@ -2,8 +2,8 @@
 -- decision tables.
 use Rattle.mpw_placings.specs.declared.fault.PlacingFault.{PlacingFault}
 use Rattle.mpw_placings.specs.declared.fault.PlacingFault.TheVariants as placing
-use Rattle.mpw_replies.specs.declared.reply.Code.{Code}
-use Rattle.mpw_replies.specs.declared.reply.Code.TheVariants as code
+use Rattle.mpw_trail.specs.declared.verdict.Code.{Code}
+use Rattle.mpw_trail.specs.declared.verdict.Code.TheVariants as code
 use Rattle.mpw_replies.specs.declared.row.Fault.{Fault}
 use Rattle.mpw_replies.specs.declared.row.Fault.TheVariants as fault
 

@@ -17,8 +17,8 @@ use Rattle.mpw_replies.specs.Sight.{book_lines}
 use Rattle.mpw_access.specs.Seen.{seen_by}
 use Rattle.mpw_replies.specs.declared.reply.Line.{Line}
 use Rattle.mpw_replies.specs.declared.reply.Line.TheVariants as line
-use Rattle.mpw_replies.specs.declared.reply.Code.{Code}
-use Rattle.mpw_replies.specs.declared.reply.Code.TheVariants as code
+use Rattle.mpw_trail.specs.declared.verdict.Code.{Code}
+use Rattle.mpw_trail.specs.declared.verdict.Code.TheVariants as code
 use Rattle.mpw_replies.specs.declared.row.Done.{Done}
 use Rattle.mpw_replies.specs.declared.row.Done.TheVariants.{Lists}
 use Rattle.mpw_run.specs.declared.phase.Checked.{Checked}

@@ -10,9 +10,10 @@ use crate::run::rows::{checked_lines, goes_on, phase_line};
 use mpw_hier::Shelf;
 use mpw_placings::Wafer;
 use mpw_rbac::Policy;
-use mpw_replies::{Code, Done, Fault, Line, Lines, need};
+use mpw_replies::{Done, Fault, Line, Lines, need};
 use mpw_requests::RunRequest;
 use mpw_run::{Prepared, Run};
+use mpw_trail::Code;
 use std::alloc::Global;
 
 /// The change of the run by a request.

@@ -10,9 +10,10 @@ ghost use Rattle.mpw_tiles.specs.Snapshots.{AreRoots, shown};
 use mpw_deck::Deck;
 use mpw_hier::Shelf;
 use mpw_placings::{Placings, Wafer};
-use mpw_replies::{Code, Fault};
+use mpw_replies::Fault;
 use mpw_run::{Phase, Planned, Run};
 use mpw_tiles::Snapshot;
+use mpw_trail::Code;
 use mpw_walk::roots_show_what_their_submissions_do;
 use std::alloc::{AllocError, Global};
 

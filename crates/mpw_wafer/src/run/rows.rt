@@ -5,8 +5,9 @@ ghost use Rattle.mpw_replies.specs.Rows.{Answers};
 
 use mpw_access::seen_by;
 use mpw_rbac::Policy;
-use mpw_replies::{Code, Fault, Line, Lines, MarkerListing};
+use mpw_replies::{Fault, Line, Lines, MarkerListing};
 use mpw_run::{Checked, Phase, Run};
+use mpw_trail::Code;
 use std::alloc::{AllocError, Global};
 
 /// A run is going on.

@@ -1,8 +1,8 @@
 -- Answers to the goals of `write_code` in `src/first_line.rt`.
 use Rattle.std.proofs.Common.{◌∙◌, ◌++◌, ap, rules, sym}
 use Rattle.mpw_reply_text.specs.Lines.{line_feed}
-use Rattle.mpw_replies.specs.FirstLineText.{code_text, fault_at, refusal_of}
-use Rattle.mpw_replies.proofs.FirstLineLemmas.{refused_alone}
+use Rattle.mpw_trail.specs.FirstLineText.{code_text, fault_at, refusal_of}
+use Rattle.mpw_trail.proofs.FirstLineLemmas.{refused_alone}
 use Rattle.mpw_reply_text.proofs.WritingLemmas.{Writes_same}
 use Rattle.mpw_reply_text.proofs.first_line.write_code.Goals as goal
 

@@ -3,7 +3,7 @@ use Rattle.std.proofs.Common.{ap, ◌++◌}
 use Rattle.std.specs.List.{flat_map}
 use Rattle.mpw_reply_text.specs.Reply.{listed_text, accepted_text}
 use Rattle.mpw_reply_text.specs.Lines.{line_feed}
-use Rattle.mpw_replies.specs.FirstLineText.{count_text}
+use Rattle.mpw_trail.specs.FirstLineText.{count_text}
 use Rattle.mpw_wire.specs.Writing.{fault_of}
 use Rattle.mpw_reply_text.proofs.WritingLemmas.{Writes_first, Writes_both, Writes_same, handed_on}
 use Rattle.mpw_reply_text.proofs.reply.write_accepted.Goals as goal

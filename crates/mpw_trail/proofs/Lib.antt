@@ -1,0 +1,4 @@
+-- The files of this crate's lemmas.
+mod EntryLemmas
+pub mod FirstLineLemmas
+mod TrailLemmas

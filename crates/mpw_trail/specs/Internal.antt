@@ -1,0 +1,2 @@
+-- Definitions for private functions and proofs alone. No public contract uses them.
+pub mod EntryWriter
