@@ -148,11 +148,11 @@ def lacking_requests(words):
 
 def lacking_codes(codes):
     """What the enums have and the wire or the table doesn't, and what the table has besides."""
-    wire = told("crates/mpw_replies/src/first_line.rt") + told("crates/mpw_reply_text/src/reply.rt")
+    wire = told("crates/mpw_trail/src/first_line.rt") + told("crates/mpw_reply_text/src/reply.rt")
     enums = (
         ("TextFault", "crates/mpw_records/src/fault.rt", "Code"),
         ("DeckKind", "crates/mpw_deck/src/deck.rt", "DeckKind"),
-        ("Code", "crates/mpw_replies/src/reply.rt", "Code"),
+        ("Code", "crates/mpw_trail/src/verdict.rt", "Code"),
         ("LineRefusal", "crates/mpw_reply_text/src/reply.rt", "LineRefusal"),
     )
     named = {(kind, variant) for kind, variant, _, _ in wire}
@@ -176,9 +176,9 @@ def lacking_faults(words):
 
 
 def lacking_denials(forms):
-    wire = read("crates/mpw_replies/src/first_line.rt")
+    wire = read("crates/mpw_trail/src/first_line.rt")
     words = re.findall(r'Denial::\w+(?:\(_(?:, _)?\))? => "(DENIED [^"]*)"', wire)
-    enum = variants("crates/mpw_replies/src/reply.rt", "Denial")
+    enum = variants("crates/mpw_trail/src/verdict.rt", "Denial")
     lost = [] if len(words) == len(enum) else ["a denial that the wire doesn't print"]
     lost += [f"denial {word}" for word in words if not any(is_form(form, word) for form in forms)]
     return lost + ([] if len(forms) == len(words) else ["denials: the table has others"])
