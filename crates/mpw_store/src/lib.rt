@@ -23,7 +23,7 @@ mod file_fault;
 mod found;
 mod laws;
 mod opened;
-mod reading;
+mod rows;
 mod table;
 mod terms;
 
@@ -36,6 +36,6 @@ pub use file_fault::{FileFault, status_of_store};
 pub use found::{EMPTY_LOG, Found, Kind};
 pub use laws::{added_rows_are_last, rows_are_at_their_places};
 pub use opened::{find_table, open_table};
-pub use reading::{TakesRows, read_rows};
+pub use rows::{TakesRows, read_rows};
 pub use table::{has_changes_alone, has_nothing};
 pub use terms::{Terms, opening, reading};
