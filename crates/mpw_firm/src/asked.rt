@@ -25,23 +25,24 @@ use rayon::current_num_threads;
 use std::alloc::Global;
 use std::thread::Threads;
 
-/// Prints the markers or their numbers, and writes the report and the picture. If what is held is enough for all that is wanted, they are
-/// those of all markers.
+/// Prints the markers or their numbers, and writes the report and the picture, of a layout and what came of its check. If what is held is
+/// enough for all that is wanted, they are those of all markers.
 fn write_all<O: Outputs>(
+    threads: &(impl Threads + Sync),
     outputs: &mut O,
     alloc: Global,
     options: &Options,
-    layout: &Snapshot,
-    checked: &Checked<'_>,
+    done: (&Snapshot, &Checked<'_>),
 ) -> Result<(), FirmFault>
-    ensures { (book : List Marker) → IsOfBook (enough_for options.now checked.now.summary checked.now.limit) checked.now book
-        → IfOk result (λ _. PutsAll options.now layout.now (shown_of checked.now book) (O.kept outputs.old) (O.kept outputs.new)) }
+    ensures { (book : List Marker) → IsOfBook (enough_for options.now done.entry.1.now.summary done.entry.1.now.limit) done.entry.1.now book
+        → IfOk result (λ _. PutsAll options.now done.entry.0.now (shown_of done.entry.1.now book) (O.kept outputs.old) (O.kept outputs.new)) }
 {
+    let (layout, checked) = done;
     let Some(wanted) = &options.picture else {
-        return write_listed(outputs, alloc, &options.report, checked);
+        return write_listed(threads, outputs, alloc, &options.report, checked);
     };
     let view = view_of(alloc, wanted, layout, checked)?;
-    write_listed(outputs, alloc, &options.report, checked)?;
+    write_listed(threads, outputs, alloc, &options.report, checked)?;
     let drawn = drawn_in(alloc, layout, view, checked)?;
     put_picture(outputs, alloc, wanted.file.as_str(), checked, &drawn)
 }
@@ -100,7 +101,7 @@ pub fn check<O: Outputs>(
     };
     let _ = tell_summary(rt, layout, &checked, &line);
     markers_are_flat();
-    write_all(outputs, rt.alloc(), options, layout, &checked)?;
+    write_all(threads, outputs, rt.alloc(), options, (layout, &checked))?;
     line.tell_times();
     Ok(found.all.saturating_add(faults.len()))
 }

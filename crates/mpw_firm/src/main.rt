@@ -84,13 +84,14 @@ fn check_asked<O: Outputs>(
 /// Stitches the parts, if none of them is an output.
 fn stitch_asked<O: Outputs>(
     rt: &HostRuntime,
+    threads: &(impl Threads + Sync),
     outputs: &mut O,
     options: &StitchOptions,
 ) -> Result<usize, FirmFault>
     ensures { IfOk result (IsStitched options.now (O.kept outputs.old) (O.kept outputs.new)) }
 {
     stitch_apart(outputs, rt.alloc(), options)?;
-    stitch(rt, outputs, options)
+    stitch(rt, threads, outputs, options)
 }
 
 /// Does what is asked for, and returns how many markers there are.
@@ -104,7 +105,7 @@ fn done<O: Outputs>(
 {
     match asked {
         Asked::Check(options) => check_asked(rt, threads, outputs, options),
-        Asked::Stitch(options) => stitch_asked(rt, outputs, options),
+        Asked::Stitch(options) => stitch_asked(rt, threads, outputs, options),
         Asked::Told(text) => print_told(outputs, rt.alloc(), text.as_str()),
     }
 }

@@ -15,9 +15,10 @@ use crate::checked::Checked;
 use crate::found::Held;
 use mpw_firm_listing::{Limited, Listing, first_markers_are_listed};
 use mpw_firm_messages::FirmFault;
-use mpw_firm_outputs::{Counts, Outputs, Place, Text, put};
+use mpw_firm_outputs::{Counts, Outputs, Place, Text, put, put_listing};
 use mpw_firm_report::{Report, first_markers_have_the_items};
 use std::alloc::Global;
+use std::thread::Threads;
 
 /// The listing of all markers that are held.
 fn listing<'a>(checked: &Checked<'a>) -> Listing<'a>
@@ -63,6 +64,7 @@ fn report_of<'a>(checked: &Checked<'a>) -> Report<'a>
 
 /// Prints the markers: all, or the first of each rule if there is a limit or no more are held.
 fn list_markers<O: Outputs>(
+    threads: &(impl Threads + Sync),
     outputs: &mut O,
     alloc: Global,
     checked: &Checked<'_>,
@@ -73,7 +75,7 @@ fn list_markers<O: Outputs>(
     match (checked.limit, &checked.found.held) {
         (None, Held::All(_)) => {
             let listing = listing(checked);
-            put(outputs, alloc, Place::Standard, &Text::Listing(&listing))
+            put_listing(threads, outputs, alloc, Place::Standard, &listing)
         }
         (None, Held::First(_)) | (Some(_), _) => {
             let listing = limited(checked);
@@ -100,14 +102,19 @@ fn list_counts<O: Outputs>(
 }
 
 /// Prints the markers that are held; or how many each rule has, if that is asked for.
-fn list<O: Outputs>(outputs: &mut O, alloc: Global, checked: &Checked<'_>) -> Result<(), FirmFault>
+fn list<O: Outputs>(
+    threads: &(impl Threads + Sync),
+    outputs: &mut O,
+    alloc: Global,
+    checked: &Checked<'_>,
+) -> Result<(), FirmFault>
     ensures kept { IfOk result (λ _. Grows (O.kept outputs.old) (O.kept outputs.new) (on_output (held_printed checked.now checked.now.summary) ∷ [])) }
     ensures refused { IfErr result OutputFails }
 {
     if checked.summary {
         list_counts(outputs, alloc, checked)
     } else {
-        list_markers(outputs, alloc, checked)
+        list_markers(threads, outputs, alloc, checked)
     }
 }
 
@@ -137,6 +144,7 @@ fn report<O: Outputs>(
 /// # Errors
 /// `Device` if that failed or the file can't be written, and `Memory`.
 pub fn write_listed<O: Outputs>(
+    threads: &(impl Threads + Sync),
     outputs: &mut O,
     alloc: Global,
     file: &Option<String>,
@@ -148,6 +156,6 @@ pub fn write_listed<O: Outputs>(
 {
     first_markers_are_listed();
     first_markers_have_the_items();
-    list(outputs, alloc, checked)?;
+    list(threads, outputs, alloc, checked)?;
     report(outputs, alloc, file, checked)
 }

@@ -21,6 +21,7 @@ use mpw_firm_parts::{Part, begins_as_part, is_older_part, read_part};
 use mpw_firm_sources::{Content, read_file, rule_notes};
 use std::alloc::{AllocError, Global};
 use std::io;
+use std::thread::Threads;
 
 /// The sentence about a file whose text is no part.
 fn unread_part(alloc: Global, file: &str, text: &[u8]) -> FirmFault
@@ -84,6 +85,7 @@ fn tell_stitched(
 /// A file that can't be read or written, one that is no part, parts that don't fit, a device that failed, or out of memory.
 pub fn stitch<O: Outputs>(
     rt: &HostRuntime,
+    threads: &(impl Threads + Sync),
     outputs: &mut O,
     options: &StitchOptions,
 ) -> Result<usize, FirmFault>
@@ -114,6 +116,6 @@ pub fn stitch<O: Outputs>(
         faults: &[],
     };
     let _ = tell_stitched(rt, options.files.len(), columns, &checked);
-    write_listed(outputs, alloc, &options.report, &checked)?;
+    write_listed(threads, outputs, alloc, &options.report, &checked)?;
     Ok(many)
 }

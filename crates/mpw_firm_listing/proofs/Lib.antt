@@ -1,5 +1,6 @@
--- The lemmas about limited listings.
+-- The lemmas about listings.
 mod Exact
 mod First
+mod Joined
 mod Rows
 mod Whole

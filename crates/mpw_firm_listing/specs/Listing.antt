@@ -21,6 +21,10 @@ marker_line parts top rules m = line_with parts top m (slice_get rules m.key.rul
 abbrev pub count_of_lines : List Rule → List Marker → ℕ
 count_of_lines rules markers = length (filter (has_rule rules) markers)
 
+-- The line of each of some markers, in order.
+abbrev pub lines_of : Listing → List Marker → List ℕ
+lines_of l markers = flat_map (marker_line l.parts.now l.top.now l.rules.now) markers
+
 -- How many lines there are, and the line of each marker in order.
 unfoldable pub listing_text : (parts : ℕ) (top : List ℕ) (rules : List Rule)
     (markers : List Marker) → List ℕ

@@ -1,10 +1,9 @@
-//! Writes the listing of all markers.
+//! The listing of all markers, and its lines.
 ghost use Rattle.std.specs.Prelude.{◌≡◌, ◌≤◌, length};
-ghost use Rattle.std.specs.List.{flat_map};
-ghost use Rattle.mpw_firm_listing.specs.Listing.{count_of_lines, has_rule, listing_of, listing_text, marker_line};
+ghost use Rattle.mpw_firm_listing.specs.Listing.{count_of_lines, has_rule, lines_of, marker_line};
 ghost use Rattle.mpw_text.specs.Writing.{Adds};
 
-use crate::line::{put_head, put_line};
+use crate::line::put_line;
 use mpw_deck::Rule;
 use mpw_firm_grid::Parts;
 use mpw_geom::Name;
@@ -32,7 +31,7 @@ fn has_rule(rules: &[Rule], marker: &Marker) -> bool
 }
 
 /// How many markers have a line.
-fn count_of_lines(rules: &[Rule], markers: &[Marker]) -> usize
+pub(crate) fn count_of_lines(rules: &[Rule], markers: &[Marker]) -> usize
     ensures count { result ≡ count_of_lines rules.now markers.now }
     ensures few { result ≤ length markers.now }
 {
@@ -55,25 +54,16 @@ fn put_marker<W: Write>(writer: &mut W, listing: &Listing<'_>, marker: &Marker) 
     }
 }
 
-/// Writes the lines of all markers, in their order.
-fn put_markers<W: Write>(writer: &mut W, listing: &Listing<'_>) -> io::Result<()>
-    ensures { Adds W.contents writer.old writer.new result (flat_map (marker_line listing.now.parts.now listing.now.top.now listing.now.rules.now) listing.now.markers.now) }
+/// Writes the lines of markers, in their order.
+pub(crate) fn put_markers<W: Write>(
+    writer: &mut W,
+    listing: &Listing<'_>,
+    markers: &[Marker],
+) -> io::Result<()>
+    ensures { Adds W.contents writer.old writer.new result (lines_of listing.now markers.now) }
 {
-    for marker in listing.markers {
+    for marker in markers {
         put_marker(writer, listing, marker)?;
     }
     Ok(())
-}
-
-/// Writes the listing of markers: `OK` with how many are listed, and then one line for each, in their order, with the marker's key and the
-/// structure's name. It takes no memory, and two passes over the markers.
-///
-/// # Errors
-/// Those of the writer, which then has a part of the text.
-#[tactic(auto, unfolding(crate::specs::Listing::listing_text))]
-pub fn write_listing<W: Write>(writer: &mut W, listing: &Listing<'_>) -> io::Result<()>
-    ensures { Adds W.contents writer.old writer.new result (listing_of listing.now) }
-{
-    put_head(writer, count_of_lines(listing.rules, listing.markers))?;
-    put_markers(writer, listing)
 }

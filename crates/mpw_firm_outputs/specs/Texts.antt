@@ -8,6 +8,7 @@ use Rattle.mpw_firm_outputs.specs.Counted.{counts_text}
 use Rattle.mpw_firm_outputs.specs.Outputs.{Kept}
 use Rattle.mpw_firm_listing.specs.Limited.{limited_of, limited_text}
 use Rattle.mpw_firm_listing.specs.Listing.{listing_of}
+use Rattle.mpw_firm_listing.specs.declared.listing.Listing.{Listing}
 use Rattle.mpw_firm_parts.specs.Text.{part_text}
 use Rattle.mpw_firm_picture.specs.Text.{picture_text}
 use Rattle.mpw_firm_report.specs.Content.{content_of}
@@ -19,7 +20,6 @@ place_of place.Standard = None
 place_of (place.File name) = Some name.now
 
 abbrev pub text_of : Text → List ℕ
-text_of (text.Listing listing) = listing_of listing.now
 text_of (text.Limited listing) = limited_text (limited_of listing.now)
 text_of (text.Counts rules counts) = counts_text rules.now counts.now.rules.now counts.now.all
 text_of (text.Report report) = full_text (content_of report.now)
@@ -30,3 +30,7 @@ text_of (text.Told told) = told.now
 -- The text in its place.
 abbrev pub kept_of : Place → Text → List Kept
 kept_of to t = record { place = place_of to; text = text_of t } ∷ []
+
+-- The listing of all markers in its place.
+abbrev pub listed_at : Place → Listing → List Kept
+listed_at to listing = record { place = place_of to; text = listing_of listing } ∷ []

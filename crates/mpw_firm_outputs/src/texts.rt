@@ -1,6 +1,6 @@
-//! The texts that a command writes.
+//! The texts that a command writes, except the listing of all markers.
 ghost use Rattle.std.specs.Prelude.{◌≡◌, false, IfOk, OnOk};
-ghost use Rattle.std.specs.Io.KnownBytes.{Appends};
+ghost use Rattle.std.specs.Io.KnownBytes.{Appends, Keeps};
 ghost use Rattle.mpw_firm_outputs.specs.Texts.{text_of};
 ghost use Rattle.mpw_firm_outputs.specs.Written.{fault_of, outcome_of};
 ghost use Rattle.mpw_text.specs.Writing.{Adds};
@@ -8,7 +8,7 @@ ghost use Rattle.mpw_text.specs.Writing.{Adds};
 use crate::summary::{Counts, write_counts};
 use mpw_deck::Rule;
 use mpw_devices::Sink;
-use mpw_firm_listing::{Limited, Listing, write_limited, write_listing};
+use mpw_firm_listing::{Limited, write_limited};
 use mpw_firm_messages::is_memory;
 use mpw_firm_parts::{Part, write_part};
 use mpw_firm_picture::{Picture, write_picture};
@@ -21,8 +21,6 @@ use std::io::{self, ErrorKind, Write};
 /// A text that a command writes.
 #[derive(Clone, Copy, Drop)]
 pub enum Text<'a> {
-    /// The listing of all markers.
-    Listing(&'a Listing<'a>),
     /// The listing of the first markers of each rule.
     Limited(&'a Limited<'a>),
     /// The numbers of markers by rule.
@@ -83,7 +81,7 @@ fn fault_of(error: io::Error) -> WriteFault
 }
 
 /// The outcome of writing by std's means.
-fn outcome(written: io::Result<()>) -> Result<(), WriteFault>
+pub(crate) fn outcome(written: io::Result<()>) -> Result<(), WriteFault>
     ensures { result ≡ outcome_of written }
 {
     match written {
@@ -97,13 +95,23 @@ fn write_bytes<W: Write>(alloc: Global, writer: &mut W, text: &Text<'_>) -> io::
     ensures { Adds W.contents writer.old writer.new result (text_of text.now) }
 {
     match *text {
-        Text::Listing(listing) => write_listing(writer, listing),
         Text::Limited(listing) => write_limited(writer, listing),
         Text::Counts(rules, counts) => write_counts(writer, rules, counts),
         Text::Report(report) => write_full_report(writer, report),
         Text::Picture(rules, top, picture) => write_picture(writer, rules, top, picture),
         Text::Part(part) => write_part(alloc, writer, part),
         Text::Told(told) => put(writer, &[told]),
+    }
+}
+
+/// Has the sink hand on what it took.
+pub(crate) fn hand_on<S: Sink>(writer: &mut Writer<S>) -> Result<(), WriteFault>
+    ensures same { Keeps (S.contents writer.old.sink) (S.contents writer.new.sink) }
+    ensures handed { IfOk result (λ _. S.pending writer.new.sink ≡ false) }
+{
+    match writer.sink.flush() {
+        Ok(()) => Ok(()),
+        Err(_) => Err(WriteFault::Device),
     }
 }
 
@@ -120,8 +128,5 @@ pub fn write_text<S: Sink>(
     ensures handed { IfOk result (λ _. S.pending writer.new.sink ≡ false) }
 {
     outcome(write_bytes(alloc, writer, text))?;
-    match writer.sink.flush() {
-        Ok(()) => Ok(()),
-        Err(_) => Err(WriteFault::Device),
-    }
+    hand_on(writer)
 }
