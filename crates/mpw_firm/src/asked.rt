@@ -25,19 +25,19 @@ use rayon::current_num_threads;
 use std::alloc::Global;
 use std::thread::Threads;
 
-/// Prints the markers or their numbers, and writes the report and the picture, of a layout and what came of its check. If what is held is
-/// enough for all that is wanted, they are those of all markers.
+/// Prints the markers or their numbers, and writes the report and the picture. If what is held is enough for all that is wanted, they are
+/// those of all markers.
 fn write_all<O: Outputs>(
-    threads: &(impl Threads + Sync),
+    means: (&(impl Threads + Sync), Global),
     outputs: &mut O,
-    alloc: Global,
     options: &Options,
-    done: (&Snapshot, &Checked<'_>),
+    layout: &Snapshot,
+    checked: &Checked<'_>,
 ) -> Result<(), FirmFault>
-    ensures { (book : List Marker) → IsOfBook (enough_for options.now done.entry.1.now.summary done.entry.1.now.limit) done.entry.1.now book
-        → IfOk result (λ _. PutsAll options.now done.entry.0.now (shown_of done.entry.1.now book) (O.kept outputs.old) (O.kept outputs.new)) }
+    ensures { (book : List Marker) → IsOfBook (enough_for options.now checked.now.summary checked.now.limit) checked.now book
+        → IfOk result (λ _. PutsAll options.now layout.now (shown_of checked.now book) (O.kept outputs.old) (O.kept outputs.new)) }
 {
-    let (layout, checked) = done;
+    let (threads, alloc) = means;
     let Some(wanted) = &options.picture else {
         return write_listed(threads, outputs, alloc, &options.report, checked);
     };
@@ -101,7 +101,7 @@ pub fn check<O: Outputs>(
     };
     let _ = tell_summary(rt, layout, &checked, &line);
     markers_are_flat();
-    write_all(threads, outputs, rt.alloc(), options, (layout, &checked))?;
+    write_all((threads, rt.alloc()), outputs, options, layout, &checked)?;
     line.tell_times();
     Ok(found.all.saturating_add(faults.len()))
 }

@@ -14,10 +14,10 @@ use Rattle.mpw_firm.proofs.asked.write_all.Goals as goal
 
 pub returns : goal.returns
 returns g c = λ book is.
-    let checked = c.args.done.1.now in
+    let checked = c.args.checked.now in
     let report = option_map string_bytes c.args.options.now.report in
     let rules = length checked.rules.now in
-    let layout = c.args.done.0.now in
+    let layout = c.args.layout.now in
     let found = checked.found.now in
     let faults = map fault_of checked.faults.now in
     let all =
