@@ -48,7 +48,8 @@ def built_in(source):
     loader = importlib.machinery.SourceFileLoader("build", f"{source}/scripts/build.py")
     build = importlib.util.module_from_spec(importlib.util.spec_from_loader("build", loader))
     loader.exec_module(build)
-    tools, names = build.Toolchain(), sorted(os.listdir(f"{source}/crates"))
+    # The folder of a crate that is gone may still have its out/.
+    tools, names = build.Toolchain(), sorted(it for it in os.listdir(f"{source}/crates") if os.path.isdir(f"{source}/crates/{it}/src"))
     return {it.name for it in build.crates_of(*names) if not it.is_program and it.is_kept(tools)}
 
 
